@@ -1,4 +1,4 @@
--- What a commit does to what is seen of a connection.
+-- What a commit does to what contracts see of a connection.
 use Rattle.std.proofs.Common.{◌≡◌, ◌∙◌, ◌⊎◌, inl, inr, Bool, true, IsTrue, Result, Ok, Err, OnOk, OnErr, sym, subst, arith}
 use Rattle.sqlite_trees.specs.Tree.{Trees}
 use Rattle.sqlite.specs.State.{State, HasCleanDisk, Survives}

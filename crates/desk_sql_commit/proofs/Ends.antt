@@ -1,4 +1,4 @@
--- A transaction fails only for a cause where its writes and its commit do.
+-- A transaction fails only for a cause if its writes and its commit do.
 use Rattle.std.proofs.Common.{◌≡◌, ◌∙◌, inl, inr, Bool, false, true, IfErr, Ok, Err, Result, refl, subst, sym, arith}
 use Rattle.std.specs.Result.{IsErrAnd}
 use Rattle.sqlite_trees.specs.Tree.{Trees}

@@ -12,7 +12,7 @@ use Rattle.desk_sql_write.specs.Replacing.{Takes}
 use Rattle.desk_sql_write.specs.Taking.{CanStand, HasRoom, IsCaused, rows_in}
 
 module _ (is_new : Bool) (change : Change) where
-  -- the change was made of whatever tables the database had, and committed
+  -- the change was made, whatever tables the database had, and committed
   pub record Done (old new : State) : Type 0 where
     pub was_open : IsTrue old.is_open
     pub is_open : IsTrue new.is_open
@@ -26,14 +26,14 @@ module _ (is_new : Bool) (change : Change) where
       × ((t : Tables) → Takes is_new change t → HasRows (rows_of t) old.now → HasRows (rows_of (applied change t)) db)
       × (trees ≡ db.trees)
 
-  -- Where the rows before and after the change can stand, and there are rowids for those that it adds, its transaction fails only for
-  -- such a cause.
+  -- If the tables can hold the rows before and after the change, and there are rowids for those that it adds,
+  -- its transaction fails only for such a cause.
   pub record CommitFails (old new : State) (fault : Fault) : Type 0 where
     pub cause : HasCleanDisk new → IsTrue old.is_open → old.step_limit ≡ None → (t : Tables) → Takes is_new change t
         → HasRows (rows_of t) old.now → CanStand (rows_of t) → CanStand (rows_of (applied change t))
         → HasRoom (rows_in change) old.now.trees → IsCaused old new fault
 
-  -- what is seen of a store whose tables are such, as far as its disk is honest
+  -- what contracts see of a store with such tables, as far as its disk is honest
   abbrev pub taking : Seen Trees → Seen Trees
   taking s = record {
     holds = λ t. (s.is_honest → Takes is_new change t) × s.holds t;

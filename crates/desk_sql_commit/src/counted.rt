@@ -1,4 +1,4 @@
-//! A written change, counted.
+//! A change that is written and counted.
 
 ghost use Rattle.std.specs.Prelude.{◌≡◌, false, true, Err, IfErr, OnOk, OnErr};
 ghost use Rattle.sqlite.specs.Held.{state};
@@ -16,8 +16,8 @@ use desk_tally::{Step, Tallies};
 use sqlite::{Alter, Connection};
 use std::alloc::Global;
 
-/// Writes a change as `commit` does, and takes its step into the tallies that are kept beside the
-/// rows if it was written.
+/// Writes a change as `commit` does and, if it was written, takes its step in the tallies that are
+/// kept beside the rows.
 pub fn commit_counted<S: Alter>(
     alloc: Global,
     conn: &mut Connection<S>,

@@ -1,4 +1,4 @@
-//! A change is written whole, or not at all.
+//! Writes a change whole, or not at all.
 
 ghost use Rattle.std.specs.Prelude.{◌≡◌, false, true, Err, IfErr, IsTrue, OnOk, OnErr};
 ghost use Rattle.sqlite.specs.Held.{state};
@@ -45,14 +45,14 @@ fn write<S: Alter>(
     }
 }
 
-/// Writes a change whole, in one transaction, or nothing.
+/// Writes all of a change in one transaction, or nothing.
 ///
-/// If the change is known to replace no row (`is_new`), none is dropped before it.
+/// If the change is known to replace no row (`is_new`), none is dropped first.
 ///
-/// Where the disk was honest: after `Ok` a change that goes on from the rows is made, and a stop
-/// leaves the rows after it and no others; after `Err` the rows are as they were, and a stop may
-/// leave the change. It is `Memory` if the database found no memory, `Store(Rows)` if
-/// the tables can't hold the change, of which nothing is tried then, else `Store(Database)`.
+/// If the disk was honest: after `Ok` a change that continues the rows is made, and a stop leaves
+/// the rows after it and no others; after `Err` the rows are as they were, and a stop may leave the
+/// change. The error is `Memory` if the database found no memory; `Store(Rows)` if the tables can't
+/// hold the change, and then nothing was tried; and else `Store(Database)`.
 pub fn commit<S: Alter>(
     alloc: Global,
     conn: &mut Connection<S>,

@@ -39,7 +39,7 @@ none_passes p (r ∷ rows) none = go (none_passes p rows (λ b there. none b (in
     go more true is = absurd (none r (inl refl) is)
     go more false is = more
 
--- where rows that pass have no two rowids, one row passes at most
+-- if no two rows that pass have different rowids, at most one row passes
 one_passes : (p : Row → Bool) (rows : List Row) → IsTable rows → AllByRecursion (λ r. is_int (rowid r) ≡ true) rows
     → ((a b : Row) → Has rows a → Has rows b → p a ≡ true → p b ≡ true → differ (rowid a) (rowid b) ≡ false) → length (filter p rows) ≤ 1
 one_passes p [] up keyed same = omega arith
@@ -58,7 +58,7 @@ not_false : (b : Bool) → not b ≡ true → b ≡ false
 not_false true e = cc
 not_false false e = refl
 
--- with what is true of the first, the second isn't
+-- if the first is true, the second isn't
 second : (a b : Bool) → (a && b) ≡ false → a ≡ true → b ≡ false
 second true b e is = e
 second false b e is = cc

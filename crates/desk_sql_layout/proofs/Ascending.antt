@@ -1,4 +1,4 @@
--- Rows in the order of their keys stay so.
+-- Rows in the order of their keys stay in this order.
 use Rattle.std.proofs.Common.{◌≡◌, ◌⊎◌, inl, inr, ℕ, ◌+◌, ◌≤◌, Bool, true, false, cond, List, [], ◌∷◌, ◌++◌, map, filter, length, sym, refl, subst, arith}
 use Rattle.std.specs.Prelude.{nat_lt, ◌==◌, ◌&&◌, ◌||◌}
 use Rattle.std.proofs.lemmas.Bool.Decides.{nat_tests}
@@ -72,7 +72,7 @@ ascends_filter {A} below p (x ∷ xs) up = go (ascends_filter below p xs up.1) (
     go more true = (λ z m. up.0 z (from_filter p z xs m), more)
     go more false = more
 
--- rows behind others
+-- rows after others
 pub ascends_behind : {A : Type 0} (below : A → A → Bool) (xs ys : List A) → Ascends below xs → Ascends below ys → ((x y : A) → IsIn x xs → IsIn y ys → below y x ≡ false) → Ascends below (xs ++ ys)
 ascends_behind below [] ys up more after = more
 ascends_behind below (x ∷ xs) ys up more after = (
@@ -90,7 +90,7 @@ keys : {A B : Type 0} (key : A → B) (lower : B → B → Bool) (xs : List A) �
 keys key lower [] up = tt
 keys key lower (x ∷ xs) up = (λ z m. let at = from_map key z xs m in subst (λ u. lower u (key x) ≡ false) at.2 (up.0 at.0 at.1), keys key lower xs up.1)
 
--- a change of rows that leaves their keys leaves their order
+-- a change of rows that keeps their keys keeps their order
 pub same_keys : {A B : Type 0} (key : A → B) (test : A → Bool) (change : A → A) → ((x : A) → key (change x) ≡ key x) → (xs : List A) → map key (updated test change xs) ≡ map key xs
 same_keys key test change same [] = refl
 same_keys {A} key test change same (x ∷ xs) = (λ i. one (test x) i ∷ same_keys key test change same xs i)

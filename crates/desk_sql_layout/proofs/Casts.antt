@@ -1,4 +1,4 @@
--- What a column makes of a value of its own kind, and what a test of equality says of values.
+-- What a column makes of a value of its own kind, and how a test of equality compares values.
 use Rattle.std.proofs.Common.{◌≡◌, ℕ, ℤ, pos, Bool, true, false, cond, List, [], ◌∷◌, Option, Some, None, refl, ap, ◌∙◌, arith}
 use Rattle.std.specs.Prelude.{◌&&◌, ◌==◌, nat_le, bytes_eq}
 use Rattle.std.proofs.lemmas.Bool.Decides.{nat_tests}
@@ -71,10 +71,10 @@ le_test : (a b : ℕ) → is_true (binary (Compare Le Binary) (Int (pos a)) (Int
 unfolding binary
 le_test a b = rw (value_cmp-Int (pos a) (pos b)) (truth_is (is_le (int_cmp (pos a) (pos b))) ∙ int_is_le a b)
 
--- a number is among those of a run
+-- a number is in a range
 pub run_test : (first last n : ℕ) → (is_true (binary (Compare Ge Binary) (Int (pos n)) (Int (pos first))) && (is_true (binary (Compare Le Binary) (Int (pos n)) (Int (pos last))) && true)) ≡ (nat_le first n && nat_le n last)
 run_test first last n = (λ i. ge_test n first i && (le_test n last i && true)) ∙ ap (λ b. nat_le first n && b) (and_true (nat_le n last))
 
--- a column is a number from one parameter to the next
+-- a column is a number in the range from one parameter to the next
 abbrev pub within : ℕ → List Term
 within at = op2 (Compare Ge Binary) (col 1 at) (col 0 0) ∷ op2 (Compare Le Binary) (col 1 at) (col 0 1) ∷ []

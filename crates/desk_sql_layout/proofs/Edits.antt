@@ -1,4 +1,4 @@
--- What the edits of a statement do to a list of rows, up to its order.
+-- What the edits of a statement do to a list of rows, apart from its order.
 use Rattle.std.proofs.Common.{◌≡◌, ℤ, Bool, true, false, not, List, [], ◌∷◌, ◌++◌, map, filter, refl, sym, ap, ◌∙◌}
 use Rattle.std.specs.Prelude.{◌||◌, if◌then◌else◌}
 use Rattle.std.specs.List.{list_any}
@@ -21,7 +21,7 @@ use Rattle.sqlite_rules.proofs.PlaceLemmas.{tied_same}
 pub swapped : {X : Type 0} (a b : X) (xs : List X) → IsPermutation (a ∷ b ∷ xs) (b ∷ a ∷ xs)
 swapped a b xs = IsPermutation-middle (a ∷ []) b xs
 
--- a row whose rowid is free joins the rows
+-- a row with a free rowid is added to the rows
 pub put_fresh : (new : Row) (rows : List Row) → is_taken rows new ≡ false → IsPermutation (new ∷ rows) (put_row new rows)
 put_fresh new [] free = IsPermutation-refl _
 put_fresh new (r ∷ rows) free = go (put_fresh new rows) (value_cmp (rowid r) (rowid new)) refl
@@ -99,7 +99,7 @@ pub left_is : (p : Row → Bool) (rows : List Row) (ids : List ℤ) → IsTable 
 left_is p rows ids up are =
     without_all_is ids rows ∙ filter_same (λ r. not (goes ids r)) (λ r. not (p r)) rows (all_from (λ r. not (goes ids r) ≡ not (p r)) rows (λ x h. ap not (goes_is p rows ids up are x h)))
 
--- a change of the rows that pass, and of them alone
+-- a change of the rows that pass, and of no others
 abbrev pub changed_where : {X : Type 0} → (X → Bool) → (X → X) → List X → List X
 changed_where p f xs = map (λ x. if p x then f x else x) xs
 

@@ -1,4 +1,4 @@
--- A change that goes on from the rows, and that the tables can hold, keeps them orderly.
+-- A change that continues the rows, and that the tables can hold, keeps them orderly.
 use Rattle.std.proofs.Common.{◌≡◌, ◌∙◌, ◌⊎◌, inl, inr, ℕ, ◌+◌, ◌≤◌, ◌<◌, Bool, true, false, cond, List, [], ◌∷◌, ◌++◌, map, filter, length, sym, refl, ap, subst, arith, length-append}
 use Rattle.std.specs.Prelude.{nat_lt, nat_le, ◌==◌, ◌&&◌, ◌||◌, not, find, Some, is_some}
 use Rattle.std.specs.List.{list_all}
@@ -112,7 +112,7 @@ module _ (t : Tables) (o : AreOrderly t) where
   stands : (q : ℕ) → is_some (duty_found t q) ≡ true → q ≤ length t.duty
   stands q some = let low = at_most 1 q (map (λ (row : DutyRow). row.number) t.duty) o.duties (found_in q t.duty some) in omega (arith, low, length-map t.duty (λ (row : DutyRow). row.number))
 
-  -- the changes stay those of duties that stand
+  -- the changes are still of duties that exist
   moved_within : (changes : List ChangeRow) → AreNext t changes → list_all (λ (row : ChangeRow). nat_le row.duty (length (moved_by changes t.duty))) (put_all change_below changes t.changes) ≡ true
   moved_within changes next =
       subst (λ n. list_all (λ (row : ChangeRow). nat_le row.duty n) (put_all change_below changes t.changes) ≡ true) (sym (moved_length changes t.duty))

@@ -48,7 +48,7 @@ matched tests params (r ∷ rows) = go (matched tests params rows) (passes tests
     go more true is = rw is (ap (λ l. env params r ∷ l) more)
     go more false is = rw is more
 
--- the rows that pass, shown, in the order that was asked
+-- the rows that pass, as they are shown, in the order that was asked for
 pub record Selected (q : Query) (params : Row) (stored rows : List Row) : Type 0 where
   pub ordered : List Output
   pub same : IsPermutation (map (λ r. output q (env params r)) (filter (passes q.filter params) stored)) ordered

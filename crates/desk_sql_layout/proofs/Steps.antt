@@ -1,4 +1,4 @@
--- What INSERT, DELETE and UPDATE of one table do, where no foreign key stands.
+-- What INSERT, DELETE and UPDATE of one table do if there are no foreign keys.
 use Rattle.std.proofs.Common.{◌≡◌, ◌⊎◌, inl, inr, ℕ, List, [], ◌∷◌, flat_map, length, slice_get, Option, Some, None, Ok, Err, Result, refl, sym, ap, subst, subst₂, ◌∙◌, append-nil}
 use Rattle.std.specs.Prelude.{◌/◌}
 use Rattle.std.specs.List.{AllByRecursion, filter_map}
@@ -32,12 +32,12 @@ same_value e = cc
 abbrev pub at : Schema → Trees → Database
 at schema trees = record { schema = schema; trees = trees }
 
--- a step of one table was made, and that was all
+-- a step of one table was made, and nothing else
 pub record Stepped (schema : Schema) (old new : Database) (edit : Edit) : Type 0 where
   pub schema_is : new.schema ≡ schema
   pub applies : Applies schema Enforced old.trees edit new.trees
 
--- a part that gave a value did not stop on the way
+-- a part that returned a value did not stop on the way
 pub went : {B E R : Type 0} {b : B} {Stops : E → Type 0} → ((stop : E) × Stops stop × (Ok b ≡ Err stop)) ⊎ R → R
 went (inl stopped) = absurd (let e = stopped.2 in cc)
 went (inr on) = on

@@ -33,7 +33,7 @@ use Rattle.desk_sql_layout.proofs.Queries.{query_on, passes, env, selected}
 use Rattle.desk_sql_layout.proofs.Keeps.{stored_more, stored_less, stored_changed, all_stored_after}
 use Rattle.desk_sql_layout.proofs.Steps.{Stepped, at}
 
--- each table has a tree of its own
+-- each table has a different tree
 abbrev pub AreApart : Schema → Type 0
 AreApart schema = IsAscending (λ a b. a.tree ≡ b.tree → ⊥) schema.tables
 
@@ -60,7 +60,7 @@ module _ (name : List ℕ) (tree : ℕ) (columns : List Column) (key : Option �
   abbrev this : Table
   this = table_of name tree columns key primary uniques orders
 
-  -- each source is this row, wherever its rowid is chosen
+  -- each source is this row, whatever rowid is chosen for it
   abbrev pub Shows : List Row → List Row → Type 0
   Shows = AllZip (λ source wanted. (stored : List Row) → cells this (with_rowid Chosen stored (cast_row this source)) ≡ wanted)
 

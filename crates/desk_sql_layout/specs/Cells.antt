@@ -25,11 +25,11 @@ use Rattle.desk_sql_layout.specs.Layout.{schema_version}
 abbrev pub number : ℕ → Value
 number n = Int (pos n)
 
--- a text that may be absent, which is NULL then
+-- a text, or NULL if there is none
 abbrev pub text_or_null : Option (List ℕ) → Value
 text_or_null = or_null Text
 
--- a word: it isn't empty and has no blank, so words joined by one blank can be told apart again
+-- a word: it isn't empty and has no blank, so words joined by one blank can be separated again
 abbrev pub is_word : List ℕ → Bool
 is_word text = nat_lt 0 (length text) && list_all (λ byte. not (byte == 32)) text
 

@@ -1,4 +1,4 @@
--- When a database holds the desk's tables, and what is seen of a connection to it.
+-- When a database holds the desk's tables, and what contracts see of a connection to it.
 use Rattle.std.specs.Prelude.{◌≡◌, ◌==◌, ◌+◌, ◌&&◌, ◌||◌, nat_lt, nat_le, ℕ, Bool, true, if◌then◌else◌, List, [], ◌∷◌, filter, map, length, IsTrue}
 use Rattle.std.specs.List.{list_all}
 use Rattle.sqlite_value.specs.Order.{Row}
@@ -16,7 +16,7 @@ use Rattle.desk_sql_layout.specs.Layout.{desk_schema, meta_table, catalogue_tabl
 use Rattle.desk_sql_layout.specs.Stored.{AllStored}
 use Rattle.desk_sql_layout.specs.Cells.{meta_cells, catalogue_cells, rule_cells, document_cells, reading_cells, package_cells, extracted_cells, conclusion_cells, adoption_cells, release_cells, attached_cells, choice_cells, frozen_cells, duty_cells, change_cells, is_waiver, waiver_cells, is_word}
 
--- the rows of the table with a tree, as cells
+-- the rows, as cells, of the table with this tree
 abbrev pub rows_of : Tables → ℕ → List Row
 rows_of t tree =
     if tree == meta_table.tree then meta_cells ∷ []
@@ -36,35 +36,35 @@ rows_of t tree =
     else (if tree == reading_table.tree then map reading_cells t.document
     else map waiver_cells (filter is_waiver t.changes)))))))))))))))
 
--- The database has the desk's tables, these rows stand in them in any order, and it is sound: each row is as its columns say, and no
--- key that is declared unique stands twice.
+-- The database has the desk's tables, with these rows in any order, and it is sound: each row is as its
+-- columns say, and no key that is declared unique appears twice.
 pub record HasRows (rows : ℕ → List Row) (db : Database) : Type 0 where
   pub declared : db.schema ≡ desk_schema
   pub stored : AllStored desk_schema rows db.trees
   pub sound : IsDatabase db
 
--- these are the numbers from n on
+-- these are the numbers n, n + 1 and so on
 abbrev pub AreNumbered : ℕ → List ℕ → Type 0
 AreNumbered n [] = Unit {0}
 AreNumbered n (m ∷ ms) = (m ≡ n) × AreNumbered (n + 1) ms
 
--- packages stand by document and id
+-- the order of packages, by document and id
 abbrev pub package_below : PackageRow → PackageRow → Bool
 package_below a b = nat_lt a.document b.document || ((a.document == b.document) && text_below a.id b.id)
 
--- The order in which rows stand, and what they name: what a look-up by key or number rests on.
+-- The order of rows, and what they name: what a look-up by key or number relies on.
 pub record AreOrderly (t : Tables) : Type 0 where
   -- each table by its key
   pub sorted : AreSorted t
   pub packages : Ascends package_below t.packages
-  -- revisions, documents and duties are numbered from 1 on
+  -- revisions, documents and duties are numbered 1, 2 and so on
   pub revisions : AreNumbered 1 (map (λ row. row.revision) t.catalogue)
   pub documents : AreNumbered 1 (map (λ row. row.number) t.document)
   pub duties : AreNumbered 1 (map (λ row. row.number) t.duty)
-  -- packages and changes are those of documents and duties that stand
+  -- packages and changes are of documents and duties that exist
   pub of_documents : list_all (λ row. nat_le row.document (length t.document)) t.packages ≡ true
   pub of_duties : list_all (λ row. nat_le row.duty (length t.duty)) t.changes ≡ true
-  -- the codes of rules are words, which can be told apart where they are joined
+  -- the codes of rules are words, which can be separated again when they are joined
   pub codes : list_all (λ row. list_all is_word row.codes) t.rule ≡ true
 
 -- the database holds these tables
@@ -72,16 +72,16 @@ pub record Holds (t : Tables) (db : Database) : Type 0 where
   pub rows : HasRows (rows_of t) db
   pub orderly : AreOrderly t
 
--- what a stop left opens as a database that holds these
+-- what a stop left opens as a database that holds these tables
 abbrev pub Stands : Trees → Tables → Type 0
 Stands trees t = (db : Database) × Holds t db × (trees ≡ db.trees)
 
--- a connection shows a database that holds these, and all of it is committed
+-- a connection shows a database that holds these tables, and all of it is committed
 pub record Showing (s : State) (t : Tables) : Type 0 where
   pub holds : Holds t s.now
   pub settled : s.committed ≡ s.now
 
--- what is seen of a connection
+-- what contracts see of a connection
 abbrev pub seen_of : State → Seen Trees
 seen_of s = record {
   holds = λ t. HasCleanDisk s → IsTrue s.is_open → Showing s t;
@@ -91,8 +91,8 @@ seen_of s = record {
   leaves = s.may_leave;
 }
 
--- What a store knows of its rows without a look: how many revisions, documents, releases and duties there are, and the forms of the
--- catalogue in force, which stand in no table but the body of its revision.
+-- What a store knows of its rows without looking: how many revisions, documents, releases and duties there
+-- are, and the forms of the catalogue in force, which are in no table, only in the text of its revision.
 pub record Known : Type 0 where
   pub revisions : ℕ
   pub documents : ℕ
@@ -117,7 +117,7 @@ known_after (change.Opened row) k = record k { releases = k.releases + 1 }
 known_after (change.Froze release revision rows duties changes) k = record k { duties = k.duties + length duties }
 known_after _ k = k
 
--- what is seen of a store that knows these of its rows
+-- what contracts see of a store that knows this of its rows
 abbrev pub counted : Known → Seen Trees → Seen Trees
 counted k s = record {
   holds = λ t. (known_of t ≡ k) × s.holds t;

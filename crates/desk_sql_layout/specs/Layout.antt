@@ -1,4 +1,5 @@
--- The desk's tables as they are declared: STRICT, no column NULL but where it is said, no foreign keys. Schema version 3.
+-- The desk's tables as they are declared: STRICT, no column NULL unless it is said, no foreign keys. Schema
+-- version 3.
 use Rattle.sqlite.specs.Collation.TheVariants.{Binary}
 use Rattle.std.specs.Prelude.{ℕ, Bool, true, false, List, [], ◌∷◌, Option, Some, None, codes}
 use Rattle.sqlite_value.specs.declared.value.Value.TheVariants.{Null}
@@ -11,15 +12,15 @@ use Rattle.sqlite_schema.specs.declared.schema.Table.{Table}
 use Rattle.sqlite_schema.specs.declared.schema.Schema.{Schema}
 use Rattle.sqlite_catalog.specs.Listing.{automatic}
 
--- the version that these tables are
+-- the version of these tables
 abbrev pub schema_version : ℕ
 schema_version = 3
 
 abbrev pub column_of : List ℕ → Kind → Bool → Column
 column_of name kind not_null = record { name = name; kind = kind; is_strict = true; not_null = not_null; default = Null; collation = Binary }
 
--- A table with its tree and its columns; the column that is its rowid, if it has one; and where its primary key and each key that it
--- keeps unique stand in a row, whose place 0 is the rowid.
+-- A table with its tree and its columns; the column that is its rowid, if it has one; and the places in a row
+-- of its primary key and of each key that it keeps unique. Place 0 is the rowid.
 abbrev pub table_of : List ℕ → ℕ → List Column → Option ℕ → List ℕ → List (List ℕ) → List Order → Table
 table_of name tree columns key primary uniques orders = record {
   name = name;
@@ -71,7 +72,7 @@ abbrev pub document_table : Table
 document_table = table_of (codes "document") 4 (column_of (codes "number") Integer false ∷ column_of (codes "namespace") Text true ∷ column_of (codes "bytes") Blob true ∷ [])
     (Some 0) (0 ∷ []) ((2 ∷ []) ∷ []) (plain ∷ [])
 
--- packages of a document; a version, a conclusion or a copyright that it has not is NULL
+-- packages of a document; a version, a conclusion or a copyright that is missing is NULL
 abbrev pub package_text : List ℕ
 package_text = codes "CREATE TABLE package (document INTEGER NOT NULL, id TEXT NOT NULL, name TEXT NOT NULL, version TEXT, concluded TEXT, copyright TEXT, shipped INTEGER NOT NULL, PRIMARY KEY (document, id)) STRICT"
 
@@ -79,7 +80,7 @@ abbrev pub package_table : Table
 package_table = table_of (codes "package") 6 (column_of (codes "document") Integer true ∷ column_of (codes "id") Text true ∷ column_of (codes "name") Text true ∷ column_of (codes "version") Text false ∷ column_of (codes "concluded") Text false ∷ column_of (codes "copyright") Text false ∷ column_of (codes "shipped") Integer true ∷ [])
     None (1 ∷ 2 ∷ []) ((1 ∷ 2 ∷ []) ∷ []) (plain ∷ [])
 
--- licence references that a document defines; a text that it has not is NULL
+-- licence references that a document defines; a text that is missing is NULL
 abbrev pub extracted_text : List ℕ
 extracted_text = codes "CREATE TABLE extracted (document INTEGER NOT NULL, reference TEXT NOT NULL, body TEXT, PRIMARY KEY (document, reference)) STRICT"
 
@@ -95,7 +96,7 @@ abbrev pub conclusion_table : Table
 conclusion_table = table_of (codes "conclusion") 10 (column_of (codes "document") Integer true ∷ column_of (codes "package") Text true ∷ column_of (codes "expression") Text true ∷ [])
     None (1 ∷ 2 ∷ []) ((1 ∷ 2 ∷ []) ∷ []) (plain ∷ [])
 
--- the licences that references are adopted as
+-- the licences as which references are adopted
 abbrev pub adoption_text : List ℕ
 adoption_text = codes "CREATE TABLE adoption (document INTEGER NOT NULL, reference TEXT NOT NULL, licence TEXT NOT NULL, PRIMARY KEY (document, reference)) STRICT"
 
@@ -127,7 +128,7 @@ abbrev pub choice_table : Table
 choice_table = table_of (codes "choice") 19 (column_of (codes "release") Text true ∷ column_of (codes "document") Integer true ∷ column_of (codes "package") Text true ∷ column_of (codes "term") Text true ∷ [])
     None (1 ∷ 2 ∷ 3 ∷ 4 ∷ []) ((1 ∷ 2 ∷ 3 ∷ 4 ∷ []) ∷ []) (plain ∷ [])
 
--- terms that a release was frozen with
+-- terms with which a release was frozen
 abbrev pub frozen_text : List ℕ
 frozen_text = codes "CREATE TABLE frozen (release TEXT NOT NULL, document INTEGER NOT NULL, package TEXT NOT NULL, term TEXT NOT NULL, rule TEXT NOT NULL, PRIMARY KEY (release, document, package, term)) STRICT"
 
@@ -151,7 +152,7 @@ abbrev pub change_table : Table
 change_table = table_of (codes "change") 25 (column_of (codes "duty") Integer true ∷ column_of (codes "step") Integer true ∷ column_of (codes "day") Text true ∷ column_of (codes "word") Text true ∷ column_of (codes "body") Text true ∷ [])
     None (1 ∷ 2 ∷ []) ((1 ∷ 2 ∷ []) ∷ []) (plain ∷ [])
 
--- the profile that a document was imported with
+-- the profile with which a document was imported
 abbrev pub reading_text : List ℕ
 reading_text = codes "CREATE TABLE reading (document INTEGER PRIMARY KEY, profile INTEGER NOT NULL) STRICT"
 

@@ -1,4 +1,4 @@
--- Which changes the tables can hold: rows that they give back as they were, in their order.
+-- Which changes the tables can hold: those whose rows they give back as they were, in their order.
 use Rattle.std.specs.Prelude.{ℕ, ◌==◌, ◌&&◌, Bool, true, List, [], ◌∷◌}
 use Rattle.std.specs.List.{list_all}
 use Rattle.desk_model.specs.Texts.{text_below}
@@ -8,13 +8,13 @@ use Rattle.desk_model.specs.declared.command.Change.{Change}
 use Rattle.desk_model.specs.declared.command.Change.TheVariants as change
 use Rattle.desk_sql_layout.specs.Cells.{is_word}
 
--- each package stands before the next one by its id
+-- each package is before the next one by its id
 abbrev pub rise : List PackageRow → Bool
 rise [] = true
 rise (p ∷ []) = true
 rise (p ∷ q ∷ packages) = text_below p.id q.id && rise (q ∷ packages)
 
--- the packages are those of a document
+-- the packages are packages of the document
 abbrev pub are_of : ℕ → List PackageRow → Bool
 are_of document packages = list_all (λ p. p.document == document) packages
 

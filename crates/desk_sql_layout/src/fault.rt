@@ -6,7 +6,7 @@ ghost use Rattle.desk_sql_layout.specs.Faults.{fault_by};
 use desk_model::{Fault, StoreFault};
 use sqlite::{Error, ErrorCode};
 
-/// Want of memory, or a fault of the database.
+/// The desk's fault for an error: that no memory was left, or one of the database.
 pub fn fault_of(error: &Error) -> Fault
     ensures { result ≡ fault_by error.now }
 {

@@ -1,4 +1,4 @@
-//! Values as a statement takes them.
+//! Values in the form that a statement takes.
 
 ghost use Rattle.std.specs.Prelude.{◌≡◌, if◌then◌else◌};
 ghost use Rattle.desk_base.specs.Profiles.{profile_number};
@@ -27,7 +27,7 @@ pub fn text<'a>(text: &'a Text) -> ValueRef<'a>
     ValueRef::Text(bytes)
 }
 
-/// A text that may be absent, which is NULL then.
+/// A text, or NULL if there is none.
 pub fn text_or_null<'a>(text: &'a Option<Text>) -> ValueRef<'a>
     ensures { bound_value (owned result) ≡ text_or_null text.now }
 {
@@ -37,7 +37,7 @@ pub fn text_or_null<'a>(text: &'a Option<Text>) -> ValueRef<'a>
     }
 }
 
-/// Whether something is so: 1 or 0.
+/// 1 if something is so, or else 0.
 pub fn flag(is: bool) -> ValueRef<'static>
     ensures { bound_value (owned result) ≡ number (if is then 1 else 0) }
 {
@@ -62,7 +62,7 @@ pub fn day<'a>(day: &'a Day) -> ValueRef<'a>
     ValueRef::Text(written)
 }
 
-/// A day that may be absent, which is NULL then.
+/// A day, or NULL if there is none.
 pub fn day_or_null<'a>(day: &'a Option<Day>) -> ValueRef<'a>
     ensures { bound_value (owned result) ≡ text_or_null day.now }
 {

@@ -38,7 +38,7 @@ weaker P a b it = record {
 pub undone_by : (P : Trees → Type 0) (a b : State) → IsSpared a b → IsUndone P a b
 undone_by P a b it = record { survives = weaker P a b it.survives; was_open = it.was_open; now = it.now; committed = it.committed }
 
--- after a fault that is passed on
+-- after a fault that is returned
 pub err_leaves : (version : OlderVersion) (a b : State) (r : Result AuditReport Fault) → IsErr r → IsSpared a b → Leaves version a b r
 err_leaves version a b (Ok x) is it = absurd (cc)
 err_leaves version a b (Err e) is it = undone_by (LeavesMigrated version a) a b it
@@ -173,7 +173,7 @@ module _ (a b c : State) (stayed : HasStayed a b) (version : OlderVersion) where
   migrated_by (Ok (Unsound f)) older clean it = tt
   migrated_by (Err f) older clean it = tt
 
-  -- what comes of it, after a refusal or a fault, and where it was migrated
+  -- the outcome, after a refusal or a fault, and if the database was migrated
   module _ (r : Result AuditReport Fault) (left : Leaves version b c r) (o : Result OlderVersion MigrateFault) (is : o ≡ outcome_of version r) where
     pub left_first : IfErr o (IsLeft a c)
     left_first = subst (λ o. IfErr o (IsLeft a c)) (sym is) (left_by r left)

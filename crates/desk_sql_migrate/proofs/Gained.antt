@@ -1,4 +1,4 @@
--- A table more is declared, and the rows of the others stay.
+-- One more table is declared, and the rows of the others stay.
 use Rattle.std.proofs.Common.{◌≡◌, ◌∙◌, ℕ, false, true, List, [], ◌∷◌, ◌++◌, IsTrue, Ok, Err, Result, refl, sym, subst, arith}
 use Rattle.std.specs.Prelude.{◌==◌}
 use Rattle.std.specs.List.{AllByRecursion}
@@ -104,7 +104,7 @@ then_gains {a} {b} {c} f g {x} {y} {z} r first next = record {
         let it = one clean inside in
         keeps_then x y z it.kept (next clean it.inside)
 
--- the first failed, and `?` hands its fault on
+-- the first step failed, and `?` returns its fault
 pub step_fails : {D E : State → State → Type 0} {x y : State} {fault : Fault} (r : Result (Unit {0}) Fault) → IsErr r → IsStep D x y (Err fault) → IsStep E x y r
 step_fails (Ok done) is it = absurd (cc)
 step_fails (Err e) is it = record { done = it.done; survives = it.survives }

@@ -1,4 +1,4 @@
--- Writing what a version lacks, and reading what came of it.
+-- Writing what a version lacks, and reading the result.
 use Rattle.std.proofs.Common.{◌≡◌, List, IsTrue, Ok, Err, Result, IfOk, sym, subst}
 use Rattle.sqlite.specs.Effect.{Database}
 use Rattle.sqlite.specs.State.{State, HasCleanDisk, Survives}

@@ -49,7 +49,7 @@ use Rattle.desk_sql_write.specs.Written.{Ran}
 use Rattle.desk_sql_adopt.specs.Older.{first_readings}
 use Rattle.desk_sql_migrate.specs.Steps.{Gained, IfDone, with_readings, with_version, without_version}
 
--- what a statement on the tables of a desk has made
+-- what a statement has made of the tables of a desk
 gained_by : (sql : List ℕ) (params : Row) (made : (ℕ → List Row) → ℕ → List Row)
     → ((old new : State) (count : ℕ) → Executes sql params old new (Ok count) → old.now.schema ≡ desk_schema → new.now.schema ≡ desk_schema)
     → ((old new : State) (count : ℕ) (rows : ℕ → List Row) → Executes sql params old new (Ok count) → HasRows rows old.now → HasRows (made rows) new.now)
@@ -142,7 +142,7 @@ module _ (name : List ℕ) (tree : ℕ) (columns : List Column) (key : Option �
   abbrev this : Table
   this = table_of name tree columns key primary uniques orders
 
-  -- an INSERT of what a query answers is one step of its table
+  -- an INSERT of the answers of a query is one step of its table
   inserts_found : (place : ℕ) (listed : slice_get desk_schema.tables place ≡ Some this) (s : State) (has : s.now.schema ≡ desk_schema) (text : List ℕ) (new : Database) (tally : Tally) (q : Program)
       → Does s.step_limit (mode_of s) [] s.now text None (Insert place (Query q)) (Ok (tally, new))
       → (sources : List Row) × Answers (at desk_schema s.now.trees) q [] sources × Stepped desk_schema s.now new (edit_of s.now.trees this [] Chosen 0 sources)
@@ -168,7 +168,7 @@ readings_text = codes "INSERT INTO reading SELECT number, 1 FROM document"
 abbrev readings_body : SqlQuery
 readings_body = query_on 4 [] (col 1 0 ∷ lit Null ∷ lit (number 1) ∷ []) []
 
--- the columns are compared by no other order
+-- no other order is used to compare the columns
 abbrev readings_query : Program
 readings_query = record { lets = []; body = record readings_body { collations = Binary ∷ Binary ∷ Binary ∷ [] } }
 
@@ -197,7 +197,7 @@ module _ (old : State) (rows : ℕ → List Row) (has : HasRows rows old.now) wh
   stored : AreStored d.document_table (rows 4) documents
   stored = has.stored.1.1.1.0
 
-  -- what the query answers
+  -- the answers of the query
   sources_are : (sources : List Row) → Answers (at desk_schema old.now.trees) readings_query [] sources → IsPermutation (map source_of documents) sources
   sources_are sources answers =
       let q = readings_body in

@@ -16,7 +16,8 @@ use Rattle.desk_snapshot.specs.declared.fault.AuditReport.TheVariants.{Sound, Un
 use Rattle.desk_sql_migrate.specs.Migrating.{Ends, IsReportOn, IsUndone, Leaves, LeavesMigrated, Prepared}
 use Rattle.desk_sql_migrate.proofs.Ending.{commit_failed, committed_as, dropped, left_committed}
 
--- `begun` is the connection as the transaction begins, `last` as it ends, `final` what comes of it, which is `given` back
+-- `begun` is the connection when the transaction begins, `last` when it ends, and `final` what becomes of it,
+-- which is `given` back
 module _ {S : Type 0} (g : Ghosts S) (first last : Held S) {begun : Held S} (is : begun ≡ record first { in_transaction = true }) (settled : IsTrue (state g first).is_open → (state g first).now ≡ (state g first).committed)
     (survives : Survives (state g begun) (state g last) (λ _. ⊥)) (final given : Held S) (same : final ≡ given) where
   since : Survives (state g first) (state g last) (λ _. ⊥)
@@ -60,7 +61,7 @@ module _ {S : Type 0} (g : Ghosts S) (first last : Held S) {begun : Held S} (is 
           subst (λ h. IsUndone (LeavesMigrated version (state g first)) (state g first) (state g h)) same
           (commit_failed (state g first) (state g last) (state g final) settled since kept version told prepared next sound e fails)
 
-    -- it was dropped, since the rows weren't sound
+    -- it was dropped, because the rows weren't sound
     module _ {f : AuditFault} (unsound : told ≡ Unsound f) (next : Survives (state g last) (state g final) (λ _. ⊥)) where
       pub unsound_since : HasCleanDisk (state g given) → IsOlder → Ends version (state g first) (state g given) told
       unsound_since clean has =

@@ -27,7 +27,8 @@ use Rattle.desk_sql_migrate.specs.declared.fault.MigrateFault.TheVariants as fau
 abbrev pub IsReportOn : Database → AuditReport → Type 0
 IsReportOn db told = (s : Snapshot) × IsSnapshot s db × ((w : Readings) → AreRight w → IsReport w s told)
 
--- inside a transaction that goes on, the rows have become those of this version, and this is the report on them
+-- inside a transaction that is still open, the rows have become those of this version, and this is the report
+-- on them
 pub record Prepared (version : OlderVersion) (told : AuditReport) (old new : State) : Type 0 where
   pub was_open : IsTrue old.is_open
   pub inside : IsTrue new.in_transaction
@@ -60,31 +61,32 @@ pub record LeavesMigrated (version : OlderVersion) (old : State) (trees : Trees)
   pub sound : old.now.schema ≡ older_schema version → IsReportOn db report.Sound
   pub is : trees ≡ db.trees
 
--- The connection shows what it showed, as far as it still shows anything, though a stop may leave the migrated rows.
+-- The connection shows what it showed, as far as it still shows anything, although a stop may leave the
+-- migrated rows.
 pub record IsUndone (Commits : Trees → Type 0) (old new : State) : Type 0 where
   pub survives : Survives old new Commits
   pub was_open : HasCleanDisk new → IsTrue new.is_open → IsTrue old.is_open
   pub now : HasCleanDisk new → IsTrue new.is_open → new.now ≡ old.now
   pub committed : HasCleanDisk new → IsTrue new.is_open → new.committed ≡ old.committed
 
--- what a transaction leaves that was committed, that was dropped, or that failed
+-- what a transaction leaves if it was committed, if it was dropped, and if it failed
 abbrev pub Leaves : OlderVersion → State → State → Result AuditReport Fault → Type 0
 Leaves version old new (Ok report.Sound) = Survives old new (LeavesMigrated version old)
 Leaves version old new (Ok (report.Unsound f)) = reading.IsSpared old new
 Leaves version old new (Err fault) = IsUndone (LeavesMigrated version old) old new
 
--- what comes of the report on the rows
+-- the outcome for a report on the rows
 abbrev pub outcome_of : OlderVersion → Result AuditReport Fault → Result OlderVersion MigrateFault
 outcome_of version (Ok report.Sound) = Ok version
 outcome_of version (Ok (report.Unsound f)) = Err (fault.Unsound f)
 outcome_of version (Err f) = Err (fault.Fault f)
 
--- a stop leaves the rows of an older version, migrated
+-- a stop leaves the rows of some older version, migrated
 abbrev pub LeavesSome : State → Trees → Type 0
 LeavesSome old trees = (version : OlderVersion) × LeavesMigrated version old trees
 
--- what the database was found to hold, where it isn't migrated: another thing; another version; no one version; or rows that would not
--- be sound
+-- what the database was found to hold if it isn't migrated: something else; another version; no single
+-- version; or rows that would not be sound
 abbrev pub IsReason : State → MigrateFault → Type 0
 IsReason s fault.NotADesk = IsOlderContent s content.Other
 IsReason s (fault.BadVersion n) = IsOlderContent s (content.OtherVersion n)
@@ -93,19 +95,19 @@ IsReason s (fault.Unsound f) =
     ⊎ ((version : OlderVersion) × IsOlderContent s (content.Older version) × (IsTrue s.is_open → (db : Database) × Becomes version s.now db × IsReportOn db (report.Unsound f)))
 IsReason s (fault.Fault f) = Unit {0}
 
--- after a refusal the connection shows what it showed; after a fault too, if it shows anything
+-- after a refusal the connection shows what it showed; after a fault too, if it still shows anything
 abbrev pub IsLeft : State → State → MigrateFault → Type 0
 IsLeft old new fault.NotADesk = reading.HasStayed old new
 IsLeft old new (fault.BadVersion n) = reading.HasStayed old new
 IsLeft old new (fault.Unsound f) = reading.IsSpared old new
 IsLeft old new (fault.Fault f) = IsUndone (LeavesSome old) old new
 
--- memory was wanting, or the database failed
+-- no memory was left, or the database failed
 abbrev pub IsFault : MigrateFault → Type 0
 IsFault (fault.Fault f) = Unit {0}
 IsFault _ = ⊥
 
--- true of each right reading and each recorded history whose tables the database held in an older version
+-- true for each right reading and each recorded history whose tables the database held in an older version
 abbrev pub InOlderHistory : OlderVersion → (Readings → List Command → Type 0) → State → State → Type 0
 InOlderHistory version Is old new =
     (w : Readings) → AreRight w → HasCleanDisk new → IsTrue old.is_open → (h : List Command) → IsHistory w h

@@ -12,17 +12,18 @@ use Rattle.desk_sql_layout.specs.Stored.{AllStored}
 use Rattle.desk_sql_adopt.specs.Older.{HasOlderRows, first_readings, migrated, older_schema}
 use Rattle.desk_sql_adopt.specs.declared.older.OlderVersion.{OlderVersion}
 
--- the database has the tables of a schema, and these rows stand in them in any order
+-- the database has the tables of a schema, with these rows in any order
 pub record HasTables (schema : Schema) (rows : ℕ → List Row) (db : Database) : Type 0 where
   pub declared : db.schema ≡ schema
   pub stored : AllStored schema rows db.trees
   pub sound : IsDatabase db
 
--- the rows, with none in one table
+-- the rows, with none left in one table
 abbrev pub with_none : ℕ → (ℕ → List Row) → ℕ → List Row
 with_none tree rows at = if at == tree then [] else rows at
 
--- inside a transaction that goes on, the tables of a schema became those of another, and their rows these
+-- inside a transaction that is still open, the tables of one schema became those of another, and their rows
+-- these
 pub record Gained (before after : Schema) (made : (ℕ → List Row) → ℕ → List Row) (old new : State) : Type 0 where
   pub was_open : IsTrue old.is_open
   pub inside : IsTrue new.in_transaction
@@ -30,7 +31,7 @@ pub record Gained (before after : Schema) (made : (ℕ → List Row) → ℕ →
   pub declared : old.now.schema ≡ before → new.now.schema ≡ after
   pub rows : (rows : ℕ → List Row) → HasTables before rows old.now → HasTables after (made rows) new.now
 
--- after a fault nothing was committed
+-- done, or after a fault nothing was committed
 abbrev pub IfDone : (State → State → Type 0) → State → State → Result (Unit {0}) Fault → Type 0
 IfDone Done old new (Ok done) = HasCleanDisk new → IsTrue old.in_transaction → Done old new
 IfDone Done old new (Err fault) = HasCleanDisk new → IsTrue old.in_transaction → KeepsCommit old new
@@ -49,15 +50,15 @@ with_no_readings = with_none reading_table.tree
 abbrev pub with_no_waivers : (ℕ → List Row) → ℕ → List Row
 with_no_waivers = with_none waiver_table.tree
 
--- the profile of each document is noted as 1
+-- profile 1 is recorded for each document
 abbrev pub with_readings : (ℕ → List Row) → ℕ → List Row
 with_readings rows at = if at == reading_table.tree then first_readings (rows document_table.tree) ++ rows reading_table.tree else rows at
 
--- no version is noted
+-- no version is recorded
 abbrev pub without_version : (ℕ → List Row) → ℕ → List Row
 without_version rows at = if at == meta_table.tree then [] else rows at
 
--- version 3 is noted, beside what is
+-- version 3 is recorded, besides what is there
 abbrev pub with_version : (ℕ → List Row) → ℕ → List Row
 with_version rows at = if at == meta_table.tree then (number 3 ∷ []) ∷ rows at else rows at
 
@@ -67,7 +68,7 @@ with_version rows at = if at == meta_table.tree then (number 3 ∷ []) ∷ rows 
 abbrev pub Becomes : OlderVersion → Database → Database → Type 0
 Becomes version old new = (rows : ℕ → List Row) → HasOlderRows version rows old → HasRows (migrated version rows) new
 
--- inside a transaction that goes on
+-- the same, inside a transaction that is still open
 pub record Upgraded (version : OlderVersion) (old new : State) : Type 0 where
   pub was_open : IsTrue old.is_open
   pub inside : IsTrue new.in_transaction

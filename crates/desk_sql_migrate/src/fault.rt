@@ -4,11 +4,12 @@ use desk_model::Fault;
 use desk_snapshot::AuditFault;
 use thiserror::Error;
 
-/// Why a database of an older version wasn't migrated. It is shown by its name, with the version that the database tells.
+/// Why a database of an older version wasn't migrated. It prints as its name, with the version that
+/// the database gives.
 #[derive(Clone, Copy, Debug, Drop, PartialEq, Eq, Error)]
 pub enum MigrateFault {
-    /// The database tells no version, or one table of the older version that it tells isn't there as it is declared, or something
-    /// stands beside them.
+    /// The database gives no version, or a table of the older version that it gives doesn't exist
+    /// as it is declared, or there is something besides these tables.
     #[error("NotADesk")]
     NotADesk,
     /// The tables are of a version that isn't an older one.
@@ -17,7 +18,7 @@ pub enum MigrateFault {
     /// The migrated tables wouldn't be sound: the first condition of an audit that they don't meet.
     #[error("Unsound({0:?})")]
     Unsound(AuditFault),
-    /// Memory was wanting, or the database failed or gave rows that no desk has.
+    /// No memory was left, or the database failed or gave rows that no desk has.
     #[error(transparent)]
     Fault(Fault),
 }

@@ -1,13 +1,12 @@
-//! A database that holds a desk's tables in version 1 or 2 gets those of version 3.
+//! Migrates a desk's tables of version 1 or 2 in a database to version 3.
 //!
-//! `migrate_tables` does it in one transaction: it declares the tables that are missing, notes
-//! profile 1 for each document where the version had no profiles, and the new version. Before the
-//! commit it reads what the transaction shows, as an audit does, and goes on only where these rows
-//! are sound; else the transaction is dropped, and the database is as it was.
+//! `migrate_tables` does it in one transaction: it declares the tables that are missing, and
+//! records profile 1 for each document if the version had no profiles, and the new version. Before
+//! the commit it reads what the transaction shows, as an audit does, and goes on only if these rows
+//! are sound; if not, the transaction is dropped, and the database is as it was.
 //!
-//! What an older version holds, and what becomes of it, stands in `specs/Older.antt` of
-//! `desk_sql_adopt`; what a migration makes of a connection, and why it is refused, in
-//! `specs/Migrating.antt`.
+//! `specs/Older.antt` of `desk_sql_adopt` says what an older version holds and what becomes of it,
+//! and `specs/Migrating.antt` what a migration makes of a connection, and why it is refused.
 #![tactic(auto)]
 
 mod fault;

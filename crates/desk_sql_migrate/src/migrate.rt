@@ -1,4 +1,4 @@
-//! A database of an older version is migrated in one transaction, or left as it is.
+//! Migrates a database of an older version in one transaction, or leaves it as it is.
 
 ghost use Rattle.std.specs.Prelude.{◌≡◌, false, List, IfOk, IfErr, IsTrue, OnOk};
 ghost use Rattle.sqlite.specs.Held.{state};
@@ -46,7 +46,7 @@ fn report_inside<S: Alter>(alloc: Global, tx: &mut Transaction<'_, S>) -> Result
     Ok(judge(alloc, snapshot)?)
 }
 
-/// Writes what a version lacks, and tells the report on the rows that come of it.
+/// Writes what a version lacks, and returns the report on the resulting rows.
 fn prepare<S: Alter>(
     alloc: Global,
     tx: &mut Transaction<'_, S>,
@@ -67,8 +67,8 @@ fn prepare<S: Alter>(
     report_inside(alloc, tx)
 }
 
-/// Migrates the tables in one transaction, which is committed where the rows that come of it are
-/// sound, and dropped where they aren't.
+/// Migrates the tables in one transaction, which is committed if the resulting rows are sound, and
+/// dropped if they aren't.
 fn write<S: Alter>(
     alloc: Global,
     conn: &mut Connection<S>,
@@ -127,7 +127,7 @@ fn older_tables<S: Alter>(conn: &mut Connection<S>) -> Result<OlderVersion, Migr
     }
 }
 
-/// What comes of the report on the rows.
+/// The outcome for a report on the rows.
 fn outcome(
     version: OlderVersion,
     written: Result<AuditReport, Fault>,
@@ -141,16 +141,16 @@ fn outcome(
     }
 }
 
-/// Gives a database that holds a desk's tables in version 1 or 2 those of version 3, and tells the
-/// old version.
+/// Migrates a desk's tables of version 1 or 2 in a database to version 3, and returns the old
+/// version.
 ///
-/// In one transaction the missing tables are declared, from version 1 profile 1 is noted for each
-/// document, and the new version. The database is refused as `NotADesk` where no table `meta` has a
-/// column `version`, or where it names version 1 or 2 and the tables of that version aren't there
-/// as they are declared; as `BadVersion` where it names another version; as `Unsound` with
-/// `BadMeta` where it doesn't name one version, else where the migrated tables wouldn't be sound,
-/// by the first condition that they don't meet. After a refusal the database is as it was. After a
-/// fault it shows what it showed, though a stop may leave the migrated tables.
+/// One transaction declares the missing tables and records the new version and, for version 1,
+/// profile 1 for each document. The database is refused as `NotADesk` if no table `meta` has a
+/// column `version`, or if that gives version 1 or 2 and the tables of this version don't exist as
+/// they are declared; as `BadVersion` if it gives another version; as `Unsound` with `BadMeta` if
+/// it doesn't give a single version; and as `Unsound` if the migrated tables wouldn't be sound,
+/// with the first condition that they don't meet. After a refusal the database is as it was. After
+/// a fault it shows what it showed, although a stop may leave the migrated tables.
 pub fn migrate_tables<S: Alter>(
     alloc: Global,
     conn: &mut Connection<S>,

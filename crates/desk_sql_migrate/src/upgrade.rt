@@ -1,4 +1,4 @@
-//! The tables and rows that an older version lacks are written.
+//! Writes the tables and rows that an older version lacks.
 
 ghost use Rattle.std.specs.Prelude.{◌≡◌};
 ghost use Rattle.sqlite.specs.Held.{state};
@@ -11,7 +11,7 @@ use desk_sql_adopt::OlderVersion;
 use desk_sql_write::{READING_TABLE, WAIVER_TABLE, execute};
 use sqlite::{Alter, Transaction};
 
-/// Declares the table of profiles beside the tables of version 1.
+/// Declares the table of profiles besides the tables of version 1.
 fn declare_readings<S: Alter>(tx: &mut Transaction<'_, S>) -> Result<(), Fault>
     ensures same_reference { tx.new.conn.ghost_name ≡ tx.old.conn.ghost_name }
     ensures gained { Gains (older_schema OlderVersion.One) (older_schema OlderVersion.Two)
@@ -21,7 +21,7 @@ fn declare_readings<S: Alter>(tx: &mut Transaction<'_, S>) -> Result<(), Fault>
     execute(tx, READING_TABLE, &[])
 }
 
-/// Declares the table of last days beside the tables of version 2.
+/// Declares the table of last days besides the tables of version 2.
 fn declare_waivers<S: Alter>(tx: &mut Transaction<'_, S>) -> Result<(), Fault>
     ensures same_reference { tx.new.conn.ghost_name ≡ tx.old.conn.ghost_name }
     ensures gained { Gains (older_schema OlderVersion.Two) desk_schema with_no_waivers
@@ -30,7 +30,7 @@ fn declare_waivers<S: Alter>(tx: &mut Transaction<'_, S>) -> Result<(), Fault>
     execute(tx, WAIVER_TABLE, &[])
 }
 
-/// Notes profile 1 for each document.
+/// Records profile 1 for each document.
 fn note_readings<S: Alter>(tx: &mut Transaction<'_, S>) -> Result<(), Fault>
     ensures same_reference { tx.new.conn.ghost_name ≡ tx.old.conn.ghost_name }
     ensures gained { Gains desk_schema desk_schema with_readings
@@ -43,7 +43,7 @@ fn note_readings<S: Alter>(tx: &mut Transaction<'_, S>) -> Result<(), Fault>
     )
 }
 
-/// Takes the version away.
+/// Removes the version.
 fn drop_version<S: Alter>(tx: &mut Transaction<'_, S>) -> Result<(), Fault>
     ensures same_reference { tx.new.conn.ghost_name ≡ tx.old.conn.ghost_name }
     ensures gained { Gains desk_schema desk_schema without_version
@@ -52,7 +52,7 @@ fn drop_version<S: Alter>(tx: &mut Transaction<'_, S>) -> Result<(), Fault>
     execute(tx, "DELETE FROM meta", &[])
 }
 
-/// Notes version 3.
+/// Records version 3.
 fn note_version<S: Alter>(tx: &mut Transaction<'_, S>) -> Result<(), Fault>
     ensures same_reference { tx.new.conn.ghost_name ≡ tx.old.conn.ghost_name }
     ensures gained { Gains desk_schema desk_schema with_version
@@ -81,7 +81,7 @@ fn upgrade_second<S: Alter>(tx: &mut Transaction<'_, S>) -> Result<(), Fault>
     renew_version(tx)
 }
 
-/// Declares what version 1 lacks.
+/// Declares the tables that version 1 lacks.
 fn declare_both<S: Alter>(tx: &mut Transaction<'_, S>) -> Result<(), Fault>
     ensures same_reference { tx.new.conn.ghost_name ≡ tx.old.conn.ghost_name }
     ensures gained { Gains (older_schema OlderVersion.One) desk_schema

@@ -1,4 +1,5 @@
--- What a change writes is what it makes of the tables, in some order of their rows, and it fails as what it writes does.
+-- What a change writes is what it does to the tables, apart from the order of their rows, and it fails as
+-- these writes do.
 use Rattle.std.proofs.Common.{◌≡◌, ℕ, Bool, true, false, not, cond, find, List, [], ◌∷◌, ◌++◌, filter, map, length, ◌+◌, ◌∙◌, Option, Some, None, Ok, Err, Result, refl, sym, ap, subst}
 use Rattle.std.specs.Option.{option_map}
 use Rattle.std.specs.List.{AllByRecursion}
@@ -70,11 +71,11 @@ permuted_stand rows other same can = record { small = small desk_schema.tables s
     keys [] a b = tt
     keys (t ∷ tables) a b = (once (rows t.tree) (other t.tree) (t.primary ∷ t.uniques) a.0 b.0, keys tables a.1 b.1)
 
--- a change is written by what makes the same of the tables
+-- a change is written by what does the same to the tables
 abbrev IsWritten : (Tables → ℕ → List Row) → ℕ → Change → Type 1
 IsWritten after many change = (old new : State) (r : Result (Unit {0}) Fault) → Turns rows_of after many old new r → Writes rows_of (applied change) old new r × FailsOnlyFor rows_of (applied change) many old new r
 
--- what makes the same of the tables that something shows writes the change of them
+-- what does the same to the tables that something shows writes the change of them
 pub written_from : {A : Type 0} (show : A → Tables) (after : A → ℕ → List Row) (many : ℕ) (change : Change)
     → ((a : A) → AreSame (rows_of (applied change (show a))) (after a))
     → (old new : State) (r : Result (Unit {0}) Fault) → Turns (λ a. rows_of (show a)) after many old new r
@@ -103,7 +104,7 @@ written_from show after many change same old new (Err fault) turns = (
 written : (after : Tables → ℕ → List Row) (many : ℕ) (change : Change) → ((t : Tables) → AreSame (rows_of (applied change t)) (after t)) → IsWritten after many change
 written = written_from (λ t. t)
 
--- ---- a row in its place is a row behind the others, in another order
+-- ---- a row in its place is a row after the others, in another order
 
 added : {X : Type 0} (cells : X → Row) (xs ys : List X) → IsPermutation (map cells (xs ++ ys)) (map cells xs ++ map cells ys)
 added cells xs ys = IsPermutation-same _ _ (map-append cells xs ys)
@@ -175,7 +176,7 @@ pub concluded : (row : ConclusionRow) → IsWritten (λ t. with_rows conclusion_
 concluded row = written (λ t. with_rows conclusion_table.tree (conclusion_cells row ∷ []) (rows_of (record t { conclusion = filter (λ other. not (is_conclusion row.document row.package_id other)) t.conclusion }))) (1) (Concluded row)
     (λ t. (IsPermutation-refl _, (IsPermutation-refl _, (IsPermutation-refl _, (IsPermutation-refl _, (IsPermutation-refl _, (IsPermutation-refl _, (placed conclusion_cells (below_by conclusion_order) row (filter (λ other. not (is_conclusion row.document row.package_id other)) t.conclusion), (IsPermutation-refl _, (IsPermutation-refl _, (IsPermutation-refl _, (IsPermutation-refl _, (IsPermutation-refl _, (IsPermutation-refl _, (IsPermutation-refl _, (IsPermutation-refl _, (IsPermutation-refl _, tt)))))))))))))))))
 
--- an adoption behind the others
+-- an adoption after the others
 adoption_placed : (row : AdoptionRow) (t : Tables)
     → AreSame (rows_of (record t { adoption = put (below_by adoption_order) row t.adoption }))
     (with_rows adoption_table.tree (adoption_cells row ∷ []) (rows_of t))

@@ -1,4 +1,4 @@
--- Rows that are put behind those of a table.
+-- Rows that are added after those of a table.
 use Rattle.std.proofs.Common.{◌≡◌, ◌≢◌, ◌∙◌, ◌⊎◌, inl, inr, ℕ, ◌+◌, ◌≤◌, Bool, true, false, cond, List, [], ◌∷◌, ◌++◌, filter, flat_map, map, length, length-append, Ok, Err, Result, refl, sym, ap, subst, arith}
 use Rattle.std.specs.Prelude.{◌==◌}
 use Rattle.std.specs.List.{AllByRecursion}
@@ -47,7 +47,7 @@ module _ (tree : ℕ) where
       go true = append_all (rows other) xs ys
       go false = refl
 
-  -- the first of them can stand where all can
+  -- if the table can hold all of them, it can hold the first ones
   pub front_stands : (rows : ℕ → List Row) (xs ys : List Row) → CanStand rows → CanStand (with_rows tree (xs ++ ys) rows) → CanStand (with_rows tree xs rows)
   front_stands rows xs ys = can_stand rows (with_rows tree xs rows) (with_rows tree (xs ++ ys) rows) (each desk_schema.tables)
     where
@@ -62,7 +62,7 @@ module _ (tree : ℕ) where
       each (t ∷ tables) = (at t.tree (t.tree == tree), each tables)
 
   module _ {X : Type 0} (shown : List X → List Row) (both : (xs ys : List X) → shown (xs ++ ys) ≡ shown xs ++ shown ys) where
-    -- some rows, and then more
+    -- some rows, and then more rows
     pub both_put : (xs ys : List X) (j k : ℕ) (a b c : State) (r : Result (Unit {0}) Fault) → Adds (with_rows tree (shown xs)) j a b (Ok tt) → Adds (with_rows tree (shown ys)) k b c r → Adds (with_rows tree (shown (xs ++ ys))) (j + k) a c r
     both_put xs ys j k a b c r v w =
         let same = λ (rows : ℕ → List Row) (other : ℕ). with_both (shown xs) (shown ys) rows other ∙ ap (λ l. with_rows tree l rows other) (sym (both xs ys)) in
@@ -71,22 +71,22 @@ module _ (tree : ℕ) where
         (λ rows before after. front_stands rows (shown xs) (shown ys) before (subst CanStand (λ i other. with_both (shown xs) (shown ys) rows other i) after)) v
         (along (with_rows tree (shown xs)) (λ rows. rows) (with_rows tree (shown ys)) k b c r w))
 
-    -- a write of the first of them that failed
+    -- a write of the first ones that failed
     pub front_fails : (all front rest : List X) (j l : ℕ) (a b : State) (r : Result (Unit {0}) Fault) (fault : Fault) → IsErrAnd r (λ e. e ≡ fault) → all ≡ front ++ rest → j ≤ l
         → Adds (with_rows tree (shown front)) j a b (Err fault) → Adds (with_rows tree (shown all)) l a b r
     front_fails all front rest j l a b r fault is whole within =
         first_fails (λ rows. rows) (with_rows tree (shown front)) (with_rows tree (shown all)) j l a b r fault is within
         (λ rows before after. front_stands rows (shown front) (shown rest) before (subst (λ l. CanStand (with_rows tree l rows)) (ap shown whole ∙ both front rest) after))
 
--- none at all
+-- no rows at all
 pub none_put : (tree many : ℕ) (a : State) → Adds (with_rows tree []) many a a (Ok tt)
 none_put tree many a = more_turns (λ rows. rows) (with_rows tree []) 0 many a a (Ok tt) (omega arith) (as_turns (λ rows. rows) (λ rows. rows) (with_rows tree []) 0 a a (Ok tt) (with_none tree) (none_turns (λ rows. rows) a))
 
--- a row each
+-- one row for each
 pub single_put : {X : Type 0} (tree : ℕ) (cells : X → Row) (xs : List X) (many : ℕ) (a b : State) (r : Result (Unit {0}) Fault) → Adds (with_rows tree (flat_map (λ x. cells x ∷ []) xs)) many a b r → Adds (with_rows tree (map cells xs)) many a b r
 single_put tree cells xs many a b r = subst (λ l. Adds (with_rows tree l) many a b r) (flat_map_single cells xs)
 
--- a row for each waiver that ends
+-- one row for each waiver that ends
 pub waivers_put : (xs : List ChangeRow) (many : ℕ) (a b : State) (r : Result (Unit {0}) Fault) → Adds (with_rows 28 (flat_map (λ x. map waiver_cells (filter is_waiver (x ∷ []))) xs)) many a b r → Adds (with_rows 28 (map waiver_cells (filter is_waiver xs))) many a b r
 waivers_put xs many a b r = subst (λ l. Adds (with_rows 28 l) many a b r) (each xs)
   where

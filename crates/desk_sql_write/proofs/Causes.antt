@@ -1,4 +1,5 @@
--- A fault that has a cause has it where more was done before or after, and a commit fails only for one.
+-- A fault that has a cause still has it if more was done before or after, and a commit fails only for a
+-- cause.
 use Rattle.std.proofs.Common.{inl, inr, IsTrue, refl, arith}
 use Rattle.sqlite_trees.specs.Tree.{Trees}
 use Rattle.sqlite_trees.specs.declared.error.StoreError.TheVariants as store

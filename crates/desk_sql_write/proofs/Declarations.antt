@@ -10,7 +10,7 @@ use Rattle.sqlite.specs.Listing.{understood}
 use Rattle.desk_sql_layout.specs.Layout as d
 use Rattle.desk_sql_write.specs.Declaring.{Declares, IsTaken, AreDeclared, schema_after}
 
--- all that unfolds when a row of sqlite_schema is looked at
+-- everything that is unfolded to look at a row of sqlite_schema
 unfoldable taking : Unit {0}
 unfolding fits_kind is_free_name begins same_name value_cmp lib.Ieee.is_nan lib.Ieee.lt
 taking = tt

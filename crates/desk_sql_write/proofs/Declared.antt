@@ -1,4 +1,4 @@
--- Tables are declared one after another.
+-- Declaring tables one after another.
 use Rattle.std.proofs.Common.{◌≡◌, ◌∙◌, inl, inr, ℕ, zero, suc, ◌+◌, ◌*◌, ◌^◌, ◌<◌, ◌≤◌, true, false, not, length, codes, Option, IsTrue, IfErr, refl, arith, List, [], ◌∷◌, ◌++◌, map, None, Some, drop, slice_get, Ok, Err, Result, sym, ap, subst, add-one, drop-cons}
 use Rattle.std.specs.Prelude.{nat_lt, IsUtf8, IsAscii}
 use Rattle.std.proofs.lemmas.Str.{IsUtf8-from_ascii}
@@ -117,7 +117,7 @@ went_on texts k text a b c (Ok d) at done is before ran clean =
     }
 went_on texts k text a b c (Err fault) at done is before ran clean = absurd (cc)
 
--- ---- a text that can be taken is never refused
+-- ---- a text that can be accepted is never refused
 
 ascii : (text : List ℕ) → list_all (λ byte. nat_lt byte 128) text ≡ true → IsAscii text
 ascii [] all i = omega arith

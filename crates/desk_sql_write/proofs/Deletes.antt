@@ -27,7 +27,7 @@ use Rattle.desk_sql_write.proofs.Deleting.{deleted_turns}
 use Rattle.desk_sql_write.proofs.Failing.{Makes, Reads}
 use Rattle.desk_base.proofs.Bools.{together}
 
--- rows that go are those whose cells go
+-- the rows that are dropped are those whose cells are
 dropped : {X : Type 0} (cells : X → Row) (q : Row → Bool) (goes : X → Bool) → ((x : X) → q (cells x) ≡ goes x) → (xs : List X) → IsPermutation (map cells (filter (λ x. not (goes x)) xs)) (filter (λ c. not (q c)) (map cells xs))
 dropped cells q goes agree xs = IsPermutation-same _ _ (sym (filter-map (λ c. not (q c)) cells xs ∙ (λ i. map cells (filter (λ x. not (agree x i)) xs))))
 

@@ -1,4 +1,4 @@
--- A DELETE fails only for a cause where the rows that it leaves can stand.
+-- A DELETE fails only for a cause, if the tables can hold the rows that it leaves.
 use Rattle.std.proofs.Common.{◌≡◌, ◌≢◌, ◌∙◌, inl, inr, ℕ, ◌+◌, Bool, true, false, not, List, [], ◌∷◌, filter, map, length, slice_get, Option, Some, None, IfErr, Ok, Err, Result, refl, sym, ap, subst, subst₂, arith}
 use Rattle.std.specs.Prelude.{nat_lt}
 use Rattle.std.specs.List.{AllByRecursion}

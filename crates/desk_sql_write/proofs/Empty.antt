@@ -1,4 +1,4 @@
--- An empty desk's tables.
+-- The tables of an empty desk.
 use Rattle.std.proofs.Common.{◌≡◌, ◌∙◌, ◌⊎◌, inl, inr, ℕ, pos, ◌≤◌, Bool, true, false, cond, filter, length, List, [], ◌∷◌, codes, None, IfErr, IsTrue, Ok, Err, Result, refl, sym, subst, arith}
 use Rattle.std.specs.Prelude.{◌==◌}
 use Rattle.std.specs.List.{AllByRecursion}
@@ -143,7 +143,7 @@ all_left db bare = record {
   final_is = desk_schema_is;
 }
 
--- the tables were declared, and the version noted
+-- the tables were declared, and the version was recorded
 pub founded : (a b c : State) (texts : List (List ℕ)) (r : Result (Unit {0}) Fault) → texts ≡ all_texts → (HasCleanDisk b → IsTrue a.in_transaction → Went texts [] a b) → Survives b c (λ _. ⊥)
     → Ran version_text [] b c r → IfErr r (RanInto version_text [] b c) → HasFounded a c r
 founded a b c texts (Ok done) are went survives ran into = λ clean inside.
@@ -201,7 +201,7 @@ module _ {S : Type 0} (g : Ghosts S) (old : Held S) (last new : State) (P : Tree
         first_caused begun last new (fault_by e) s (ends_caused last new e it.is_open it.inside (fails clean));
   }
 
--- what a stop leaves, in words of the tables alone
+-- what a stop leaves, in terms of the tables alone
 pub leaves_tables : (old new : State) → (IsTrue old.is_open → IsBare d.no_schema old.now) → Survives old new (LeavesTables old) → Survives old new (λ trees. Stands trees no_tables)
 leaves_tables old new bare survives = record {
   clean = survives.clean;

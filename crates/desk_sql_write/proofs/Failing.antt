@@ -116,7 +116,7 @@ module _ (schema : Schema) (sql : List ℕ) (params : Row) (old new : State) (ha
   caused e (inl h) = executed e h.0
   caused e (inr h) = absurd (escapes h.0)
 
--- a statement, by what it is where it is done and where it isn't
+-- a statement, by what it does if it succeeds and if it fails
 pub turns_by : {A : Type 0} (before after : A → ℕ → List Row) (many : ℕ) (sql : List ℕ) (params : Row) (old new : State)
     → ((count : ℕ) (a : A) → Executes sql params old new (Ok count) → HasRows (before a) old.now → HasRows (after a) new.now)
     → ((count : ℕ) (a : A) → Executes sql params old new (Ok count) → HasRows (before a) old.now → (n : ℕ) → HasRoom (n + many) old.now.trees → HasRoom n new.now.trees)
@@ -141,6 +141,6 @@ turns_by before after many sql params old new changes uses fails (Err fault) ran
   survives = survives;
 }
 
--- a text makes this of the tables
+-- a text does this to the tables
 abbrev pub Makes : List ℕ → Row → (Tables → Tables) → Type 1
 Makes sql params made = (old new : State) (r : Result (Unit {0}) Fault) → Ran sql params old new r → IfErr r (RanInto sql params old new) → Survives old new (λ _. ⊥) → Turns rows_of (λ t. rows_of (made t)) 0 old new r

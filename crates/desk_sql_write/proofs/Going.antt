@@ -1,4 +1,4 @@
--- Writes, one after another, fail only for a cause where each does.
+-- Writes, one after another, fail only for a cause if each does.
 use Rattle.std.proofs.Common.{◌≡◌, ◌∙◌, ◌⊎◌, inl, inr, ℕ, ◌+◌, ◌-◌, ◌≤◌, List, [], ◌∷◌, ◌++◌, filter, length, length-append, None, Ok, Err, Result, refl, sym, ap, subst, arith, rules}
 use Rattle.std.specs.List.{AllByRecursion}
 use Rattle.std.specs.Result.{IsErrAnd}
@@ -36,7 +36,7 @@ front_keys : (xs ys : List Row) (keys : List (List ℕ)) → AllByRecursion (Sta
 front_keys xs ys [] all = tt
 front_keys xs ys (k ∷ keys) all = (front_once xs ys k all.0, front_keys xs ys keys all.1)
 
--- each table is as before, or as after, or has more rows behind
+-- each table is as before, or as after, or has more rows at the end
 abbrev pub AreBetween : (ℕ → List Row) → (ℕ → List Row) → (ℕ → List Row) → Type 0
 AreBetween old mid last = AllByRecursion (λ t. (mid t.tree ≡ old t.tree) ⊎ ((mid t.tree ≡ last t.tree) ⊎ ((more : List Row) × (last t.tree ≡ mid t.tree ++ more)))) desk_schema.tables
 
@@ -64,7 +64,7 @@ room_within j l trees within room = let some : l ≡ j + (l - j) = omega (arith,
 none_survives : (s : State) → Survives s s (λ _. ⊥)
 none_survives s = search rules
 
--- the same write, of what shows the rows
+-- the same write, for what shows the rows
 pub along : {A B : Type 0} (show : B → A) (before after : A → ℕ → List Row) (many : ℕ) (a b : State) (r : Result (Unit {0}) Fault) → Turns before after many a b r → Turns (λ x. before (show x)) (λ x. after (show x)) many a b r
 along show before after many a b (Ok done) w = record {
   wrote = λ clean inside. let it = w.wrote clean inside in record { inside = it.inside; kept = it.kept; change = λ x has. it.change (show x) has };
@@ -86,11 +86,11 @@ module _ {A : Type 0} where
     survives = none_survives s;
   }
 
-  -- the same rows, said otherwise
+  -- the same rows, said differently
   pub as_turns : (f g h : A → ℕ → List Row) (many : ℕ) (a b : State) (r : Result (Unit {0}) Fault) → ((x : A) (tree : ℕ) → g x tree ≡ h x tree) → Turns f g many a b r → Turns f h many a b r
   as_turns f g h many a b r same = subst (λ (k : A → ℕ → List Row). Turns f k many a b r) (λ i x tree. same x tree i)
 
-  -- a count that is no smaller
+  -- with a count that is no smaller
   pub more_turns : (f g : A → ℕ → List Row) (j l : ℕ) (a b : State) (r : Result (Unit {0}) Fault) → j ≤ l → Turns f g j a b r → Turns f g l a b r
   more_turns f g j l a b (Ok done) within w = record {
     wrote = w.wrote;
@@ -105,7 +105,7 @@ module _ {A : Type 0} where
     survives = w.survives;
   }
 
-  -- a write that failed, as one that would have made more
+  -- a write that failed, as one that would have done more
   pub less_turns : (f g h : A → ℕ → List Row) (many : ℕ) (a b : State) (fault : Fault) → ((x : A) → CanStand (f x) → CanStand (h x) → CanStand (g x)) → Turns f g many a b (Err fault) → Turns f h many a b (Err fault)
   less_turns f g h many a b fault between w = record {
     wrote = w.wrote;
@@ -113,7 +113,7 @@ module _ {A : Type 0} where
     survives = w.survives;
   }
 
-  -- `?` hands a fault on
+  -- `?` returns a fault
   pub err_turns : (f g : A → ℕ → List Row) (many : ℕ) (a b : State) (r : Result (Unit {0}) Fault) (fault : Fault) → IsErrAnd r (λ e. e ≡ fault) → Turns f g many a b (Err fault) → Turns f g many a b r
   err_turns f g many a b (Ok done) fault is w = absurd is
   err_turns f g many a b (Err e) fault is w = rw is w
@@ -129,7 +129,7 @@ module _ {A : Type 0} where
   pub memory_turns : (f g : A → ℕ → List Row) (many : ℕ) (s : State) (r : Result (Unit {0}) Fault) → IsErrAnd r (λ e. e ≡ Memory) → Turns f g many s s r
   memory_turns f g many s r is = early_turns f g many s r Memory is (λ x after. inl refl)
 
-  -- a write, and then another
+  -- one write, and then another
   pub then_turns : (f g h : A → ℕ → List Row) (j k : ℕ) (a b c : State) (r : Result (Unit {0}) Fault) → ((x : A) → CanStand (f x) → CanStand (h x) → CanStand (g x))
       → Turns f g j a b (Ok tt) → Turns g h k b c r → Turns f h (j + k) a c r
   then_turns f g h j k a b c (Ok done) between v w = record {

@@ -1,4 +1,4 @@
--- An INSERT fails only for a cause where the rows after it can stand.
+-- An INSERT fails only for a cause, if the tables can hold the rows after it.
 use Rattle.std.proofs.Common.{◌≡◌, ◌≢◌, ◌∙◌, ℕ, ◌+◌, ◌^◌, ◌<◌, Bool, true, false, List, [], ◌∷◌, ◌++◌, length, slice_get, Option, Some, None, IfErr, Ok, Result, refl, sym, ap, subst, arith}
 use Rattle.std.specs.Prelude.{◌==◌, ◌/◌}
 use Rattle.std.specs.List.{AllByRecursion}
@@ -42,7 +42,7 @@ use Rattle.desk_sql_write.proofs.Puts.{AreShown, IsFirst, Make, Suits, rooms_put
 use Rattle.desk_sql_write.proofs.Refusing.{never_inserted}
 use Rattle.desk_sql_write.proofs.Rooms.{fewer_left, front_all}
 
--- what an edit of one table leaves of the rowids of all
+-- what an edit of one table leaves of the rowids of all tables
 pub rooms_after : (many n : ℕ) (old new : Trees) (this : Table) (edit : Edit) → edit.table ≡ this → Has desk_schema.tables this → Applies desk_schema Enforced old edit new → HasRoom (n + many) old
     → ((r : ℕ) → n + many < r → n < r) → ((rows : List Row) → AllByRecursion (λ r. LeavesRoom (n + many) (rowid r)) rows → AllByRecursion (λ r. LeavesRoom n (rowid r)) rows)
     → (this.key ≡ None → AllByRecursion (λ r. LeavesRoom (n + many) (rowid r)) (old this.tree) → AllByRecursion (λ r. LeavesRoom n (rowid r)) (new this.tree)) → HasRoom n new
@@ -67,7 +67,7 @@ module _ (name : List ℕ) (tree : ℕ) (columns : List Column) (key : Option �
   abbrev this : Table
   this = table_of name tree columns key primary uniques orders
 
-  -- a source shows the cells that it was made for
+  -- a source shows the cells for which it was made
   shows : (sources wanted : List Row) → Make name tree columns key primary uniques orders sources wanted → AreShown name tree columns key primary uniques orders wanted → Shows name tree columns key primary uniques orders sources wanted
   shows [] [] make shown = tt
   shows [] (w ∷ wanted) make shown = absurd make

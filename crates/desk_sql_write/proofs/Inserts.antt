@@ -43,7 +43,7 @@ use Rattle.desk_sql_write.proofs.Lists.{eight}
 use Rattle.desk_sql_write.proofs.Puts.{AreShown, Make, Suits}
 use Rattle.desk_sql_write.proofs.Storable.{all_light, int_light, null_light}
 
--- a text adds rows to the table with a tree, so many at most
+-- a text adds rows to the table with this tree, at most this many
 abbrev pub AreAdded : List ℕ → Row → ℕ → List Row → ℕ → Type 1
 AreAdded text params tree rows many = (old new : State) (r : Result (Unit {0}) Fault) → Ran text params old new r → IfErr r (RanInto text params old new) → Survives old new (λ _. ⊥) → Adds (with_rows tree rows) many old new r
 
@@ -55,7 +55,8 @@ abbrev columns_from : ℕ → ℕ → List Term
 columns_from at zero = []
 columns_from at (suc n) = col 0 at ∷ columns_from (at + 1) n
 
--- what a row is made of, from the first of so many parameters: NULL stands for the rowid, or the first one does, and NULL in its place
+-- what a row is made of, from the first of this many parameters: NULL gives the rowid, or the first parameter
+-- does, and NULL is in its place
 abbrev terms_of : Option ℕ → ℕ → ℕ → List Term
 terms_of None at n = lit Null ∷ columns_from at n
 terms_of (Some key) at zero = []

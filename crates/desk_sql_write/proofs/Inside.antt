@@ -1,4 +1,4 @@
--- What a statement does inside a transaction, and one after another.
+-- What a statement does inside a transaction, and what several do one after another.
 use Rattle.std.proofs.Common.{◌⊎◌, inl, inr, List, ℕ, Err, arith}
 use Rattle.sqlite_value.specs.Order.{Row}
 use Rattle.sqlite.specs.declared.error.Error.{Error}

@@ -1,4 +1,4 @@
--- Where each unique key stands once among the rows that tables show, it does so in the tables.
+-- If each unique key appears once among the rows that tables show, it does so in the tables.
 use Rattle.std.proofs.Common.{◌≡◌, ◌∙◌, inl, inr, ℕ, ◌≤◌, Bool, true, false, not, cond, List, [], ◌∷◌, filter, length, slice_get, Some, refl, sym, ap, subst, arith}
 use Rattle.std.specs.Prelude.{◌&&◌, ◌==◌}
 use Rattle.std.specs.List.{AllByRecursion}
@@ -93,7 +93,7 @@ pub some_there : {X : Type 0} (xs : List X) (x : X) → Has xs x → 1 ≤ lengt
 some_there [] x there = absurd there
 some_there (y ∷ xs) x there = omega arith
 
--- two rows that pass, and are not one
+-- two different rows that pass
 pub two_pass : {X : Type 0} (p : X → Bool) (xs : List X) (a b : X) → Has xs a → Has xs b → p a ≡ true → p b ≡ true → (a ≡ b → ⊥) → 2 ≤ length (filter p xs)
 two_pass p [] a b here there one two other = absurd here
 two_pass p (x ∷ xs) a b (inl here) (inl there) one two other = absurd (other (here ∙ sym there))
@@ -111,7 +111,7 @@ differ_itself v whole differs =
     let it = subst (λ v. differ v v ≡ true) (int_is v whole) differs in
     let no = rw (tied_itself value_cmp_total (Int (id_in v))) at it in cc
 
--- the rows that tables show pass as often as those that are stored
+-- as many of the rows that tables show pass as of those that are stored
 pub passing : (t : Table) (rows stored : List Row) → AreStored t rows stored → (p : Row → Bool) → length (filter (λ r. p (cells t r)) stored) ≡ length (filter p rows)
 passing t rows stored are p =
     sym (length-map (filter (λ r. p (cells t r)) stored) (cells t)) ∙ ap length (sym (filter-map p (cells t) stored)) ∙ length_permutation _ _ (IsPermutation-filter p _ _ are.same)

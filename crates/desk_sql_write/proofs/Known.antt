@@ -1,4 +1,4 @@
--- What writes a change of any tables writes it of those of which something is known.
+-- What writes a change of any tables also writes it of those of which something is known.
 use Rattle.std.proofs.Common.{Bool, Ok, Err, Result, ℕ}
 use Rattle.sqlite.specs.State.{State}
 use Rattle.desk_model.specs.Tables.{applied}

@@ -1,4 +1,4 @@
--- The front of a list grows by one, and what is left of it behind.
+-- The front of a list grows by one, and so the rest shrinks.
 use Rattle.std.specs.List.{join_with_byte}
 use Rattle.std.specs.Prelude.{Some, None, find, not}
 use Rattle.std.proofs.lemmas.Grind.{flat_map-append}
@@ -29,7 +29,7 @@ append_more : {X : Type 0} (xs ys : List X) (y : X) → (xs ++ ys) ++ y ∷ [] �
 append_more [] ys y = refl
 append_more (x ∷ xs) ys y = ap (λ l. x ∷ l) (append_more xs ys y)
 
--- behind others, the front and the next one are the longer front
+-- after others, the front and the next item are the longer front
 pub front_more : {X : Type 0} (xs rows : List X) (i : ℕ) (d x : X) → x ≡ get_or rows i d → i < length rows → (xs ++ take i rows) ++ x ∷ [] ≡ xs ++ take (i + 1) rows
 front_more xs rows i d x is low = append_more xs (take i rows) x ∙ ap (λ y. xs ++ (take i rows ++ y ∷ [])) is ∙ ap (λ l. xs ++ l) (take_more rows i d low) ∙ ap (λ n. xs ++ take n rows) (sym (add-one i))
 
@@ -41,7 +41,7 @@ drop_next (x ∷ rows) (suc n) d low = drop_next rows n d (omega arith)
 drop_less : {X : Type 0} (rows : List X) (n : ℕ) (d : X) → n < length rows → drop n rows ≡ get_or rows n d ∷ drop (n + 1) rows
 drop_less rows n d low = drop_next rows n d low ∙ ap (λ m. get_or rows n d ∷ drop m rows) (sym (add-one n))
 
--- the rows that pass a test, of two lists
+-- the rows of two lists that pass a test
 pub filter_both : {X : Type 0} (p : X → Bool) (xs ys : List X) → filter p (xs ++ ys) ≡ filter p xs ++ filter p ys
 filter_both p [] ys = refl
 filter_both p (x ∷ xs) ys = go (filter_both p xs ys) (p x)
@@ -50,7 +50,7 @@ filter_both p (x ∷ xs) ys = go (filter_both p xs ys) (p x)
     go more true = ap (λ l. x ∷ l) more
     go more false = more
 
--- one more text behind others that are joined
+-- one more text after others that are joined
 pub join_more : (x : List ℕ) (xs : List (List ℕ)) (y : List ℕ) → join_with_byte 32 (x ∷ (xs ++ y ∷ [])) ≡ join_with_byte 32 (x ∷ xs) ++ (32 ∷ y)
 join_more x [] y = refl
 join_more x (z ∷ zs) y = ap (λ l. x ++ 32 ∷ l) (join_more z zs y) ∙ sym (behind x (join_with_byte 32 (z ∷ zs)) y)
@@ -59,7 +59,7 @@ join_more x (z ∷ zs) y = ap (λ l. x ++ 32 ∷ l) (join_more z zs y) ∙ sym (
     behind [] b y = refl
     behind (c ∷ a) b y = ap (λ l. c ∷ l) (behind a b y)
 
--- behind others, those of the front that pass and the next one if it does
+-- after others, those of the front that pass, and the next one if it does
 pub filter_more : {X : Type 0} (p : X → Bool) (xs rows : List X) (i : ℕ) (d x : X) → x ≡ get_or rows i d → i < length rows → (xs ++ filter p (take i rows)) ++ filter p (x ∷ []) ≡ xs ++ filter p (take (i + 1) rows)
 filter_more p xs rows i d x is low =
     append_all xs (filter p (take i rows)) (filter p (x ∷ [])) ∙ ap (λ l. xs ++ l) (sym (filter_both p (take i rows) (x ∷ [])) ∙ ap (filter p) (front_more [] rows i d x is low))
@@ -76,7 +76,7 @@ joined_on codes rest first code i old blank new whole low is so then last =
 pub waiver_kept : (row : ChangeRow) (day : List ℕ) → row.last_day ≡ Some day → filter is_waiver (row ∷ []) ≡ row ∷ []
 waiver_kept row day is = rw is refl
 
--- the rows are the added ones and those that are left, of which more were added
+-- the rows are those that were added and those that are left, of which more were added
 pub more_added : {X : Type 0} (rows added left more rest : List X) → rows ≡ added ++ left → left ≡ more ++ rest → rows ≡ (added ++ more) ++ rest
 more_added rows added left more rest was is = was ∙ ap (λ l. added ++ l) is ∙ sym (append_all added more rest)
 
@@ -86,7 +86,7 @@ take_and_drop zero (x ∷ xs) = refl
 take_and_drop (suc n) [] = refl
 take_and_drop (suc n) (x ∷ xs) = ap (λ l. x ∷ l) (take_and_drop n xs)
 
--- what holds of any eight holds of a list of eight
+-- what is true of any eight items is true of a list of eight
 pub eight : {X : Type 0} (P : List X → Type 0) → ((a b c d e f g h : X) → P (a ∷ b ∷ c ∷ d ∷ e ∷ f ∷ g ∷ h ∷ [])) → (rows : List X) → length rows ≡ 8 → P rows
 eight P holds (a ∷ b ∷ c ∷ d ∷ e ∷ f ∷ g ∷ h ∷ []) is = holds a b c d e f g h
 eight P holds (a ∷ b ∷ c ∷ d ∷ e ∷ f ∷ g ∷ h ∷ i ∷ rows) is = absurd (omega arith)
@@ -99,7 +99,7 @@ eight P holds (a ∷ b ∷ []) is = absurd (omega arith)
 eight P holds (a ∷ []) is = absurd (omega arith)
 eight P holds [] is = absurd (omega arith)
 
--- what the front of a list and the next one make
+-- what is made of the front of a list and of the next item
 pub flat_more : {X V : Type 0} (f : X → List V) (rows : List X) (i : ℕ) (d x : X) → x ≡ get_or rows i d → i < length rows → flat_map f (take i rows) ++ flat_map f (x ∷ []) ≡ flat_map f (take (i + 1) rows)
 flat_more f rows i d x is low = sym (flat_map-append f (take i rows) (x ∷ [])) ∙ ap (flat_map f) (front_more [] rows i d x is low)
 
@@ -110,7 +110,7 @@ pub none_left : {X : Type 0} (xs : List X) → length xs ≡ 0 → xs ≡ []
 none_left [] is = refl
 none_left (x ∷ xs) is = absurd (omega (arith, is))
 
--- none is left out where none is found
+-- nothing is left out if nothing is found
 pub none_out : {A : Type 0} (at : A → Bool) (xs : List A) → find at xs ≡ None → filter (λ y. not (at y)) xs ≡ xs
 none_out at [] none = refl
 none_out {A} at (x ∷ xs) none = go (none_out at xs) (at x) none

@@ -1,4 +1,4 @@
--- Rows that INSERT puts into a table, where the rows after it can stand.
+-- Rows that INSERT puts into a table, if the table can hold the rows after it.
 use Rattle.std.proofs.Common.{◌≡◌, inl, inr, ℕ, suc, ℤ, pos, ◌+◌, ◌^◌, ◌<◌, ◌≤◌, true, false, not, List, [], ◌∷◌, ◌++◌, map, filter, drop, length, Option, Some, None, length-append, refl, sym, ap, subst, arith}
 use Rattle.std.specs.List.{AllByRecursion, list_all}
 use Rattle.std.specs.List.Sorted.{IsPermutation}
@@ -39,13 +39,13 @@ use Rattle.desk_sql_write.proofs.Lists.{filter_both}
 use Rattle.desk_sql_write.proofs.Rooms.{less_rooms, next_room, room_fits}
 use Rattle.desk_sql_write.proofs.Storable.{IsLight}
 
--- a row as it is stored: with a rowid of its own, or with NULL in the column that is the rowid
+-- a row as it is stored: with an additional rowid, or with NULL in the column that is the rowid
 abbrev pub as_stored : Option ℕ → ℤ → Row → Row
 as_stored None id cs = Int id ∷ cs
 as_stored (Some at) id [] = []
 as_stored (Some at) id (c ∷ cs) = c ∷ Null ∷ cs
 
--- a number of 32 bits in the first cell, where that is the rowid
+-- a number of 32 bits in the first cell, if that is the rowid
 abbrev pub IsNumber : Option ℕ → Row → Type 0
 IsNumber None cs = Unit {0}
 IsNumber (Some at) cs = (n : ℕ) × (rest : Row) × (cs ≡ Int (pos n) ∷ rest) × (n < 2 ^ 32)
@@ -63,7 +63,7 @@ once_permuted xs ys places same once key =
     let p = λ (row : Row). agree plain (in_cells places) row (in_cells places) key in
     omega (arith, once key, length_permutation _ _ (IsPermutation-filter p xs ys same))
 
--- fewer rows have no key more often
+-- among fewer rows no key appears more often
 pub once_fewer : (xs ys : List Row) (places : List ℕ) → StandsOnce (xs ++ ys) places → StandsOnce ys places
 once_fewer xs ys places once key =
     let p = λ (row : Row). agree plain (in_cells places) row (in_cells places) key in
@@ -79,7 +79,7 @@ module _ (name : List ℕ) (tree : ℕ) (columns : List Column) (key : Option �
   abbrev this : Table
   this = table_of name tree columns key primary uniques orders
 
-  -- a row of the table that each rule of its own passes
+  -- a row of the table that passes each of the table's rules
   pub record IsRight (trees : Trees) (row : Row) : Type 0 where
     pub typed : passes Datatype desk_schema trees this row ≡ true
     pub present : passes NotNull desk_schema trees this row ≡ true
@@ -87,7 +87,7 @@ module _ (name : List ℕ) (tree : ℕ) (columns : List Column) (key : Option �
     pub some : 1 < length row
     pub few : length row ≤ 9
 
-  -- cells that the table can take
+  -- cells that the table can hold
   pub record Suits (trees : Trees) (cs : Row) : Type 0 where
     pub number : IsNumber key cs
     pub right : (id : ℤ) → IsRight trees (as_stored key id cs)
@@ -96,13 +96,13 @@ module _ (name : List ℕ) (tree : ℕ) (columns : List Column) (key : Option �
   abbrev pub AreShown : List Row → Type 0
   AreShown = AllByRecursion (λ cs. (id : ℤ) → cells this (as_stored key id cs) ≡ cs)
 
-  -- sources that INSERT makes these cells of
+  -- sources from which INSERT makes these cells
   abbrev pub Make : List Row → List Row → Type 0
   Make [] [] = Unit {0}
   Make (s ∷ sources) (w ∷ wanted) = ((stored : List Row) → with_rowid Chosen stored (cast_row this s) ≡ as_stored key (next_rowid stored) w) × Make sources wanted
   Make _ _ = ⊥
 
-  -- where the rowid is a column, it is the first, and the key
+  -- if the rowid is a column, it is the first, and the key
   abbrev pub IsFirst : Option ℕ → Type 0
   IsFirst None = Unit {0}
   IsFirst (Some at) = (primary ≡ 0 ∷ []) × ((r : Row) → column (cells this r) 0 ≡ rowid r)

@@ -1,4 +1,4 @@
--- A statement is refused only for its rows, and an INSERT for none where they can stand.
+-- A statement is refused only for its rows, and an INSERT for none that the tables can hold.
 use Rattle.std.proofs.Common.{◌≡◌, ◌≢◌, ◌∙◌, inl, inr, ℕ, zero, suc, Bool, true, false, not, cond, List, [], ◌∷◌, ◌++◌, length, slice_get, flat_map, Option, Some, None, Err, refl, sym, ap, subst, arith, append-nil, length-append}
 use Rattle.std.specs.Prelude.{nat_lt, ◌||◌, ◌==◌, ◌/◌}
 use Rattle.std.specs.List.{AllByRecursion, filter_map, list_all}
@@ -78,7 +78,7 @@ never_stops trees edit stop free (why, inr (inr went), told) = settles went.2.0 
     settles zero h = let e = h.1 in cc
     settles (suc n) h = omega (arith, ap length h.2, length-append h.0 (h.1 ∷ []))
 
--- what follows on the rows of a statement with no RETURNING
+-- what follows the rows of a statement with no RETURNING
 pub never_concludes : (task : Task) (mode : Mode) (w : Written) (stop : Option Error) → task.schema ≡ desk_schema → Concludes task mode None w (Err stop) → ⊥
 never_concludes task mode w stop is (inl (s, tested, told)) = tested.0 (subst (λ s. Refers (due mode) s w.trees) (sym is) (refers (due mode) w.trees))
 never_concludes task mode w stop is (inr (d, tested, inl (s, e, told))) = absurd (let no = e in cc)
@@ -162,7 +162,7 @@ module _ (name : List ℕ) (tree : ℕ) (columns : List Column) (key : Option �
         go (inl (st, inserts, told)) = never_inserts s.step_limit none Enforced params s.now.trees terms width accepts free st inserts
         go (inr (w, inserts, concludes)) = never_concludes doing (mode_of s) w stop refl concludes
 
-  -- ---- an INSERT of rows that can stand
+  -- ---- an INSERT of rows that the tables can hold
 
   module _ (place : ℕ) (listed : slice_get desk_schema.tables place ≡ Some this) (rows after : ℕ → List Row) (same : AllByRecursion (λ t. t.tree ≢ tree → after t.tree ≡ rows t.tree) desk_schema.tables)
       (s : State) (has : HasRows rows s.now) (none : s.step_limit ≡ None) (params : Row) (text : List ℕ) (terms : List Term) (width : ℕ) (accepts : accepts_terms terms params ≡ true)

@@ -33,7 +33,7 @@ one_on n few (Real x) whole h = absurd (cc)
 one_on n few (Text t) whole h = absurd (cc)
 one_on n few (Blob b) whole h = absurd (cc)
 
--- the rowid after the last leaves room for one row less
+-- after the rowid that follows the last there is room for one row less
 pub next_room : (n : ℕ) → n < 2 ^ 62 → (rows : List Row) → AllByRecursion (λ r. is_int (rowid r) ≡ true) rows → AllByRecursion (λ r. LeavesRoom (n + 1) (rowid r)) rows → LeavesRoom n (Int (next_rowid rows))
 next_room n few rows keyed all = go (pos 1) rows (omega (arith, few)) keyed all
   where

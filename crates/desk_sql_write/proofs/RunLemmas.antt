@@ -1,4 +1,4 @@
--- Changes that leave duties of consecutive numbers in one state set them as one statement does.
+-- Changes that leave duties with consecutive numbers in one state set them as one statement does.
 use Rattle.std.proofs.Common.{◌≡◌, ◌∙◌, ℕ, ◌+◌, ◌≤◌, Bool, true, false, List, [], ◌∷◌, ◌++◌, refl, sym, ap, arith}
 use Rattle.std.specs.Prelude.{◌&&◌, ◌||◌, ◌==◌, nat_le, if◌then◌else◌}
 use Rattle.std.proofs.lemmas.Bool.Decides.{nat_tests}
@@ -20,7 +20,7 @@ pub sets_one : (row : ChangeRow) → Sets (row ∷ []) row.duty row.duty (state_
 sets_one row [] = refl
 sets_one row (d ∷ ds) = λ i. (if one_numbered row.duty d.number i then with_duty_state (state_after row.word) d else d) ∷ sets_one row ds i
 
--- One more in front of a run
+-- One more at the front of a run
 
 more_numbered : (n last m : ℕ) → n + 1 ≤ last → (nat_le n m && nat_le m last) ≡ ((m == n) || (nat_le (n + 1) m && nat_le m last))
 more_numbered n last m low = grind (arith, nat_tests)

@@ -42,7 +42,7 @@ use Rattle.desk_sql_write.proofs.Puts.{Suits}
 use Rattle.desk_sql_write.proofs.Storable.{all_light, int_light}
 use Rattle.desk_sql_write.proofs.Updating.{updated_turns}
 
--- where a change of rows is a change of their cells
+-- a change of rows as a change of their cells
 changed_cells : {X : Type 0} (cells : X → Row) (test : X → Bool) (change : X → X) (q : Row → Bool) (u : Row → Row) → ((x : X) → (if q (cells x) then u (cells x) else cells x) ≡ cells (if test x then change x else x)) → (xs : List X)
     → map cells (changed test change xs) ≡ changed_where q u (map cells xs)
 changed_cells cells test change q u agree [] = refl

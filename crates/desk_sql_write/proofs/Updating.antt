@@ -1,4 +1,4 @@
--- An UPDATE fails only for a cause where the rows after it can stand.
+-- An UPDATE fails only for a cause, if the tables can hold the rows after it.
 use Rattle.std.proofs.Common.{◌≡◌, ◌≢◌, ◌∙◌, inl, inr, ℕ, ℤ, suc, ◌+◌, ◌≤◌, Bool, true, false, not, List, [], ◌∷◌, ◌++◌, filter, map, drop, length, length-append, slice_get, Option, Some, None, IfErr, Ok, Err, Result, refl, sym, ap, subst, subst₂, arith}
 use Rattle.std.specs.Prelude.{nat_lt, if◌then◌else◌}
 use Rattle.std.specs.List.{AllByRecursion, list_all}
@@ -69,7 +69,7 @@ use Rattle.desk_sql_write.proofs.Rooms.{fewer_left}
 use Rattle.desk_sql_write.proofs.Refusing.{IsFree, fits_none, never_stops, never_concludes, stored_with}
 use Rattle.desk_sql_write.proofs.Storable.{never_oversized}
 
--- ---- rowids that stand once
+-- ---- rowids that appear once
 
 equal_is : (o : Ordering) → is_eq o ≡ true → o ≡ Equal
 equal_is Less h = absurd (cc)

@@ -13,7 +13,7 @@ use Rattle.desk_sql_layout.specs.Held.{Holds}
 use Rattle.desk_sql_write.specs.Declaring.{IsBare}
 use Rattle.desk_sql_write.specs.Taking.{IsCaused}
 
--- a table `meta` stands in the database
+-- the database has a table `meta`
 abbrev pub has_meta : Schema → Bool
 has_meta schema = list_any (λ t. same_name t.name (codes "meta")) schema.tables
 
@@ -36,7 +36,7 @@ no_tables = record {
   changes = [];
 }
 
--- inside a transaction that goes on, a database without tables has become an empty desk's
+-- inside a transaction that is still open, a database without tables has become an empty desk's
 pub record Founds (old new : State) : Type 0 where
   pub inside : IsTrue new.in_transaction
   pub was_open : IsTrue old.is_open
@@ -55,7 +55,7 @@ pub record Created (old new : State) : Type 0 where
   pub settled : new.committed ≡ new.now
   pub holds : IsBare no_schema old.now → Holds no_tables new.now
 
--- the same of a database in which nothing stood
+-- the same for a database that was empty
 pub record Founded (old new : State) : Type 0 where
   pub was_open : IsTrue old.is_open
   pub is_open : IsTrue new.is_open
@@ -66,10 +66,10 @@ pub record Founded (old new : State) : Type 0 where
 abbrev pub LeavesTables : State → Trees → Type 0
 LeavesTables old trees = IsTrue old.is_open × (db : Database) × (IsBare no_schema old.now → Holds no_tables db) × (trees ≡ db.trees)
 
--- where nothing stands, creating the tables fails only for a cause
+-- in an empty database, creating the tables fails only for a cause
 pub record FoundFails (old new : State) (fault : Fault) : Type 0 where
   pub cause : HasCleanDisk new → IsTrue old.in_transaction → IsTrue old.is_open → old.step_limit ≡ None → IsBare no_schema old.now → IsCaused old new fault
 
--- the same, in a transaction of its own
+-- the same, in a transaction for this alone
 pub record CreateFails (old new : State) (fault : Fault) : Type 0 where
   pub cause : HasCleanDisk new → IsTrue old.is_open → old.step_limit ≡ None → IsBare no_schema old.now → IsCaused old new fault

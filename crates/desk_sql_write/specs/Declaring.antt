@@ -20,7 +20,7 @@ use Rattle.sqlite.proofs.Callers.{command_of, statement_of}
 use Rattle.desk_model.specs.declared.command.Fault.{Fault}
 use Rattle.desk_sql_write.specs.Taking.{IsCaused}
 
--- the text declares this table in a database with the schema
+-- the text declares this table in a database with this schema
 pub record Declares (text : List ℕ) (table : Table) (schema : Schema) : Type 0 where
   pub is_create : command_of (understood schema text) ≡ CreateTable
   pub whole : statement_of text (understood schema text) ≡ text
@@ -33,7 +33,7 @@ abbrev pub Fits : List ℕ → ℕ → Result Compiled CompileError → Type 0
 Fits sql count (Ok c) = (nat_le (length sql) c.tail ≡ true) × (count ≡ length c.names)
 Fits sql count (Err e) = ⊥
 
--- nothing about the text and its table is a reason to refuse it in a database with the schema
+-- nothing about the text and its table is a reason to refuse it in a database with this schema
 pub record IsTaken (text : List ℕ) (table : Table) (schema : Schema) : Type 0 where
   pub fits : Fits text 0 (understood schema text)
   pub written : list_all (λ byte. nat_lt byte 128) text ≡ true
@@ -61,7 +61,7 @@ pub record IsBare (schema : Schema) (db : Database) : Type 0 where
   pub empty : AllByRecursion (λ t. db.trees t.tree ≡ []) schema.tables
   pub sound : IsDatabase db
 
--- the tables of the database are empty, and those that the texts declare make it this schema
+-- the tables of the database are empty, and those that the texts declare complete this schema
 pub record Left (texts : List (List ℕ)) (final : Schema) (db : Database) : Type 0 where
   pub tables : List (List ℕ × Table)
   pub schema : Schema
@@ -80,6 +80,6 @@ abbrev pub HasDeclared : List (List ℕ) → State → State → Result (Unit {0
 HasDeclared texts old new (Ok done) = HasCleanDisk new → IsTrue old.in_transaction → Went texts [] old new
 HasDeclared texts old new (Err fault) = HasCleanDisk new → IsTrue old.in_transaction → KeepsCommit old new
 
--- where the texts declare their tables, they fail only for a cause
+-- if the texts declare their tables, running them fails only for a cause
 pub record DeclareFails (texts : List (List ℕ)) (old new : State) (fault : Fault) : Type 0 where
   pub cause : HasCleanDisk new → IsTrue old.in_transaction → IsTrue old.is_open → old.step_limit ≡ None → (final : Schema) → Left texts final old.now → IsCaused old new fault

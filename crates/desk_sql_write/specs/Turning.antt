@@ -1,4 +1,4 @@
--- What a write makes of the rows of the tables, and why it fails.
+-- What a write does to the rows of the tables, and why it fails.
 use Rattle.std.specs.Prelude.{ℕ, ◌==◌, if◌then◌else◌, List, [], ◌∷◌, ◌++◌, map, filter, Result}
 use Rattle.sqlite_value.specs.Order.{Row}
 use Rattle.sqlite.specs.State.{State, Survives}
@@ -13,18 +13,18 @@ use Rattle.desk_sql_layout.specs.Cells.{document_cells, package_cells, extracted
 use Rattle.desk_sql_write.specs.Taking.{FailsOnlyAs}
 use Rattle.desk_sql_write.specs.Written.{WritesAs}
 
--- Inside a transaction a write makes other rows of those that the tables had, adds so many at most, fails only for a cause, and leaves
--- nothing that a stop could keep.
+-- Inside a transaction, a write turns the rows of the tables into others, adds at most this many, fails only
+-- for a cause, and leaves nothing that a stop could keep.
 pub record Turns {A : Type 0} (before after : A → ℕ → List Row) (many : ℕ) (old new : State) (result : Result (Unit {0}) Fault) : Type 0 where
   pub wrote : WritesAs before after old new result
   pub cause : FailsOnlyAs before after many old new result
   pub survives : Survives old new (λ _. ⊥)
 
--- the same of whatever rows the tables had
+-- the same for whatever rows the tables had
 abbrev pub Adds : ((ℕ → List Row) → ℕ → List Row) → ℕ → State → State → Result (Unit {0}) Fault → Type 0
 Adds = Turns (λ rows. rows)
 
--- more rows in the table with a tree
+-- more rows in the table with this tree
 abbrev pub with_rows : ℕ → List Row → (ℕ → List Row) → ℕ → List Row
 with_rows tree more rows other = if other == tree then rows other ++ more else rows other
 

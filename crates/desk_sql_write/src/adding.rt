@@ -1,4 +1,4 @@
-//! Rows that are added to a table, one by one or by eights.
+//! Adds rows to a table, one at a time or in eights.
 
 ghost use Rattle.std.specs.Prelude.{◌≡◌, ℕ, List, [], ◌∷◌, map, length};
 ghost use Rattle.std.specs.List.{flat_map};
@@ -10,15 +10,15 @@ use desk_model::Fault;
 use sqlite::{Alter, Transaction};
 use std::alloc::Global;
 
-/// How many rows a statement adds, where there are so many: they share what it costs beside them.
+/// How many rows one statement adds, if there are that many. They share its cost.
 const ROWS: usize = 8;
 
-/// What is added to a table by a statement of its own.
+/// What is added to a table by one statement for each.
 pub(crate) trait Added {
     /// The tree of the table.
     ghost tree: { ℕ };
 
-    /// The cells of the rows that are added: of one, or of none.
+    /// The cells of the rows that are added: one row, or none.
     ghost rows: { Self → List Cells };
 
     fn add<S: Alter>(&self, alloc: Global, tx: &mut Transaction<'_, S>) -> Result<(), Fault>
@@ -67,7 +67,7 @@ pub(crate) fn add_all<R: Added, S: Alter>(
     Ok(())
 }
 
-/// Adds all of these, eight at a time while there are so many.
+/// Adds all of these, eight at a time as long as there are that many.
 pub(crate) fn add_in_eights<R: AddedInEights, S: Alter>(
     alloc: Global,
     tx: &mut Transaction<'_, S>,

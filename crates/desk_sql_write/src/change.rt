@@ -32,7 +32,7 @@ use desk_model::{
 use sqlite::{Alter, Transaction};
 use std::alloc::Global;
 
-/// The catalogue is loaded.
+/// Loads a catalogue.
 pub(crate) fn load<S: Alter>(
     alloc: Global,
     tx: &mut Transaction<'_, S>,
@@ -77,7 +77,7 @@ pub(crate) fn add_parts<S: Alter>(
     add_all(alloc, tx, references)
 }
 
-/// A document is imported.
+/// Imports a document.
 pub(crate) fn import<S: Alter>(
     alloc: Global,
     tx: &mut Transaction<'_, S>,
@@ -95,7 +95,7 @@ pub(crate) fn import<S: Alter>(
     add_parts(alloc, tx, packages, references)
 }
 
-/// The terms that are chosen for a package take the place of those that were.
+/// Replaces the terms that are chosen for a package.
 pub(crate) fn choose<S: Alter>(
     alloc: Global,
     tx: &mut Transaction<'_, S>,
@@ -115,7 +115,7 @@ pub(crate) fn choose<S: Alter>(
     add_all(alloc, tx, rows)
 }
 
-/// A conclusion takes the place of an earlier one.
+/// Replaces an earlier conclusion, if there is one.
 pub(crate) fn conclude<S: Alter>(
     tx: &mut Transaction<'_, S>,
     row: &ConclusionRow,
@@ -132,7 +132,7 @@ pub(crate) fn conclude<S: Alter>(
     add_conclusion(tx, row)
 }
 
-/// A licence takes the place of an earlier one.
+/// Replaces an earlier adoption, if there is one.
 pub(crate) fn adopt<S: Alter>(tx: &mut Transaction<'_, S>, row: &AdoptionRow) -> Result<(), Fault>
     ensures same_reference { tx.new.conn.ghost_name ≡ tx.old.conn.ghost_name }
     ensures makes { Turns rows_of (λ t. with_rows adoption_table.tree
@@ -146,7 +146,7 @@ pub(crate) fn adopt<S: Alter>(tx: &mut Transaction<'_, S>, row: &AdoptionRow) ->
     add_adoption(tx, row)
 }
 
-/// Duties are raised.
+/// Raises duties.
 pub(crate) fn raise<S: Alter>(
     alloc: Global,
     tx: &mut Transaction<'_, S>,
@@ -162,7 +162,7 @@ pub(crate) fn raise<S: Alter>(
     add_steps(alloc, tx, changes)
 }
 
-/// Adds the terms that a release is frozen with, and raises its duties.
+/// Adds the terms with which a release is frozen, and raises its duties.
 pub(crate) fn add_terms<S: Alter>(
     alloc: Global,
     tx: &mut Transaction<'_, S>,
@@ -180,7 +180,7 @@ pub(crate) fn add_terms<S: Alter>(
     raise(alloc, tx, duties, changes)
 }
 
-/// A release is frozen.
+/// Freezes a release.
 pub(crate) fn freeze<S: Alter>(
     alloc: Global,
     tx: &mut Transaction<'_, S>,
@@ -202,7 +202,7 @@ pub(crate) fn freeze<S: Alter>(
     add_terms(alloc, tx, frozen, duties, changes)
 }
 
-/// Duties are moved.
+/// Moves duties.
 pub(crate) fn move_duties<S: Alter>(
     alloc: Global,
     tx: &mut Transaction<'_, S>,
@@ -218,7 +218,7 @@ pub(crate) fn move_duties<S: Alter>(
     add_steps(alloc, tx, changes)
 }
 
-/// The terms that are chosen in a release go, and its duties are moved.
+/// Drops the terms that are chosen in a release, and moves its duties.
 pub(crate) fn clear<S: Alter>(
     alloc: Global,
     tx: &mut Transaction<'_, S>,
@@ -236,7 +236,7 @@ pub(crate) fn clear<S: Alter>(
     move_duties(alloc, tx, changes)
 }
 
-/// A release is withdrawn.
+/// Withdraws a release.
 pub(crate) fn withdraw<S: Alter>(
     alloc: Global,
     tx: &mut Transaction<'_, S>,
@@ -255,7 +255,7 @@ pub(crate) fn withdraw<S: Alter>(
     clear(alloc, tx, release, changes)
 }
 
-/// Writes a change, after what it replaces is dropped.
+/// Writes a change, once what it replaces has been dropped.
 pub(crate) fn make<S: Alter>(
     alloc: Global,
     tx: &mut Transaction<'_, S>,
@@ -317,7 +317,7 @@ pub(crate) fn make<S: Alter>(
     }
 }
 
-/// Writes a change. If it is known to replace no row (`is_new`), none is dropped before it.
+/// Writes a change. If it is known to replace no row (`is_new`), none is dropped first.
 pub fn write_change<S: Alter>(
     alloc: Global,
     tx: &mut Transaction<'_, S>,

@@ -1,4 +1,4 @@
-//! The desk's tables are created in a database that has none.
+//! Creates the desk's tables in a database that has none.
 
 ghost use Rattle.std.specs.Prelude.{◌≡◌, ◌≢◌, ◌<◌, ℕ, List, length, map, slice_get, None, Some, false, true, IsTrue, IfErr, OnOk, OnErr, Err};
 ghost use Rattle.sqlite.specs.Held.{state};
@@ -51,7 +51,7 @@ const TABLES: [&str; 16] = [
 pub enum Refused {
     /// The database has a table `meta`.
     NotEmpty,
-    /// Memory was wanting, or the database refused. It refuses where other tables stand.
+    /// No memory was left, or the database refused, as it does if it has other tables.
     Fault(Fault),
 }
 
@@ -79,7 +79,7 @@ fn declare<S: Alter>(tx: &mut Transaction<'_, S>, texts: &[&str]) -> Result<(), 
     Ok(())
 }
 
-/// Declares all tables, and notes their version.
+/// Declares all tables, and records their version.
 fn found<S: Alter>(tx: &mut Transaction<'_, S>) -> Result<(), Fault>
     ensures same_reference { tx.new.conn.ghost_name ≡ tx.old.conn.ghost_name }
     ensures founded { HasFounded (state S.Store tx.old.conn.now) (state S.Store tx.new.conn.now)
@@ -124,7 +124,7 @@ fn has_meta(schema: &Schema) -> bool
     tables.iter().any(|table| same_name(table.name.as_slice(), "meta".as_bytes()))
 }
 
-/// Whether nothing stands in a database.
+/// Whether a database is empty.
 fn is_blank(schema: &Schema) -> bool
     ensures blank { result ≡ true → schema.now ≡ no_schema }
     ensures other { schema.now ≡ no_schema → result ≡ true }
@@ -134,11 +134,11 @@ fn is_blank(schema: &Schema) -> bool
         && schema.views.as_slice().is_empty()
 }
 
-/// Creates the tables of an empty desk in a database where nothing stands, in one transaction.
+/// Creates the tables of an empty desk in an empty database, in one transaction.
 ///
 /// A database with a table `meta` is refused as NotEmpty, and one with other tables by a fault of
-/// the store. After a refusal or a fault the tables are as they were. Where nothing stands, it
-/// fails only for want of memory, or as the disk failed once more.
+/// the store. After a refusal or a fault the tables are as they were. In an empty database it fails
+/// only because no memory is left, or because the disk failed once more.
 pub fn create_tables<S: Alter>(conn: &mut Connection<S>) -> Result<(), Refused>
     requires { conn.old.in_transaction ≡ false }
     ensures ok { HasCleanDisk (state S.Store conn.new)

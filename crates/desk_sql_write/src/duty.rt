@@ -36,7 +36,7 @@ fn duty_values<'a>(row: &'a DutyRow) -> [ValueRef<'a>; 8]
     ]
 }
 
-/// The values of duties, those of one behind those of another.
+/// The values of duties, one duty after another.
 fn values_of_duties<'a>(alloc: Global, rows: &'a [DutyRow]) -> Result<Vec<ValueRef<'a>>, AllocError>
     ensures { IfOk result (λ values. bound values.items ≡ flat_map duty_cells rows.now) }
 {
@@ -86,7 +86,7 @@ fn change_values<'a>(row: &'a ChangeRow) -> [ValueRef<'a>; 5]
     ]
 }
 
-/// The values of changes, those of one behind those of another.
+/// The values of changes, one change after another.
 fn values_of_changes<'a>(
     alloc: Global,
     rows: &'a [ChangeRow],
@@ -137,7 +137,7 @@ fn waiver_values<'a>(row: &'a ChangeRow) -> [ValueRef<'a>; 3]
     ]
 }
 
-/// The last day of a change, where it is a waiver that ends.
+/// The last day of a change, if it is a waiver that ends.
 impl Added for ChangeRow {
     ghost tree = { waiver_table.tree };
 
@@ -155,11 +155,11 @@ impl Added for ChangeRow {
     }
 }
 
-/// How far apart the duties of a run are at most: the database keeps all rows that a statement
-/// changes, and takes longer for many at once.
+/// How far apart the duties of a run may be: the database keeps all rows that a statement changes,
+/// and takes longer for many at once.
 const LONGEST: u32 = 1_000;
 
-/// Duties of consecutive numbers that changes leave in one state, and the changes before these.
+/// Duties with consecutive numbers that changes leave in one state, and the changes before these.
 #[derive(Clone, Copy)]
 struct Run<'a> {
     before: &'a [ChangeRow],
@@ -168,8 +168,8 @@ struct Run<'a> {
     to: DutyState,
 }
 
-/// Whether a change goes before a run: it is of the duty before the first, and leaves it where the
-/// run leaves its duties.
+/// Whether a change extends a run to the front: it is of the duty before the first, and leaves it
+/// in the state in which the run leaves its duties.
 fn goes_before(row: &ChangeRow, first: u32, to: DutyState) -> bool
     ensures next { result ≡ true → row.now.duty + 1 ≡ first }
     ensures state { result ≡ true → state_after row.now.word ≡ to }
@@ -178,7 +178,7 @@ fn goes_before(row: &ChangeRow, first: u32, to: DutyState) -> bool
     row.duty < first && first - row.duty == 1 && row.word.state_after() == to
 }
 
-/// The last run of changes, if there are any, as far as a statement takes it.
+/// The last run of changes, if there are any, as far as one statement takes it.
 fn last_run<'a>(rows: &'a [ChangeRow]) -> Option<Run<'a>>
     ensures { MatchOption result (rows.now ≡ [])
         (λ run. IsRun rows.now run.before.now run.first run.last run.to) }
@@ -202,7 +202,7 @@ fn last_run<'a>(rows: &'a [ChangeRow]) -> Option<Run<'a>>
     })
 }
 
-/// Sets the state of the duties with numbers from one to another.
+/// Sets the state of the duties with numbers from the first to the last.
 fn set_run<S: Alter>(
     tx: &mut Transaction<'_, S>,
     first: u32,
@@ -221,7 +221,7 @@ fn set_run<S: Alter>(
     )
 }
 
-/// Sets the state of each duty, the last ones first, by a statement for each run.
+/// Sets the state of each duty, the last ones first, by one statement for each run.
 pub(crate) fn set_duties<S: Alter>(
     tx: &mut Transaction<'_, S>,
     rows: &[ChangeRow],

@@ -81,7 +81,7 @@ fn frozen_values<'a>(row: &'a FrozenRow) -> [ValueRef<'a>; 5]
     ]
 }
 
-/// The values of frozen terms, those of one behind those of another.
+/// The values of frozen terms, one term after another.
 fn values_of_frozen<'a>(
     alloc: Global,
     rows: &'a [FrozenRow],
@@ -163,7 +163,7 @@ pub(crate) fn add_release<S: Alter>(
     )
 }
 
-/// A release is frozen with a revision of the catalogue.
+/// Freezes a release with a revision of the catalogue.
 pub(crate) fn freeze_release<S: Alter>(
     tx: &mut Transaction<'_, S>,
     name: &Text,
@@ -185,7 +185,7 @@ pub(crate) fn freeze_release<S: Alter>(
     )
 }
 
-/// A release is withdrawn.
+/// Withdraws a release.
 pub(crate) fn withdraw_release<S: Alter>(
     tx: &mut Transaction<'_, S>,
     name: &Text,

@@ -12,7 +12,7 @@ use desk_sql_layout::fault::fault_of;
 use sqlite::{Alter, Transaction};
 use sqlite_value::value::ValueRef;
 
-/// Runs a statement. A fault tells want of memory, or that the database refused.
+/// Runs a statement. The fault is that no memory is left, or that the database refused.
 pub fn execute<S: Alter>(
     tx: &mut Transaction<'_, S>,
     sql: &str,

@@ -35,7 +35,7 @@ fn are_words(codes: &[Text]) -> bool
     true
 }
 
-/// Whether the codes of each rule can be told apart where they are joined.
+/// Whether the codes of each rule can be separated again when they are joined.
 fn have_words(rules: &[RuleRow]) -> bool
     ensures { result ≡ have_words rules.now }
 {
@@ -49,14 +49,14 @@ fn have_words(rules: &[RuleRow]) -> bool
     true
 }
 
-/// Whether the packages are those of a document.
+/// Whether the packages are packages of the document.
 fn are_of(document: u32, packages: &[PackageRow]) -> bool
     ensures { result ≡ are_of document packages.now }
 {
     packages.iter().all(|package| package.document == document)
 }
 
-/// Whether each package stands before the next one by its id.
+/// Whether each package is before the next one by its id.
 fn rise(packages: &[PackageRow]) -> bool
     ensures { result ≡ rise packages.now }
 {
@@ -73,8 +73,8 @@ fn rise(packages: &[PackageRow]) -> bool
     true
 }
 
-/// Whether the tables can hold what a change writes: where it gives rows that they couldn't give
-/// back as they were, it isn't written.
+/// Whether the tables can hold what a change writes. A change is not written if they couldn't give
+/// its rows back as they were.
 pub fn is_writable(change: &Change) -> bool
     ensures { result ≡ is_writable change.now }
 {

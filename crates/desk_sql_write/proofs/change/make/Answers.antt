@@ -7,7 +7,7 @@ use Rattle.desk_sql_write.proofs.Applied.{loaded, imported, opened, attached, ch
 use Rattle.desk_sql_write.proofs.Going.{along}
 use Rattle.desk_sql_write.proofs.change.make.Goals as goal
 
--- the forms stand in no table, so any will do
+-- the forms are in no table, so any will do
 pub returns-in-Loaded-clause-wrote : goal.returns-in-Loaded-clause-wrote
 returns-in-Loaded-clause-wrote g c =
     let turns = along rows_of (λ rows. rows) (λ rows. with_rows 2 (map rule_cells c.in-Loaded.rules) (with_rows 1 (catalogue_cells c.in-Loaded.catalogue ∷ []) rows)) (1 + length c.in-Loaded.rules) (state g.S.Store c.args.tx.now.conn.now) (state g.S.Store c.load.new.tx.conn.now) c.load.result (rw c.as_slice.ensures at c.load.ensures.adds) in

@@ -6,7 +6,7 @@ use Rattle.desk_sql_layout.specs.Held.{rows_of}
 use Rattle.desk_sql_write.specs.Turning.{Turns}
 use Rattle.desk_sql_write.proofs.duty.set_duties.Given as goal
 
--- those behind what is left were set
+-- the duties of the changes after those that are left have been set
 abbrev pub invariant-loop-these : goal.invariant-loop-these
 invariant-loop-these g l = (set : List ChangeRow) × record {
   whole : l.rows ≡ l.left ++ set;

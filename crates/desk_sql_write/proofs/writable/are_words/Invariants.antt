@@ -3,7 +3,7 @@ use Rattle.std.specs.List.{list_all}
 use Rattle.desk_sql_layout.specs.Cells.{is_word}
 use Rattle.desk_sql_write.proofs.writable.are_words.Given as goal
 
--- those that are left pass exactly where all do
+-- the codes that are left pass exactly if all do
 abbrev pub invariant-loop-code : goal.invariant-loop-code
 invariant-loop-code l = list_all is_word l.left ≡ list_all is_word l.fn.codes
 

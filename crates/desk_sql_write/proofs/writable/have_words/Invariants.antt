@@ -2,7 +2,7 @@ use Rattle.std.proofs.Common.{◌≡◌, length}
 use Rattle.desk_sql_layout.specs.Writable.{have_words}
 use Rattle.desk_sql_write.proofs.writable.have_words.Given as goal
 
--- those that are left pass exactly where all do
+-- the rules that are left pass exactly if all do
 abbrev pub invariant-loop-rule : goal.invariant-loop-rule
 invariant-loop-rule l = have_words l.left ≡ have_words l.fn.rules
 

@@ -3,7 +3,7 @@ use Rattle.std.specs.Prelude.{◌==◌}
 use Rattle.std.specs.List.{list_all}
 use Rattle.desk_sql_write.proofs.writable.is_word.Given as goal
 
--- those that are left pass exactly where all do
+-- the bytes that are left pass exactly if all do
 abbrev pub invariant-loop-byte : goal.invariant-loop-byte
 invariant-loop-byte l = list_all (λ byte. not (byte == 32)) l.left ≡ list_all (λ byte. not (byte == 32)) l.bytes
 

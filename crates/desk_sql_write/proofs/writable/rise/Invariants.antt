@@ -2,7 +2,7 @@ use Rattle.std.proofs.Common.{◌≡◌, length}
 use Rattle.desk_sql_layout.specs.Writable.{rise}
 use Rattle.desk_sql_write.proofs.writable.rise.Given as goal
 
--- those that are left rise exactly where all do
+-- the packages that are left are in order exactly if all are
 abbrev pub invariant-loop-first : goal.invariant-loop-first
 invariant-loop-first l = rise l.left ≡ rise l.fn.packages
 
