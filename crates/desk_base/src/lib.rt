@@ -2,8 +2,8 @@
 //! compared by their bytes, owned texts and lists, bytes as lines, the profiles of operators, and
 //! the desk's limits.
 //!
-//! A contract sees a `Key` and a `Text` as the list of its bytes, and `Items` as the list of its
-//! items.
+//! A contract sees a `Key` and a `Text` as the list of its bytes, `Items` as the list of its items,
+//! and a `TextList` as the list of its texts' bytes.
 #![tactic(auto)]
 
 mod bytes;
@@ -15,6 +15,7 @@ pub mod limits;
 mod lines;
 mod profile;
 mod text;
+mod text_list;
 
 pub use bytes::are_shown;
 pub use day::Day;
@@ -24,3 +25,4 @@ pub use key::Key;
 pub use lines::{Line, LineEnd, Lines, first_line, one_cutting};
 pub use profile::Profile;
 pub use text::Text;
+pub use text_list::TextList;

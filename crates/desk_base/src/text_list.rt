@@ -1,0 +1,92 @@
+//! Owned lists of texts.
+
+ghost use Rattle.std.specs.Prelude.{◌≡◌, ◌<◌, ◌++◌, ◌∷◌, [], length, slice_index, slice_index_or, IfOk, OnOk, OnErr};
+
+use crate::items::Items;
+use crate::text::Text;
+use std::alloc::{AllocError, Global};
+use std::marker::Model;
+
+/// An owned list of texts in one piece of memory, seen as the list of the texts' bytes. Beside its
+/// bytes a text takes four more.
+#[derive(Drop)]
+pub struct TextList {
+    // The texts, one behind the other.
+    bytes: String,
+    // Where each ends.
+    ends: Vec<u32>,
+}
+
+impl Model for TextList {
+    ghost use Rattle.std.specs.Prelude.{List, ℕ};
+    ghost use Rattle.std.specs.String.{string_bytes};
+    ghost use Rattle.desk_base.specs.Pieces.{pieces, AreEnds};
+
+    ghost Value = { List (List ℕ) };
+
+    ghost view = { λ t. pieces (string_bytes t.bytes) 0 t.ends.items };
+
+    ghost invariant = { λ t. AreEnds (string_bytes t.bytes) 0 t.ends.items };
+}
+
+/// Where the text at a place begins: the first at 0, each other where the one before it ends.
+fn start_of(ends: &[u32], place: usize) -> u32
+    requires { place < length ends.now }
+    ensures { result ≡ slice_index (0 ∷ ends.now) place }
+{
+    if place == 0 { 0 } else { ends[place - 1] }
+}
+
+impl TextList {
+    /// The list of nothing.
+    pub fn new(alloc: Global) -> TextList
+        ensures { result ≡ [] }
+    {
+        TextList {
+            bytes: String::new(alloc),
+            ends: Vec::new(alloc),
+        }
+    }
+
+    /// How many texts there are.
+    pub fn len(&self) -> usize
+        ensures { result ≡ length self.now }
+    {
+        self.ends.len()
+    }
+
+    /// The text at a place, from 0.
+    pub fn at(&self, place: usize) -> &str
+        requires { place < length self.now }
+        ensures { result.now ≡ slice_index_or self.now place [] }
+    {
+        let start = start_of(self.ends.as_slice(), place);
+        &self.bytes[start as usize..self.ends[place] as usize]
+    }
+
+    /// The texts, each in memory of its own.
+    pub fn to_items(&self, alloc: Global) -> Result<Items<Text>, AllocError>
+        ensures { IfOk result (λ items. items ≡ self.now) }
+    {
+        let mut items = Items::new(alloc);
+        for place in 0..self.len() {
+            items.push(Text::of(alloc, self.at(place))?)?;
+        }
+        Ok(items)
+    }
+
+    /// Adds a text at the end. All of them have fewer than 2 ^ 32 bytes together, and there is no
+    /// memory for more.
+    pub fn push(&mut self, text: &str) -> Result<(), AllocError>
+        ensures ok { OnOk result (self.new ≡ self.old ++ text.now ∷ []) }
+        ensures err { OnErr result (self.new ≡ self.old) }
+    {
+        let Ok(end) = u32::try_from(self.bytes.len() + text.len()) else {
+            return Err(AllocError);
+        };
+        // With room for the text its end is never added alone.
+        self.bytes.reserve(text.len())?;
+        self.ends.push(end)?;
+        self.bytes.push_str(text)
+    }
+}
