@@ -9,7 +9,7 @@ use crate::row::{
     DocumentRow, DutyRow, ExtractedRow, FrozenRow, PackageRow, ReleaseRow, RuleRow,
 };
 use crate::state::DutyState;
-use desk_base::{Day, Items, Text};
+use desk_base::{Day, Items, Text, TextList};
 use std::alloc::{AllocError, AllocFailed};
 use thiserror::Error;
 
@@ -52,7 +52,7 @@ pub enum Command {
         /// The SPDXID of a package of it.
         package_id: Text,
         /// The terms, in any spelling and order; a term may be there twice.
-        terms: Items<Text>,
+        terms: TextList,
     },
     /// A release is frozen, and its duties are raised.
     Freeze {

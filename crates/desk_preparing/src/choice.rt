@@ -20,7 +20,7 @@ ghost use Rattle.desk_model.specs.declared.command.Command.TheVariants.{Choose, 
 use crate::looking::{has_package, number_of, state_of};
 use desk_access::store::Store;
 use desk_access::texts::Texts;
-use desk_base::{Items, Text};
+use desk_base::{Items, Text, TextList};
 use desk_model::{Change, ChoiceRow, Fault, PackageRow, Plan, Refusal, ReleaseState, Verdict};
 use desk_packages::{Claim, InForce, claim_of, done, read_claim, refused, unready};
 use std::alloc::{AllocError, Global};
@@ -28,19 +28,23 @@ use std::alloc::{AllocError, Global};
 /// The terms that texts spell, or the place of the first that spells none.
 #[derive(Drop)]
 enum TermsRead {
-    Terms(Items<Text>),
+    Terms(TextList),
     BadTerm(usize),
 }
 
-fn read_terms<T: Texts>(alloc: Global, texts: &T, words: &[Text]) -> Result<TermsRead, AllocError>
+fn read_terms<T: Texts>(
+    alloc: Global,
+    texts: &T,
+    words: &TextList,
+) -> Result<TermsRead, AllocError>
     ensures { (w : Readings) → T.are_right w → IfOk result (AreTermsOf w words.now) }
 {
-    let mut terms = Items::new(alloc);
-    for (i, word) in words.iter().enumerate() {
-        let Some(term) = texts.term(alloc, word.as_str())? else {
+    let mut terms = TextList::new(alloc);
+    for i in 0..words.len() {
+        let Some(term) = texts.term(alloc, words.at(i))? else {
             return Ok(TermsRead::BadTerm(i));
         };
-        terms.push(term)?;
+        terms.push(term.as_str())?;
     }
     Ok(TermsRead::Terms(terms))
 }
@@ -273,13 +277,14 @@ fn choose_at<T: Texts>(
     place: &Place,
     claim: &Claim,
     package_id: &Text,
-    terms: Items<Text>,
+    terms: &TextList,
 ) -> Result<Plan, AllocError>
     ensures plan { (w : Readings) → T.are_right w
-        → IfOk result (IsPlan (choose_for w terms (read_claim w claim.now) place.now.row)
-        (chosen_change release.now place.now.document package_id.now (sorted_set terms))) }
+        → IfOk result (IsPlan (choose_for w terms.now (read_claim w claim.now) place.now.row)
+        (chosen_change release.now place.now.document package_id.now (sorted_set terms.now))) }
     ensures sound { IfOk result IsSound }
 {
+    let terms = terms.to_items(alloc)?;
     if let Some(refusal) = judge(alloc, texts, claim, &place.row, terms.as_slice())? {
         return Ok(refused(refusal));
     }
@@ -294,12 +299,12 @@ fn choose_here<T: Texts, S: Store>(
     release: &Text,
     place: &Place,
     package_id: &Text,
-    terms: Items<Text>,
+    terms: &TextList,
 ) -> Result<Plan, Fault>
     ensures plan { (w : Readings) → T.are_right w → IfOk result (λ plan.
         OfRows (λ t. IsPlan
-        (choose_for w terms (conclusion_found w t place.now.row) place.now.row)
-        (chosen_change release.now place.now.document package_id.now (sorted_set terms)) plan)
+        (choose_for w terms.now (conclusion_found w t place.now.row) place.now.row)
+        (chosen_change release.now place.now.document package_id.now (sorted_set terms.now)) plan)
         (S.seen store.old) (S.seen store.new)) }
     ensures kept { Plans (S.seen store.old) (S.seen store.new) result }
     ensures fault { IfErr result (MayFail S.tells) }
@@ -316,11 +321,11 @@ fn choose_terms<T: Texts, S: Store>(
     release: &Text,
     document: u64,
     package_id: &Text,
-    terms: Items<Text>,
+    terms: &TextList,
 ) -> Result<Plan, Fault>
     ensures plan { (w : Readings) → T.are_right w → IfOk result (λ plan.
-        OfRows (λ t. IsPlan (choose_found w t release.now document package_id.now terms)
-        (chosen_change release.now document package_id.now (sorted_set terms)) plan)
+        OfRows (λ t. IsPlan (choose_found w t release.now document package_id.now terms.now)
+        (chosen_change release.now document package_id.now (sorted_set terms.now)) plan)
         (S.seen store.old) (S.seen store.new)) }
     ensures kept { Plans (S.seen store.old) (S.seen store.new) result }
     ensures fault { IfErr result (MayFail S.tells) }
@@ -339,7 +344,7 @@ pub fn choose<T: Texts, S: Store>(
     release: &Text,
     document: u64,
     package_id: &Text,
-    words: &Items<Text>,
+    words: &TextList,
 ) -> Result<Plan, Fault>
     ensures plan { (w : Readings) → T.are_right w → IfOk result (λ plan.
         OfRows (IsPlanOf w (Choose release.now document package_id.now words.now) plan)
@@ -350,10 +355,10 @@ pub fn choose<T: Texts, S: Store>(
         result }
     ensures fault { IfErr result (MayFail S.tells) }
 {
-    match read_terms(alloc, texts, words.as_slice())? {
+    match read_terms(alloc, texts, words)? {
         TermsRead::BadTerm(i) => Ok(refused(Refusal::BadTerm(i))),
         TermsRead::Terms(terms) => choose_terms(
-            alloc, texts, store, release, document, package_id, terms,
+            alloc, texts, store, release, document, package_id, &terms,
         ),
     }
 }
