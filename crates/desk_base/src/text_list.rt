@@ -7,8 +7,8 @@ use crate::text::Text;
 use std::alloc::{AllocError, Global};
 use std::marker::Model;
 
-/// An owned list of texts in one piece of memory, seen as the list of the texts' bytes. Beside its
-/// bytes a text takes four more.
+/// An owned list of texts in one buffer, seen as the list of the texts' bytes. Beside its own
+/// bytes each text takes four more.
 #[derive(Drop)]
 pub struct TextList {
     // The texts, one behind the other.

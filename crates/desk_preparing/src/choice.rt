@@ -32,11 +32,7 @@ enum TermsRead {
     BadTerm(usize),
 }
 
-fn read_terms<T: Texts>(
-    alloc: Global,
-    texts: &T,
-    words: &TextList,
-) -> Result<TermsRead, AllocError>
+fn read_terms<T: Texts>(alloc: Global, texts: &T, words: &TextList) -> Result<TermsRead, AllocError>
     ensures { (w : Readings) → T.are_right w → IfOk result (AreTermsOf w words.now) }
 {
     let mut terms = TextList::new(alloc);
