@@ -69,7 +69,7 @@ module _ (d e : Data) (sizes : size e ≡ size d) (found : (key : List ℕ) → 
 
 -- ---- what is kept is what is found
 
-count_len : (ms : Members) → count ms ≡ members_len ms
+pub count_len : (ms : Members) → count ms ≡ members_len ms
 count_len no_members = refl
 count_len (member key d ms) = ap (λ n. n + 1) (count_len ms) ∙ add-one (members_len ms)
 

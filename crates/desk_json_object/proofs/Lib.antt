@@ -1,4 +1,5 @@
 mod Numbers
+mod Keeping
 mod Taking
 mod Telling
 mod Sparing

@@ -1,5 +1,5 @@
 -- What is kept of items and members that are read one after another.
-use Rattle.std.proofs.Common.{◌≡◌, ℕ, suc, ◌<◌, ◌≤◌, ◌&&◌, Bool, true, false, List, [], ◌∷◌, ◌++◌, length, Option, Some, None, is_some, option_map, option_and_then, String, Global, Ordering, Less, Equal, Greater, refl, sym, ap, ◌∙◌, arith}
+use Rattle.std.proofs.Common.{◌≡◌, ℕ, suc, ◌<◌, ◌≤◌, ◌&&◌, Bool, true, false, List, [], ◌∷◌, ◌++◌, Option, Some, None, is_some, option_map, option_and_then, Ordering, Less, Equal, Greater, refl, sym, ap, ◌∙◌, arith}
 use Rattle.std.specs.Ordering.{nat_cmp, match_ordering}
 use Rattle.std.specs.Cmp.Lexicographic.{slice_cmp}
 use Rattle.json.specs.Json as json
@@ -9,8 +9,7 @@ use Rattle.serde_json.specs.Data.{Data, string, object, Items, no_items, item, M
 use Rattle.serde_json.specs.Events.{members_len}
 use Rattle.serde_json.specs.Find.{as_str, as_object}
 use Rattle.serde_json.specs.Read.{of_json, of_members}
-use Rattle.serde_json.specs.View.{view, items_view, members_view}
-use Rattle.serde_json.specs.declared.value.Value.{Value}
+use Rattle.desk_json_object.specs.Seen.{texts_seen}
 use Rattle.desk_json_object.specs.Kept.{joined}
 use Rattle.desk_json_object.specs.Spared.{are_texts, spared, spared_members}
 use Rattle.desk_json_object.proofs.Taking.{members_in, converted_from}
@@ -31,9 +30,9 @@ pub joined_on : (before : Items) (d : Data) (taken : Option (Items × List Token
 joined_on before d None = refl
 joined_on before d (Some p) = ap (λ ds. Some (ds, p.1)) (joined_one before d p.0)
 
-pub items_view-more : (vs : List Value) (v : Value) → items_view (vs ++ v ∷ []) ≡ joined (items_view vs) (item (view v) no_items)
-items_view-more [] v = refl
-items_view-more (w ∷ vs) v = ap (item (view w)) (items_view-more vs v)
+pub texts_seen-more : (texts : List (List ℕ)) (text : List ℕ) → texts_seen (texts ++ text ∷ []) ≡ joined (texts_seen texts) (item (string text) no_items)
+texts_seen-more [] text = refl
+texts_seen-more (first ∷ texts) text = ap (item (string first)) (texts_seen-more texts text)
 
 both : (first rest : Bool) {more : Bool} → (first && rest) ≡ true → (rest ≡ true → more ≡ true) → (first && more) ≡ true
 both true true are more = more refl
@@ -82,12 +81,8 @@ spared_len : (ms : Members) → members_len (spared_members ms) ≡ members_len 
 spared_len no_members = refl
 spared_len (member key d ms) = ap suc (spared_len ms)
 
-view_len : (es : List (String Global × Value)) → members_len (members_view es) ≡ length es
-view_len [] = refl
-view_len (e ∷ es) = ap suc (view_len es)
-
-pub kept_len : (ms : Members) (es : List (String Global × Value)) → spared_members ms ≡ members_view es → members_len ms ≡ length es
-kept_len ms es kept = sym (spared_len ms) ∙ ap members_len kept ∙ view_len es
+pub kept_len : (ms kept : Members) → spared_members ms ≡ kept → members_len ms ≡ members_len kept
+kept_len ms kept same = sym (spared_len ms) ∙ ap members_len same
 
 put_more_by : (o : Ordering) (key name : List ℕ) (d e : Data) (ms more : Members) → members_len ms ≤ members_len more
     → members_len (member name e ms) ≤ members_len (match_ordering o (member key d (member name e ms)) (member name d ms) (member name e more))

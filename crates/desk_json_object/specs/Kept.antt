@@ -1,11 +1,9 @@
 -- What the parts of a reader keep.
-use Rattle.std.specs.Prelude.{◌≡◌, ℕ, ◌<◌, ◌≤◌, true, false, List, [], Option, Some, None, Result, Ok, Err, ⊤, Vec}
-use Rattle.std.specs.declared.alloc.Global.{Global}
+use Rattle.std.specs.Prelude.{◌≡◌, ℕ, ◌<◌, ◌≤◌, true, false, List, [], Option, Some, None, Result, Ok, Err, ⊤}
 use Rattle.json.specs.Token.{Token}
 use Rattle.serde_json.specs.Data.{Data, object, Items, no_items, item, Members}
 use Rattle.serde_json.specs.Events.{members_len}
-use Rattle.serde_json.specs.View.{items_view}
-use Rattle.serde_json.specs.declared.value.Value.{Value}
+use Rattle.desk_json_object.specs.Seen.{texts_seen}
 use Rattle.desk_json_object.specs.Spared.{spared, spared_members, are_texts}
 use Rattle.desk_json_object.specs.declared.object.Unread.{Unread}
 use Rattle.desk_json_object.specs.declared.object.Unread.TheVariants as why
@@ -22,11 +20,11 @@ joined no_items behind = behind
 joined (item d ds) behind = item d (joined ds behind)
 
 -- the items so far, where they are texts alone
-abbrev pub AreKept : Items → Option (Vec Value Global) → Type 0
-AreKept items (Some texts) = (items ≡ items_view texts.items) × (are_texts items ≡ true)
+abbrev pub AreKept : Items → Option (List (List ℕ)) → Type 0
+AreKept items (Some texts) = (items ≡ texts_seen texts) × (are_texts items ≡ true)
 AreKept items None = are_texts items ≡ false
 
-abbrev pub KeepsItems : Option (Items × List Token) → Option (Vec Value Global) → List Token → Type 0
+abbrev pub KeepsItems : Option (Items × List Token) → Option (List (List ℕ)) → List Token → Type 0
 KeepsItems taken texts rest = (ds : Items) × (taken ≡ Some (ds, rest)) × AreKept ds texts
 
 -- a value, of which this is kept

@@ -1,3 +1,4 @@
+pub mod Seen
 pub mod Taken
 pub mod Spared
 pub mod Kept

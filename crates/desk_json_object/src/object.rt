@@ -2,17 +2,17 @@
 
 ghost use Rattle.std.specs.Prelude.{◌≡◌, ◌≤◌, ◌<◌, ◌∷◌, [], length, Some, None, IfOk, OnOk, option_map};
 ghost use Rattle.json.specs.Reads.{token_of};
-ghost use Rattle.serde_json.specs.Data.{Data, string, object, Items, no_items, item, Members, no_members, put};
-ghost use Rattle.serde_json.specs.Events.{members_len};
-ghost use Rattle.serde_json.specs.View.{view, items_view, members_view};
+ghost use Rattle.serde_json.specs.Data.{Data, Items, no_items, item, no_members};
+ghost use Rattle.desk_json_object.specs.Seen.{member_seen, members_seen, seen};
 ghost use Rattle.desk_json_object.specs.Taken.{data_at, items_at, members_at};
-ghost use Rattle.desk_json_object.specs.Spared.{spared_members, IsSpared};
+ghost use Rattle.desk_json_object.specs.Spared.{IsSpared};
 ghost use Rattle.desk_json_object.specs.Kept.{joined, IsRefused, AreKept, KeepsItems, Keeps, KeepsMembers, AreTooMany, KeepsObject, IsNoObject};
 
+use crate::members::{Member, Object};
 use crate::number::number_of;
 use crate::passing::pass_rest;
+use desk_base::TextList;
 use json::{Invalid, Reader, Scratch, Token};
-use serde_json::{Map, Value};
 use std::alloc::{AllocError, Global};
 
 /// How deep the kit's `serde_json` takes arrays and objects in one another.
@@ -49,25 +49,14 @@ impl From<Invalid> for Unread {
     }
 }
 
-// Adds a text at the end of a list.
-fn push_text(alloc: Global, list: &mut Vec<Value>, text: &str) -> Result<(), AllocError>
-    ensures { OnOk result (items_view list.new.items
-        ≡ joined (items_view list.old.items) (item (string text.now) no_items)) }
-{
-    let text = String::from_str(alloc, text)?;
-    list.push(Value::String(text))?;
-    Ok(())
-}
-
 // The texts of an array with its next item, whose first token was taken: nothing where it or one
 // before it is no text.
 fn with_item(
-    alloc: Global,
     reader: &mut Reader<'_>,
-    texts: Option<Vec<Value>>,
+    texts: Option<TextList>,
     token: Token<'_>,
     depth: usize,
-) -> Result<Option<Vec<Value>>, Unread>
+) -> Result<Option<TextList>, Unread>
     ensures ok { (before : Items) → AreKept before texts → IfOk result (λ more.
         (d : Data) × (data_at depth (token_of token.entry ∷ reader.old) ≡ Some (d, reader.new))
         × AreKept (joined before (item d no_items)) more) }
@@ -77,7 +66,7 @@ fn with_item(
     match token {
         Token::String(text) => match texts {
             Some(mut list) => {
-                push_text(alloc, &mut list, text)?;
+                list.push(text)?;
                 Ok(Some(list))
             }
             None => Ok(None),
@@ -95,72 +84,53 @@ fn read_texts(
     alloc: Global,
     reader: &mut Reader<'_>,
     depth: usize,
-) -> Result<Option<Vec<Value>>, Unread>
+) -> Result<Option<TextList>, Unread>
     ensures ok { IfOk result (λ texts. KeepsItems (items_at depth reader.old) texts reader.new) }
     ensures left { OnOk result (length reader.new < length reader.old) }
     ensures err { IsRefused result → items_at depth reader.old ≡ None }
 {
-    let mut texts = Some(Vec::new(alloc));
+    let mut texts = Some(TextList::new(alloc));
     'items: while !reader.take_end_array() {
         let token = reader.next().ok_or(Invalid)?;
-        texts = with_item(alloc, reader, texts, token, depth)?;
+        texts = with_item(reader, texts, token, depth)?;
     }
     Ok(texts)
 }
 
 // The value of a member, as far as it is kept.
-fn read_member(alloc: Global, reader: &mut Reader<'_>) -> Result<Value, Unread>
-    ensures ok { IfOk result (λ v. Keeps (data_at 126 reader.old) (view v) reader.new) }
+fn read_member(alloc: Global, reader: &mut Reader<'_>) -> Result<Member, Unread>
+    ensures ok { IfOk result (λ m. Keeps (data_at 126 reader.old) (member_seen m) reader.new) }
     ensures left { OnOk result (length reader.new < length reader.old) }
     ensures err { IsRefused result → data_at 126 reader.old ≡ None }
 {
     let token = reader.next().ok_or(Invalid)?;
     match token {
-        Token::String(text) => Ok(Value::String(String::from_str(alloc, text)?)),
+        Token::String(text) => Ok(Member::Text(String::from_str(alloc, text)?)),
         Token::Number(text) => match number_of(text) {
-            Some(number) => Ok(Value::Number(number)),
+            Some(number) => Ok(Member::Number(number)),
             None => Err(Unread::NoObject),
         },
         Token::BeginArray => match read_texts(alloc, reader, DEPTH - 2)? {
-            Some(texts) => Ok(Value::Array(texts)),
-            None => Ok(Value::Null),
+            Some(texts) => Ok(Member::Texts(texts)),
+            None => Ok(Member::Other),
         },
         _ => {
             pass_rest(reader, token, DEPTH - 1)?;
-            Ok(Value::Null)
+            Ok(Member::Other)
         }
     }
 }
 
-// Puts a member to others, in place of one with its name.
-fn put_member(
-    alloc: Global,
-    found: &mut Map<String, Value>,
-    name: &str,
-    value: Value,
-) -> Result<(), AllocError>
-    ensures { OnOk result (members_view found.new.entries
-        ≡ put name.now (view value) (members_view found.old.entries)) }
-{
-    let key = String::from_str(alloc, name)?;
-    drop(found.insert(key, value)?);
-    Ok(())
-}
-
 // The members of an object up to its end, of which there are so many at most.
-fn read_members(
-    alloc: Global,
-    reader: &mut Reader<'_>,
-    most: usize,
-) -> Result<Map<String, Value>, Unread>
+fn read_members(alloc: Global, reader: &mut Reader<'_>, most: usize) -> Result<Object, Unread>
     ensures ok { IfOk result (λ found. KeepsMembers most (members_at no_members 126 reader.old)
-        (members_view found.entries) reader.new) }
+        (members_seen found.members.entries) reader.new) }
     ensures err { IsRefused result → AreTooMany most (members_at no_members 126 reader.old) }
 {
-    let mut found = Map::new(alloc);
+    let mut found = Object::new(alloc);
     'members: while let Some(name) = reader.next_key()? {
-        let value = read_member(alloc, reader)?;
-        put_member(alloc, &mut found, name, value)?;
+        let member = read_member(alloc, reader)?;
+        found.put(alloc, name, member)?;
         if found.len() > most {
             return Err(Unread::NoObject);
         }
@@ -169,13 +139,9 @@ fn read_members(
 }
 
 // The object at the head of tokens.
-fn read_begun(
-    alloc: Global,
-    reader: &mut Reader<'_>,
-    most: usize,
-) -> Result<Map<String, Value>, Unread>
+fn read_begun(alloc: Global, reader: &mut Reader<'_>, most: usize) -> Result<Object, Unread>
     ensures ok { IfOk result (λ found. KeepsObject most (data_at 127 reader.old)
-        (members_view found.entries) reader.new) }
+        (members_seen found.members.entries) reader.new) }
     ensures err { IsRefused result → IsNoObject most (data_at 127 reader.old) }
 {
     let token = reader.next().ok_or(Invalid)?;
@@ -186,27 +152,23 @@ fn read_begun(
 }
 
 // The object that tokens are to the last of them.
-fn read_tokens(
-    alloc: Global,
-    reader: &mut Reader<'_>,
-    most: usize,
-) -> Result<Map<String, Value>, Unread>
+fn read_tokens(alloc: Global, reader: &mut Reader<'_>, most: usize) -> Result<Object, Unread>
     ensures ok { IfOk result (λ found. KeepsObject most (data_at 127 reader.old)
-        (members_view found.entries) []) }
+        (members_seen found.members.entries) []) }
     ensures err { IsRefused result → IsNoObject most (data_at 127 reader.old) }
 {
-    let members = read_begun(alloc, reader, most)?;
+    let object = read_begun(alloc, reader, most)?;
     match reader.next() {
         Some(_) => Err(Unread::NoObject),
-        None => Ok(members),
+        None => Ok(object),
     }
 }
 
 /// The object that bytes are the JSON text of, if it has at most so many members: texts, numbers and
 /// lists of texts are kept, and nothing stands for any other value. Of a key that stands twice the
 /// last value counts.
-pub fn read_object(alloc: Global, bytes: &[u8], most: usize) -> Result<Option<Value>, AllocError>
-    ensures { IfOk result (λ found. IsSpared most bytes.now (option_map view found)) }
+pub fn read_object(alloc: Global, bytes: &[u8], most: usize) -> Result<Option<Object>, AllocError>
+    ensures { IfOk result (λ found. IsSpared most bytes.now (option_map seen found)) }
 {
     let Ok(text) = str::from_utf8(bytes) else {
         return Ok(None);
@@ -214,7 +176,7 @@ pub fn read_object(alloc: Global, bytes: &[u8], most: usize) -> Result<Option<Va
     let mut scratch = Scratch::new(alloc);
     let mut reader = Reader::new(text, &mut scratch)?;
     match read_tokens(alloc, &mut reader, most) {
-        Ok(members) => Ok(Some(Value::Object(members))),
+        Ok(object) => Ok(Some(object)),
         Err(Unread::NoObject) => Ok(None),
         Err(Unread::Memory) => Err(AllocError),
     }

@@ -4,19 +4,20 @@ use Rattle.json.proofs.Grammar.{value_is}
 use Rattle.serde_json.specs.Data.{string, item, no_items}
 use Rattle.serde_json.specs.Read.{of_json, converted}
 use Rattle.desk_json_object.specs.Kept.{joined, AreKept}
+use Rattle.desk_json_object.specs.Seen.{texts_seen}
 use Rattle.desk_json_object.specs.Taken.{data_at}
-use Rattle.desk_json_object.proofs.Sparing.{texts_more, no_texts_before, no_text_more}
+use Rattle.desk_json_object.proofs.Sparing.{texts_seen-more, texts_more, no_texts_before, no_text_more}
 use Rattle.desk_json_object.proofs.Telling.{tells, not_text}
 use Rattle.desk_json_object.proofs.object.with_item.Goals as goal
 
-pub returns-in_ok-push_text-in-Some-clause-ok : goal.returns-in_ok-push_text-in-Some-clause-ok
-returns-in_ok-push_text-in-Some-clause-ok c = λ before kept.
+pub returns-in_ok-push-in-Some-clause-ok : goal.returns-in_ok-push-in-Some-clause-ok
+returns-in_ok-push-in-Some-clause-ok c = λ before kept.
     let s = c.in-String.text.now in
     let texts = subst (AreKept before) c.in-Some.is kept in
     let text = item (string s) no_items in (
       string s,
       ap (λ k. data_at c.args.depth (token_of k ∷ c.args.reader.now)) c.in-String.is ∙ ap (converted of_json) (value_is c.args.depth _),
-      (ap (λ ds. joined ds text) texts.0 ∙ sym c.in_ok-push_text-in-Some.ensures, texts_more before s texts.1),
+      (ap (λ ds. joined ds text) texts.0 ∙ sym (texts_seen-more c.in-Some.list s) ∙ sym (ap texts_seen c.in_ok-push-in-Some.ensures.ok), texts_more before s texts.1),
     )
 
 pub returns-in-None-clause-ok : goal.returns-in-None-clause-ok
