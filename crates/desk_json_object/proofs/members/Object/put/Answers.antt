@@ -8,5 +8,6 @@ pub returns : goal.returns
 returns c =
     let old = c.args.self.now.members.entries in
     let copied : string_bytes c.in_ok-key.key ≡ c.args.name.now = search rules in
-    ap members_seen c.in_ok-insert.ensures.entries ∙ members_seen-insert_entry old c.in_ok-key.key c.args.member
+    ap members_seen c.in_ok-insert.ensures.entries
+    ∙ members_seen-insert_entry old c.in_ok-key.key c.args.member
     ∙ ap (λ name. put name (member_seen c.args.member) (members_seen old)) copied
