@@ -1,5 +1,5 @@
 -- What a query does to what is seen of a connection.
-use Rattle.std.proofs.Common.{◌≡◌, ◌⊎◌, inl, inr, ℕ, List, IsTrue, Option, Some, None, Ok, Err, Result, IfOk, OnErr, Vec, Global, sym, subst, ◌∙◌, ap, arith}
+use Rattle.std.proofs.Common.{◌≡◌, ◌⊎◌, inl, inr, ℕ, List, IsTrue, Option, Some, None, sym, subst, ◌∙◌, ap, arith}
 use Rattle.sqlite_trees.specs.Tree.{Trees}
 use Rattle.sqlite_value.specs.Order.{Row}
 use Rattle.sqlite_schema.specs.declared.command.Returning.{Returning}
@@ -9,12 +9,10 @@ use Rattle.sqlite.specs.Listing.{understood}
 use Rattle.sqlite.specs.Clock.{timed}
 use Rattle.sqlite.specs.State.{State, HasCleanDisk, Survives, IsUnchanged, IsRolledBack, FailsToQuery, FailsToShow, IsNotRun, Shown, ShowsRows, CommitsShowing}
 use Rattle.sqlite.proofs.Callers.{IsPlain, never_commits}
-use Rattle.desk_model.specs.declared.command.Fault.{Fault}
 use Rattle.desk_model.specs.Tables.{Tables}
-use Rattle.desk_access.specs.Seen.{Kept, Same, Looked, OfRows}
+use Rattle.desk_access.specs.Seen.{Kept, Same}
 use Rattle.desk_sql_layout.specs.Layout.{desk_schema}
 use Rattle.desk_sql_layout.specs.Held.{Holds, Showing, seen_of}
-use Rattle.desk_sql_lookup.specs.Streamed.{AreRead, ShowsRead}
 
 module _ (sql : List ℕ) (params : Row) (old new : State) where
   abbrev Moves : Type 0
@@ -39,7 +37,7 @@ module _ (sql : List ℕ) (params : Row) (old new : State) where
   rows_open c ps rows None h = (h.3.0.was_open, h.3.0.is_open)
   rows_open c ps rows (Some what) h = (h.1.shown.was_open, h.1.shown.is_open)
 
-  shown_open : (rows : List Row) → Shown sql params old new rows → IsTrue old.is_open × IsTrue new.is_open
+  pub shown_open : (rows : List Row) → Shown sql params old new rows → IsTrue old.is_open × IsTrue new.is_open
   unfolding Shown
   shown_open rows h = rows_open h.0 (timed params h.0.formats h.1.now) rows h.0.returning h.2
 
@@ -112,57 +110,3 @@ module _ (sql : List ℕ) (params : Row) (old new : State) where
       kept = keeps (λ clean t shows is. inl (shown_unchanged rows shows.holds.rows.declared plain (shown clean))) (λ clean is. (shown_open rows (shown clean)).0);
       stays = λ clean is. (shown_open rows (shown clean)).1;
     }
-
-  -- what a query showed is so of the tables that were held
-  pub of_shown : (rows : List Row) (Is : Tables → Type 0) → Same (seen_of old) (seen_of new) → (HasCleanDisk new → Shown sql params old new rows) → ((t : Tables) → Shown sql params old new rows → Holds t old.now → Is t)
-      → OfRows Is (seen_of old) (seen_of new)
-  of_shown rows Is same shown right = λ clean t holds. right t (shown clean) (holds (same.kept.spared.honest clean) (shown_open rows (shown clean)).0).holds
-
-module _ (sql : List ℕ) (params : Row) (old new : State) {V : Type 0} (r : Result V Fault) (items : V → List Row) where
-  -- what the rows of a query are of the tables that were held
-  pub found_by : (Is : Tables → List Row → Type 0) → ((rows : List Row) (t : Tables) → Shown sql params old new rows → Holds t old.now → Is t rows)
-      → IfOk r (λ rows. Same (seen_of old) (seen_of new) × (HasCleanDisk new → Shown sql params old new (items rows))) → IfOk r (λ rows. OfRows (λ t. Is t (items rows)) (seen_of old) (seen_of new))
-  found_by Is right = go r
-    where
-      go : (r : Result V Fault) → IfOk r (λ rows. Same (seen_of old) (seen_of new) × (HasCleanDisk new → Shown sql params old new (items rows))) → IfOk r (λ rows. OfRows (λ t. Is t (items rows)) (seen_of old) (seen_of new))
-      go (Ok rows) it = of_shown sql params old new (items rows) (λ t. Is t (items rows)) it.0 it.1 (right (items rows))
-      go (Err e) it = tt
-
-  pub looked_by : IfOk r (λ rows. Same (seen_of old) (seen_of new) × (HasCleanDisk new → Shown sql params old new (items rows))) → OnErr r (Kept (seen_of old) (seen_of new)) → Looked (seen_of old) (seen_of new) r
-  looked_by = go r
-    where
-      go : (r : Result V Fault) → IfOk r (λ rows. Same (seen_of old) (seen_of new) × (HasCleanDisk new → Shown sql params old new (items rows))) → OnErr r (Kept (seen_of old) (seen_of new)) → Looked (seen_of old) (seen_of new) r
-      go (Ok rows) it kept = it.0
-      go (Err e) it kept = kept
-
-module _ (sql : List ℕ) (params : Row) (old new : State) {T : Type 0} (cells : T → Row) (r : Result (Vec T Global) Fault) where
-  -- what `read_rows` tells of its call
-  abbrev pub HasReadRows : Type 0
-  HasReadRows =
-      IfOk r (λ found. Same (seen_of old) (seen_of new)
-      × (HasCleanDisk new → IsTrue old.is_open × (old.now.schema ≡ desk_schema → ShowsRead cells sql params old new found.items)))
-
-  -- what the rows that were read are of the tables that were held
-  pub read_by : (Is : Tables → List T → Type 0)
-      → ((rows : List Row) (found : List T) (t : Tables) → Shown sql params old new rows → Holds t old.now → AreRead cells rows found → Is t found)
-      → HasReadRows → IfOk r (λ found. OfRows (λ t. Is t found.items) (seen_of old) (seen_of new))
-  read_by Is right = go r
-    where
-      go : (r : Result (Vec T Global) Fault)
-          → IfOk r (λ found. Same (seen_of old) (seen_of new) × (HasCleanDisk new → IsTrue old.is_open × (old.now.schema ≡ desk_schema → ShowsRead cells sql params old new found.items)))
-          → IfOk r (λ found. OfRows (λ t. Is t found.items) (seen_of old) (seen_of new))
-      go (Ok found) it = λ clean t holds.
-          let was = it.1 clean in
-          let held = (holds (it.0.kept.spared.honest clean) was.0).holds in
-          let shown = was.1 held.rows.declared in
-          right shown.0 found.items t shown.1 held shown.2
-      go (Err e) it = tt
-
-  pub read_looked_by : HasReadRows → OnErr r (Kept (seen_of old) (seen_of new)) → Looked (seen_of old) (seen_of new) r
-  read_looked_by = go r
-    where
-      go : (r : Result (Vec T Global) Fault)
-          → IfOk r (λ found. Same (seen_of old) (seen_of new) × (HasCleanDisk new → IsTrue old.is_open × (old.now.schema ≡ desk_schema → ShowsRead cells sql params old new found.items)))
-          → OnErr r (Kept (seen_of old) (seen_of new)) → Looked (seen_of old) (seen_of new) r
-      go (Ok found) it kept = it.0
-      go (Err e) it kept = kept

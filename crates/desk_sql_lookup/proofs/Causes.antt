@@ -16,7 +16,7 @@ use Rattle.sqlite_resolve.specs.declared.error.CompileError.{CompileError}
 use Rattle.sqlite.specs.declared.error.Error.{Error}
 use Rattle.sqlite.specs.Effect.{Database, RefusesToRead}
 use Rattle.sqlite.specs.Listing.{understood, reads_listing, IsSourceOf}
-use Rattle.sqlite.specs.State.{State, HasCleanDisk, Survives, IsNoStatement, IsNotRun, Fails, FailsToQuery, Shown}
+use Rattle.sqlite.specs.State.{State, HasCleanDisk, Survives, IsNoStatement, IsNotRun, Fails, FailsToQuery}
 use Rattle.sqlite.proofs.Callers.{IsPlain, command_of}
 use Rattle.desk_model.specs.declared.command.Fault.{Fault}
 use Rattle.desk_model.specs.declared.command.Fault.TheVariants.{Memory, Store}
@@ -24,10 +24,9 @@ use Rattle.desk_model.specs.declared.command.StoreFault.TheVariants.{Database as
 use Rattle.desk_model.specs.Tables.{Tables}
 use Rattle.desk_access.specs.Seen.{Looked, MoreFaults, Same}
 use Rattle.desk_sql_layout.specs.Faults.{fault_by}
-use Rattle.desk_sql_layout.specs.Held.{seen_of, Holds}
+use Rattle.desk_sql_layout.specs.Held.{seen_of}
 use Rattle.desk_sql_layout.specs.Layout.{desk_schema}
 use Rattle.desk_sql_layout.proofs.Queries.{query_on}
-use Rattle.desk_sql_lookup.specs.Streamed.{CanBeRead}
 use Rattle.desk_sql_lookup.specs.Causes.{AreWritten, HasCauseIf, HasCause, IsAsked, IsRow}
 
 -- ---- what a query is refused for
@@ -199,13 +198,3 @@ module _ {X : Type 0} (cells : X → Row) (Is : Tables → Type 0) (old new : St
   pub values_cause : IfErr r (λ fault. (ys : List X) → rows ≡ map cells ys → AllByRecursion IsRow rows → AllByRecursion (λ y. Unit {0}) ys → fault ≡ Memory) → IfErr r (HasCauseIf Is old new)
   values_cause = read_cause Is old new r (λ fault. (ys : List X) → rows ≡ map cells ys → AllByRecursion IsRow rows → AllByRecursion (λ y. Unit {0}) ys → fault ≡ Memory)
       (λ clean t holds written is fault told. let it = shown clean t holds is in told (xs t) it (subst (AllByRecursion IsRow) (sym it) (all t written)) (no_days (xs t)))
-
--- rows that are read as a query shows them
-pub read_rows_cause : {X : Type 0} (cells : X → Row) (sql : List ℕ) (params : Row) (old new : State) {A : Type 0} (r : Result A Fault) (xs : Tables → List X)
-    → ((rows : List Row) (t : Tables) → Shown sql params old new rows → Holds t old.now → rows ≡ map cells (xs t)) → ((t : Tables) → AreWritten t → AllByRecursion IsRow (map cells (xs t)))
-    → IfErr r (HasCauseIf (CanBeRead cells (λ x. Unit {0}) sql params old new) old new) → IfErr r (HasCause old new)
-read_rows_cause cells sql params old new r xs shown all = IfErr-weaker r (HasCauseIf (CanBeRead cells (λ x. Unit {0}) sql params old new) old new) (HasCause old new) (λ fault has. record {
-  cause = λ clean opened unlimited t holds written any. has.cause clean opened unlimited t holds written (record {
-    reads = λ held rows it. let is = shown rows t it held in (xs t, is, subst (AllByRecursion IsRow) (sym is) (all t written), no_days (xs t));
-  });
-})

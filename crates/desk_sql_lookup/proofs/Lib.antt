@@ -1,6 +1,10 @@
 pub mod Ties
+pub mod Selecting
 pub mod Selects
 pub mod Keyed
+pub mod Tests
+pub mod Views
+pub mod Finding
 pub mod Calls
 pub mod Causes
 pub mod HolderLemmas
@@ -15,6 +19,7 @@ pub mod LookUps
 pub mod Loops
 pub mod StepLemmas
 pub mod DutyQueries
+pub mod ChangeQueries
 pub mod ReleaseQueries
 pub mod ChoiceQueries
 pub mod DocumentQueries

@@ -1,8 +1,8 @@
 -- What a look-up does, from what its calls do.
-use Rattle.std.proofs.Common.{◌≡◌, false, ℕ, List, map, IsTrue, Ok, Err, Result, IfErr, IfOk, OnErr, OnOk, Vec, Global, refl, ◌∙◌, ap}
+use Rattle.std.proofs.Common.{◌≡◌, inl, ℕ, List, map, IsTrue, Ok, Err, Result, IfErr, IfOk, OnErr, OnOk, Vec, Global, refl, sym, ◌∙◌, ap, subst}
 use Rattle.std.specs.List.{AllByRecursion}
 use Rattle.std.specs.Result.{IsErrAnd}
-use Rattle.std.proofs.lemmas.Result.{IfOk-weaker}
+use Rattle.std.proofs.lemmas.Result.{IfErr-weaker, IfOk-weaker}
 use Rattle.sqlite_trees.specs.declared.store.Store.{Ghosts}
 use Rattle.sqlite_value.specs.Order.{Row}
 use Rattle.sqlite.specs.Effect.{Database}
@@ -15,58 +15,141 @@ use Rattle.desk_model.specs.declared.command.Fault.{Fault}
 use Rattle.desk_model.specs.declared.command.Fault.TheVariants.{Memory}
 use Rattle.desk_access.specs.Seen.{Kept, Looked, OfRows, Same}
 use Rattle.desk_access.proofs.Chains.{same_self}
-use Rattle.desk_sql_layout.specs.Held.{Holds, seen_of}
+use Rattle.desk_sql_layout.specs.Held.{AreOrderly, Holds, seen_of}
 use Rattle.desk_sql_layout.specs.Layout.{desk_schema}
-use Rattle.desk_sql_lookup.specs.Causes.{AreWritten, HasCause, HasCauseIf, IsRow}
+use Rattle.desk_sql_lookup.specs.Causes.{AreWritten, HasCauseIf, IsAsked, IsRow}
 use Rattle.desk_sql_lookup.specs.LookUps.{LooksUp, LooksUpGiven}
-use Rattle.desk_sql_lookup.specs.Streamed.{AreRead}
-use Rattle.desk_sql_lookup.proofs.Calls.{HasReadRows, found_by, looked_by, read_by, read_looked_by, shown_unchanged}
-use Rattle.desk_sql_lookup.proofs.Causes.{any_cause, cause_after, memory_cause, rows_cause, values_cause}
+use Rattle.desk_sql_lookup.specs.Queried.{Queries, ReadsQuery}
+use Rattle.desk_sql_lookup.proofs.Calls.{shown_open, shown_unchanged}
+use Rattle.desk_sql_lookup.proofs.Causes.{any_cause, cause_after, memory_cause, no_days, rows_cause, values_cause}
+use Rattle.desk_sql_lookup.proofs.Finding.{Finds, FindsRows}
 use Rattle.desk_sql_lookup.proofs.Chains.{same_then_kept, same_then_same}
 
 -- ---- of a query
 
-module _ {S : Type 0} (g : Ghosts S) (sql : List ℕ) (params : Row) (old new : Held S) (plain : IsPlain (understood desk_schema sql)) (limit : new.step_limit ≡ old.step_limit) (mode : old.in_transaction ≡ false → new.in_transaction ≡ false) where
-  -- an answer leaves all as it was
-  abbrev Still : Type 0
-  Still = HasCleanDisk (state g new) → IsTrue (state g old).is_open → old.schema ≡ desk_schema → IsUnchanged (state g old) (state g new)
+module _ {S V : Type 0} (g : Ghosts S) {sql : List ℕ} {params : Row} (old new : Held S) (r : Result V Fault)
+    {Shows : V → Type 0} {Shown_if : Tables → Type 0} (asks : Queries g sql params old new r Shows Shown_if)
+    (asked : IsAsked sql params) where
+  plain : IsPlain (understood desk_schema sql)
+  plain = subst IsPlain (sym asked.is) asked.plain
 
-  shown_still : (rows : List Row) → (HasCleanDisk (state g new) → Shown sql params (state g old) (state g new) rows) → Still
-  shown_still rows shown = λ clean opened schema. shown_unchanged sql params (state g old) (state g new) rows schema plain (shown clean)
+  looked : Looked (seen_of (state g old)) (seen_of (state g new)) r
+  looked = go r (asks.ok plain) (asks.err plain)
+    where
+      go : (r : Result V Fault) → IfOk r (λ v. Same (seen_of (state g old)) (seen_of (state g new)) × (HasCleanDisk (state g new) → Shows v))
+          → OnErr r (Kept (seen_of (state g old)) (seen_of (state g new)))
+          → Looked (seen_of (state g old)) (seen_of (state g new)) r
+      go (Ok v) it kept = it.0
+      go (Err e) it kept = kept
+
+  -- what it found of the tables, from what it shows of the query
+  queried : (If : Tables → Type 0) (Is : V → Tables → Type 0)
+      → ((v : V) → Shows v → IsTrue (state g old).is_open)
+      → ((v : V) → Shows v → old.schema ≡ desk_schema → IsUnchanged (state g old) (state g new))
+      → ((v : V) (t : Tables) → Shows v → Holds t (state g old).now → Is v t)
+      → IfErr r (HasCauseIf If (state g old) (state g new)) → LooksUpGiven g If old new r Is
+  queried If Is opened still right cause = record {
+    found = IfOk-weaker r _ _ (λ v it clean t holds.
+        let shows = it.1 clean in
+        right v t shows (holds (it.0.kept.spared.honest clean) (opened v shows)).holds) (asks.ok plain);
+    kept = looked;
+    unchanged = go r (asks.ok plain);
+    cause = cause;
+    limit = asks.limit;
+    mode = asks.mode;
+  }
+    where
+      go : (r : Result V Fault) → IfOk r (λ v. Same (seen_of (state g old)) (seen_of (state g new)) × (HasCleanDisk (state g new) → Shows v))
+          → OnOk r (HasCleanDisk (state g new) → IsTrue (state g old).is_open → old.schema ≡ desk_schema → IsUnchanged (state g old) (state g new))
+      go (Ok v) it = λ clean is schema. still v (it.1 clean) schema
+      go (Err e) it = tt
+
+module _ {S : Type 0} (g : Ghosts S) {sql : List ℕ} {params : Row} (old new : Held S) where
+  shown_still : (rows : List Row) → IsAsked sql params → Shown sql params (state g old) (state g new) rows
+      → old.schema ≡ desk_schema → IsUnchanged (state g old) (state g new)
+  shown_still rows asked shown schema =
+      shown_unchanged sql params (state g old) (state g new) rows schema
+      (subst IsPlain (sym asked.is) asked.plain) shown
 
   -- the rows of a query
-  pub query_looks : (r : Result (Vec Row Global) Fault) (Is : Tables → List Row → Type 0) → ((rows : List Row) (t : Tables) → Shown sql params (state g old) (state g new) rows → Holds t (state g old).now → Is t rows)
-      → IfOk r (λ rows. Same (seen_of (state g old)) (seen_of (state g new)) × (HasCleanDisk (state g new) → Shown sql params (state g old) (state g new) rows.items))
-      → OnErr r (Kept (seen_of (state g old)) (seen_of (state g new))) → IfErr r (HasCause (state g old) (state g new)) → LooksUp g old new r (λ rows t. Is t rows.items)
-  query_looks r Is right ok err cause = record {
-    found = found_by sql params (state g old) (state g new) r (λ v. v.items) Is right ok;
-    kept = looked_by sql params (state g old) (state g new) r (λ v. v.items) ok err;
-    unchanged = still r ok;
-    cause = cause;
-    limit = limit;
-    mode = mode;
-  }
-    where
-      still : (r : Result (Vec Row Global) Fault) → IfOk r (λ rows. Same (seen_of (state g old)) (seen_of (state g new)) × (HasCleanDisk (state g new) → Shown sql params (state g old) (state g new) rows.items)) → OnOk r Still
-      still (Ok rows) it = shown_still rows.items it.1
-      still (Err e) it = tt
+  pub query_finds : {Is : Tables → List Row → Type 0} → Finds sql params Is → (r : Result (Vec Row Global) Fault)
+      → Queries g sql params old new r (λ rows. Shown sql params (state g old) (state g new) rows.items)
+      (λ t. Unit {0})
+      → LooksUp g old new r (λ rows t. Is t rows.items)
+  query_finds {Is} it r asks =
+      queried g old new r asks it.asked (λ t. Unit {0}) (λ rows t. Is t rows.items)
+      (λ rows shown. (shown_open sql params (state g old) (state g new) rows.items shown).0)
+      (λ rows shown schema. shown_still rows.items it.asked shown schema)
+      (λ rows t shown holds. it.right (state g old) (state g new) rows.items t shown holds) (asks.cause it.asked)
 
-  -- rows of a query that were read one by one
-  pub read_looks : {T : Type 0} (cells : T → Row) (r : Result (Vec T Global) Fault) (Is : Tables → List T → Type 0)
-      → ((rows : List Row) (found : List T) (t : Tables) → Shown sql params (state g old) (state g new) rows → Holds t (state g old).now → AreRead cells rows found → Is t found)
-      → HasReadRows sql params (state g old) (state g new) cells r → OnErr r (Kept (seen_of (state g old)) (seen_of (state g new))) → IfErr r (HasCause (state g old) (state g new)) → LooksUp g old new r (λ found t. Is t found.items)
-  read_looks {T} cells r Is right ok err cause = record {
-    found = read_by sql params (state g old) (state g new) cells r Is right ok;
-    kept = read_looked_by sql params (state g old) (state g new) cells r ok err;
-    unchanged = still r ok;
-    cause = cause;
-    limit = limit;
-    mode = mode;
+  -- rows of a query that were read
+  pub rows_found : {T V : Type 0} {cells : T → Row} {xs : Tables → List T} → FindsRows sql params cells xs
+      → (r : Result V Fault) (Told : V → List T → Type 0)
+      → ReadsQuery g cells (λ x. Unit {0}) Told sql params old new r
+      → (If : Tables → Type 0) (Is : V → Tables → Type 0)
+      → ((v : V) (t : Tables) → AreOrderly t → Told v (xs t) → Is v t) → LooksUpGiven g If old new r Is
+  rows_found {cells = cells} {xs = xs} it r Told asks If Is so =
+      queried g old new r asks it.finds.asked If Is (λ v shows. shows.0)
+      (λ v shows schema. let told = shows.1 schema in shown_still told.0 it.finds.asked told.1 schema)
+      (λ v t shows held.
+      let told = shows.1 held.rows.declared in
+      so v t held.orderly (told.2 (xs t) (it.finds.right (state g old) (state g new) told.0 t told.1 held)))
+      (IfErr-weaker r _ _ (λ fault has. record {
+        cause = λ clean opened unlimited t holds written any. has.cause clean opened unlimited t holds written (record {
+          reads = λ held rows shown.
+              let is = it.finds.right (state g old) (state g new) rows t shown held in
+              (xs t, is, subst (AllByRecursion IsRow) (sym is) (it.written t written), no_days (xs t));
+        });
+      }) (asks.cause it.finds.asked))
+
+  -- rows that a query showed are read, in any way
+  pub rows_told : {T V : Type 0} (cells : T → Row) (has_days : T → Type 0) (Told : V → List T → Type 0) (rows : Vec Row Global)
+      → Queries g sql params old new (Ok rows) (λ rows. Shown sql params (state g old) (state g new) rows.items)
+      (λ t. Unit {0})
+      → (r : Result V Fault) → IfOk r (λ v. (xs : List T) → rows.items ≡ map cells xs → Told v xs)
+      → IfErr r (λ fault. (xs : List T) → rows.items ≡ map cells xs → AllByRecursion IsRow rows.items
+      → AllByRecursion has_days xs → fault ≡ Memory)
+      → ReadsQuery g cells has_days Told sql params old new r
+  rows_told {V = V} cells has_days Told rows asks r value cause = record {
+    ok = λ plain.
+        let it = asks.ok plain in
+        IfOk-weaker r _ _ (λ v told. (
+          it.0,
+          λ clean. (
+            (shown_open sql params (state g old) (state g new) rows.items (it.1 clean)).0,
+            λ schema. (rows.items, it.1 clean, told),
+          ),
+        )) value;
+    err = λ plain. kept r (asks.ok plain).0.kept;
+    cause = λ asked.
+        let shown = (asks.ok (subst IsPlain (sym asked.is) asked.plain)).1 in
+        IfErr-weaker r _ _ (λ fault told. record {
+          cause = λ clean opened unlimited t holds written can.
+              let held = (holds ((asks.ok (subst IsPlain (sym asked.is) asked.plain)).0.kept.spared.honest clean) opened).holds in
+              let read = can.reads held rows.items (shown clean) in
+              inl (told read.0 read.1 read.2 read.3);
+        }) cause;
+    limit = asks.limit;
+    mode = asks.mode;
   }
     where
-      still : (r : Result (Vec T Global) Fault) → HasReadRows sql params (state g old) (state g new) cells r → OnOk r Still
-      still (Ok found) it = λ clean opened schema. let shown = (it.1 clean).1 schema in shown_unchanged sql params (state g old) (state g new) shown.0 schema plain shown.1
-      still (Err e) it = tt
+      kept : (r : Result V Fault) → Kept (seen_of (state g old)) (seen_of (state g new))
+          → OnErr r (Kept (seen_of (state g old)) (seen_of (state g new)))
+      kept (Ok v) it = tt
+      kept (Err e) it = it
+
+  -- a query failed, and `?` hands its fault on
+  pub query_failed : {V W : Type 0} {Shows : V → Type 0} {Tells : W → Type 0} (If : Tables → Type 0) (fault : Fault)
+      → Queries g sql params old new (Err fault) Shows (λ t. Unit {0}) → (r : Result W Fault)
+      → IsErrAnd r (λ e. e ≡ fault) → Queries g sql params old new r Tells If
+  query_failed If fault asks (Ok v) is = absurd is
+  query_failed If fault asks (Err e) is = record {
+    ok = λ plain. tt;
+    err = asks.err;
+    cause = λ asked. rw is (any_cause If (state g old) (state g new) fault (asks.cause asked));
+    limit = asks.limit;
+    mode = asks.mode;
+  }
 
 -- ---- of what was looked up
 

@@ -40,7 +40,7 @@ use Rattle.desk_sql_lookup.proofs.Ties.{are_keys, keys, picked, ascending_among,
 abbrev pub order_by : List ℕ → List (Term × Key)
 order_by = map (λ p. (col 1 p, ascending Binary))
 
-keys_are : (ps : List ℕ) → map (λ (k : Term × Key). k.1) (order_by ps) ≡ keys ps
+pub keys_are : (ps : List ℕ) → map (λ (k : Term × Key). k.1) (order_by ps) ≡ keys ps
 keys_are [] = refl
 keys_are (p ∷ ps) = ap (λ l. ascending Binary ∷ l) (keys_are ps)
 
@@ -156,28 +156,38 @@ module _ (name : List ℕ) (tree : ℕ) (columns : List Column) (key : Option �
       pub counts : length shown ≡ length (filter p xs)
       counts = length_permutation _ _ shows_some ∙ length-map (filter p xs) (λ x. (u (f x)).1)
 
-      module _ (apart : AreApart ps (db.trees tree)) (sorted : IsAscending (λ a b. is_lt (output_cmp asked (u (f b)) (u (f a))) ≡ false) (filter p xs)) where
+      module _ (apart : AreApart ps (db.trees tree)) where
         no_ties : IsAscending (λ a b. is_eq (output_cmp asked a b) ≡ false) outs
         no_ties =
-            ascending-map (λ a b. is_eq (output_cmp asked a b) ≡ false) (λ r. output asked (env params r)) (filter (passes tests params) (db.trees tree))
-            (ascending_among _ _ (filter (passes tests params) (db.trees tree)) (λ a b ha hb h. rw (keys_are ps, picked_is ps params a, picked_is ps params b) h)
+            ascending-map (λ a b. is_eq (output_cmp asked a b) ≡ false) (λ r. output asked (env params r))
+            (filter (passes tests params) (db.trees tree))
+            (ascending_among _ _ (filter (passes tests params) (db.trees tree))
+            (λ a b ha hb h. rw (keys_are ps, picked_is ps params a, picked_is ps params b) h)
             (ascending-filter _ (passes tests params) (db.trees tree) apart))
-
-        wanted_sorted : IsAscending (λ a b. is_lt (output_cmp asked b a) ≡ false) wanted
-        wanted_sorted = ascending-map (λ a b. is_lt (output_cmp asked b a) ≡ false) (λ x. u (f x)) (filter p xs) sorted
-
-        as_wanted : wanted ≡ answer.ordered
-        as_wanted =
-            let cmp = output_cmp asked in
-            let total = output_cmp_total asked in
-            sorted_is-sort_by cmp total outs wanted no_ties (IsPermutation-sym _ _ outs_are) (sorted_from cmp wanted wanted_sorted) ∙ sym (sorted_is-sort_by cmp total outs answer.ordered no_ties answer.same answer.sorted)
-
-        pub shows : shown ≡ map (λ x. (u (f x)).1) (filter p xs)
-        shows = let out = λ (o : Output). o.1 in answer.shown ∙ ap (map out) (sym as_wanted) ∙ map-map out (λ x. u (f x)) (filter p xs)
 
         -- none of them are at one key
         pub apart_shown : IsAscending (λ a b. is_eq (output_cmp asked (u (f a)) (u (f b))) ≡ false) (filter p xs)
         apart_shown =
             let cmp = output_cmp asked in
             ascending_from_map (λ a b. is_eq (cmp a b) ≡ false) (λ x. u (f x)) (filter p xs)
-            (apart_permuted (λ a b. is_eq (cmp a b)) (λ a b. ap is_eq ((output_cmp_total asked).antisymm a b) ∙ is_eq-reverse (cmp b a)) outs wanted (IsPermutation-sym _ _ outs_are) no_ties)
+            (apart_permuted (λ a b. is_eq (cmp a b))
+            (λ a b. ap is_eq ((output_cmp_total asked).antisymm a b) ∙ is_eq-reverse (cmp b a)) outs wanted
+            (IsPermutation-sym _ _ outs_are) no_ties)
+
+        module _ (sorted : IsAscending (λ a b. is_lt (output_cmp asked (u (f b)) (u (f a))) ≡ false) (filter p xs)) where
+          wanted_sorted : IsAscending (λ a b. is_lt (output_cmp asked b a) ≡ false) wanted
+          wanted_sorted =
+              ascending-map (λ a b. is_lt (output_cmp asked b a) ≡ false) (λ x. u (f x)) (filter p xs) sorted
+
+          as_wanted : wanted ≡ answer.ordered
+          as_wanted =
+              let cmp = output_cmp asked in
+              let total = output_cmp_total asked in
+              sorted_is-sort_by cmp total outs wanted no_ties (IsPermutation-sym _ _ outs_are)
+              (sorted_from cmp wanted wanted_sorted)
+              ∙ sym (sorted_is-sort_by cmp total outs answer.ordered no_ties answer.same answer.sorted)
+
+          pub shows : shown ≡ map (λ x. (u (f x)).1) (filter p xs)
+          shows =
+              let out = λ (o : Output). o.1 in
+              answer.shown ∙ ap (map out) (sym as_wanted) ∙ map-map out (λ x. u (f x)) (filter p xs)

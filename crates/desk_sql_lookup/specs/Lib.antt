@@ -1,5 +1,6 @@
 pub mod Causes
 pub mod LookUps
+pub mod Queried
 pub mod Rules
 pub mod Shown
 pub mod Standings

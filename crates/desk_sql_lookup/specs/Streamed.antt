@@ -18,9 +18,14 @@ use Rattle.desk_sql_lookup.specs.Causes.{IsRow}
 abbrev pub AreRead : {T : Type 0} → (T → Row) → List Row → List T → Type 0
 AreRead {T} cells rows found = (xs : List T) → rows ≡ map cells xs → found ≡ xs
 
+-- a query showed rows, of which this was read: `Told` says what it is of those whose cells they are
+abbrev pub ShowsTold : {T V : Type 0} → (T → Row) → (V → List T → Type 0) → List ℕ → Row → State → State → V → Type 0
+ShowsTold {T} cells Told sql params old new value =
+    (rows : List Row) × Shown sql params old new rows × ((xs : List T) → rows ≡ map cells xs → Told value xs)
+
 -- a query showed rows, which were read
 abbrev pub ShowsRead : {T : Type 0} → (T → Row) → List ℕ → Row → State → State → List T → Type 0
-ShowsRead cells sql params old new found = (rows : List Row) × Shown sql params old new rows × AreRead cells rows found
+ShowsRead {T} cells = ShowsTold cells (λ (found xs : List T). found ≡ xs)
 
 -- one more row of a query is read, or there is none more
 abbrev pub ReadsOn : {S T : Type 0} → Ghosts S → (T → Row) → List ℕ → Row → Held S → Held S → List Row → Option T → Type 0

@@ -13,30 +13,13 @@ ghost use Rattle.desk_sql_lookup.specs.Causes.{IsRow};
 ghost use Rattle.desk_sql_lookup.specs.LookUps.{LooksUp, LooksUpIf};
 
 use crate::columns::{ROWS, number_at};
-use crate::query::{among, query, read_rows, text};
-use crate::read::{read_all, read_first};
+use crate::query::{among, query, read_one, read_rows, text};
 use desk_base::{Items, Profile};
 use desk_model::{Fault, PackageRow};
 use desk_sql_layout::values::{flag, number};
 use sqlite::{Alter, Connection, Row};
 use sqlite_value::value::ValueRef;
 use std::alloc::Global;
-
-fn select_document<S: Alter>(
-    conn: &mut Connection<S>,
-    documents: u32,
-    n: u64,
-) -> Result<Vec<Row>, Fault>
-    ensures { LooksUp S.Store conn.old conn.new result (λ rows t.
-        length t.document ≡ documents → rows.items ≡ map known_cells
-        (map known_document (filter (is_document n) t.document))) }
-{
-    query(
-        conn,
-        "SELECT document, profile FROM reading WHERE document = ?1 ORDER BY document",
-        &[among(n, documents)],
-    )
-}
 
 /// What is known of a document, if it has this number.
 fn numbered(found: Option<(u32, Profile)>, number: u64) -> Result<Option<(u32, Profile)>, Fault>
@@ -62,25 +45,13 @@ pub fn document<S: Alter>(
         found ≡ option_map known_document (find (is_document number) t.document)) }
     ensures same { IfOk result (λ found. IfSome found (λ known. known.0 ≡ number)) }
 {
-    let rows = select_document(conn, documents, number)?;
-    let found = read_first(alloc, &rows)?;
-    numbered(found, number)
-}
-
-fn select_document_bytes<S: Alter>(
-    conn: &mut Connection<S>,
-    documents: u32,
-    n: u64,
-) -> Result<Vec<Row>, Fault>
-    ensures { LooksUp S.Store conn.old conn.new result (λ rows t.
-        length t.document ≡ documents → rows.items ≡ map bytes_cells
-        (map (λ row. row.bytes) (filter (is_document n) t.document))) }
-{
-    query(
+    let found = read_one(
+        alloc,
         conn,
-        "SELECT bytes FROM document WHERE number = ?1 ORDER BY number",
-        &[among(n, documents)],
-    )
+        "SELECT document, profile FROM reading WHERE document = ?1 ORDER BY document",
+        &[among(number, documents)],
+    )?;
+    numbered(found, number)
 }
 
 /// The bytes of a document, of so many documents.
@@ -94,8 +65,12 @@ fn document_bytes<S: Alter>(
         result (λ found t.
         found ≡ option_map (λ row. row.bytes) (find (is_document number) t.document)) }
 {
-    let rows = select_document_bytes(conn, documents, number)?;
-    read_first(alloc, &rows)
+    read_one(
+        alloc,
+        conn,
+        "SELECT bytes FROM document WHERE number = ?1 ORDER BY number",
+        &[among(number, documents)],
+    )
 }
 
 /// The source of a document, from its bytes and what else is known of it.
@@ -176,23 +151,6 @@ pub fn import_of<S: Alter>(
     first_import(&rows, bytes)
 }
 
-fn select_package<S: Alter>(
-    conn: &mut Connection<S>,
-    documents: u32,
-    document: u64,
-    id: &str,
-) -> Result<Vec<Row>, Fault>
-    ensures { LooksUp S.Store conn.old conn.new result (λ rows t.
-        length t.document ≡ documents → rows.items ≡ map package_cells
-        (filter (is_package document id.now) t.packages)) }
-{
-    query(
-        conn,
-        "SELECT document, id, name, version, concluded, copyright, shipped FROM package WHERE document = ?1 AND id = ?2 ORDER BY document, id",
-        &[among(document, documents), text(id)],
-    )
-}
-
 /// A package of a document, of so many documents.
 pub fn package_row<S: Alter>(
     alloc: Global,
@@ -204,8 +162,12 @@ pub fn package_row<S: Alter>(
     ensures { LooksUpIf S.Store (λ t. length t.document ≡ documents) conn.old conn.new
         result (λ found t. found ≡ find (is_package document id.now) t.packages) }
 {
-    let rows = select_package(conn, documents, document, id)?;
-    read_first(alloc, &rows)
+    read_one(
+        alloc,
+        conn,
+        "SELECT document, id, name, version, concluded, copyright, shipped FROM package WHERE document = ?1 AND id = ?2 ORDER BY document, id",
+        &[among(document, documents), text(id)],
+    )
 }
 
 /// The shipped packages of a document, by id.

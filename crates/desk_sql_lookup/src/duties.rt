@@ -7,26 +7,10 @@ ghost use Rattle.desk_model.specs.Keys.{is_duty, is_duty_of};
 ghost use Rattle.desk_sql_lookup.specs.LookUps.{LooksUp, LooksUpIf};
 
 use crate::columns::ROWS;
-use crate::query::{among, query, text};
-use crate::read::{read_all, read_first};
+use crate::query::{among, read_one, read_rows, text};
 use desk_model::{DutyRow, Fault};
-use sqlite::{Alter, Connection, Row};
+use sqlite::{Alter, Connection};
 use std::alloc::Global;
-
-fn select_duty<S: Alter>(
-    conn: &mut Connection<S>,
-    duties: u32,
-    number: u64,
-) -> Result<Vec<Row>, Fault>
-    ensures { LooksUp S.Store conn.old conn.new result (λ rows t.
-        length t.duty ≡ duties → rows.items ≡ map duty_cells (filter (is_duty number) t.duty)) }
-{
-    query(
-        conn,
-        "SELECT number, release, document, package, term, code, rule, state FROM duty WHERE number = ?1 ORDER BY number",
-        &[among(number, duties)],
-    )
-}
 
 /// A duty, if it has this number.
 fn numbered(found: Option<DutyRow>, number: u64) -> Result<Option<DutyRow>, Fault>
@@ -51,20 +35,13 @@ pub fn duty<S: Alter>(
         result (λ found t. found ≡ duty_found t number) }
     ensures same { IfOk result (λ found. IfSome found (λ row. row.number ≡ number)) }
 {
-    let rows = select_duty(conn, duties, number)?;
-    let found = read_first(alloc, &rows)?;
-    numbered(found, number)
-}
-
-fn select_duties_of<S: Alter>(conn: &mut Connection<S>, release: &str) -> Result<Vec<Row>, Fault>
-    ensures { LooksUp S.Store conn.old conn.new result (λ rows t.
-        rows.items ≡ map duty_cells (filter (is_duty_of release.now) t.duty)) }
-{
-    query(
+    let found = read_one(
+        alloc,
         conn,
-        "SELECT number, release, document, package, term, code, rule, state FROM duty WHERE release = ?1 ORDER BY number",
-        &[text(release)],
-    )
+        "SELECT number, release, document, package, term, code, rule, state FROM duty WHERE number = ?1 ORDER BY number",
+        &[among(number, duties)],
+    )?;
+    numbered(found, number)
 }
 
 /// The duties of a release, by number.
@@ -76,6 +53,10 @@ pub fn duties_of<S: Alter>(
     ensures { LooksUp S.Store conn.old conn.new result (λ found t.
         found.items ≡ filter (is_duty_of release.now) t.duty) }
 {
-    let rows = select_duties_of(conn, release)?;
-    read_all(alloc, &rows)
+    read_rows(
+        alloc,
+        conn,
+        "SELECT number, release, document, package, term, code, rule, state FROM duty WHERE release = ?1 ORDER BY number",
+        &[text(release)],
+    )
 }

@@ -8,29 +8,13 @@ ghost use Rattle.desk_sql_lookup.specs.Shown.{is_conclusion_in, text_cells};
 ghost use Rattle.desk_sql_lookup.specs.LookUps.{LooksUp};
 
 use crate::columns::{number_at, text_at};
-use crate::query::{query, read_rows, text};
-use crate::read::{ReadRow, read_first};
+use crate::query::{read_one, read_rows, text};
+use crate::read::ReadRow;
 use desk_base::Text;
 use desk_model::{ConclusionRow, Fault};
 use desk_sql_layout::values::number;
 use sqlite::{Alter, Connection, Row};
 use std::alloc::Global;
-
-fn select_conclusion<S: Alter>(
-    conn: &mut Connection<S>,
-    document: u32,
-    id: &str,
-) -> Result<Vec<Row>, Fault>
-    ensures { LooksUp S.Store conn.old conn.new result (λ rows t.
-        rows.items ≡ map text_cells (map (λ row. row.expression)
-        (filter (is_conclusion document id.now) t.conclusion))) }
-{
-    query(
-        conn,
-        "SELECT expression FROM conclusion WHERE document = ?1 AND package = ?2 ORDER BY document, package",
-        &[number(document), text(id)],
-    )
-}
 
 /// What the office concluded for a package of a document.
 pub fn conclusion<S: Alter>(
@@ -42,8 +26,12 @@ pub fn conclusion<S: Alter>(
     ensures { LooksUp S.Store conn.old conn.new result (λ found t.
         found ≡ office_text t.conclusion document id.now) }
 {
-    let rows = select_conclusion(conn, document, id)?;
-    read_first(alloc, &rows)
+    read_one(
+        alloc,
+        conn,
+        "SELECT expression FROM conclusion WHERE document = ?1 AND package = ?2 ORDER BY document, package",
+        &[number(document), text(id)],
+    )
 }
 
 impl ReadRow for ConclusionRow {
@@ -75,22 +63,6 @@ pub fn conclusions_in<S: Alter>(
     )
 }
 
-fn select_adoption<S: Alter>(
-    conn: &mut Connection<S>,
-    document: u32,
-    reference: &str,
-) -> Result<Vec<Row>, Fault>
-    ensures { LooksUp S.Store conn.old conn.new result (λ rows t.
-        rows.items ≡ map text_cells (map (λ row. row.licence)
-        (filter (is_adoption document reference.now) t.adoption))) }
-{
-    query(
-        conn,
-        "SELECT licence FROM adoption WHERE document = ?1 AND reference = ?2 ORDER BY document, reference",
-        &[number(document), text(reference)],
-    )
-}
-
 /// The licence that a reference of a document is adopted as.
 pub fn adoption<S: Alter>(
     alloc: Global,
@@ -101,8 +73,12 @@ pub fn adoption<S: Alter>(
     ensures { LooksUp S.Store conn.old conn.new result (λ found t.
         found ≡ licence_for t.adoption document reference.now) }
 {
-    let rows = select_adoption(conn, document, reference)?;
-    read_first(alloc, &rows)
+    read_one(
+        alloc,
+        conn,
+        "SELECT licence FROM adoption WHERE document = ?1 AND reference = ?2 ORDER BY document, reference",
+        &[number(document), text(reference)],
+    )
 }
 
 /// The references of a document that are adopted, by their bytes.

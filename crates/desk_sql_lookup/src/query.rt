@@ -1,22 +1,20 @@
 //! A query of the database.
 
-ghost use Rattle.std.specs.Prelude.{◌≡◌, ◌+◌, ℕ, List, min, false, IsTrue, IfErr, IfOk, OnErr};
+ghost use Rattle.std.specs.Prelude.{◌≡◌, ◌+◌, ℕ, List, min, false, IfErr, IfOk, slice_get};
 ghost use Rattle.desk_sql_layout.specs.Cells.{number};
-ghost use Rattle.sqlite.specs.Given.{HasGiven, IsPlain};
+ghost use Rattle.sqlite.specs.Given.{HasGiven};
 ghost use Rattle.sqlite.specs.Held.{state};
-ghost use Rattle.sqlite.specs.Listing.{understood};
 ghost use Rattle.sqlite.specs.State.{HasCleanDisk, IsUnchanged, Shown};
 ghost use Rattle.sqlite.specs.Values.{bound, bound_value};
 ghost use Rattle.sqlite_value.specs.Order.{Row as Cells};
 ghost use Rattle.sqlite_value.specs.Value.{owned};
 ghost use Rattle.sqlite_value.specs.declared.value.Value.TheVariants.{Text as Words};
-ghost use Rattle.desk_access.specs.Seen.{Kept, Looked, Same};
+ghost use Rattle.desk_access.specs.Seen.{Looked};
 ghost use Rattle.desk_sql_layout.specs.Held.{seen_of};
-ghost use Rattle.desk_sql_layout.specs.Layout.{desk_schema};
-ghost use Rattle.desk_sql_lookup.specs.Causes.{HasCause, HasCauseIf, IsAsked};
-ghost use Rattle.desk_sql_lookup.specs.Streamed.{CanBeRead, FailsToReadOn, ReadsOn, ShowsRead};
+ghost use Rattle.desk_sql_lookup.specs.Queried.{Queries, ReadsQuery};
+ghost use Rattle.desk_sql_lookup.specs.Streamed.{FailsToReadOn, ReadsOn};
 
-use crate::read::ReadRow;
+use crate::read::{ReadRow, read_first};
 use desk_model::Fault;
 use desk_sql_layout::fault::fault_of;
 use sqlite::{Alter, Connection, Row, Rows};
@@ -29,19 +27,10 @@ pub(crate) fn query<S: Alter>(
     sql: &str,
     params: &[ValueRef<'_>],
 ) -> Result<Vec<Row>, Fault>
-    ensures ok { IsPlain (understood desk_schema sql.now)
-        → IfOk result (λ rows. Same (seen_of (state S.Store conn.old))
-        (seen_of (state S.Store conn.new))
-        × (HasCleanDisk (state S.Store conn.new)
-        → Shown sql.now (bound params.now) (state S.Store conn.old)
-        (state S.Store conn.new) rows.items)) }
-    ensures err { IsPlain (understood desk_schema sql.now)
-        → OnErr result (Kept (seen_of (state S.Store conn.old))
-        (seen_of (state S.Store conn.new))) }
-    ensures cause { IsAsked sql.now (bound params.now) → IfErr result (HasCause
-        (state S.Store conn.old) (state S.Store conn.new)) }
-    ensures limit { conn.new.step_limit ≡ conn.old.step_limit }
-    ensures mode { conn.old.in_transaction ≡ false → conn.new.in_transaction ≡ false }
+    ensures { Queries S.Store sql.now (bound params.now) conn.old conn.new result
+        (λ rows. Shown sql.now (bound params.now) (state S.Store conn.old)
+        (state S.Store conn.new) rows.items)
+        (λ t. Unit {0}) }
 {
     match conn.query_all(sql, params) {
         Ok(rows) => Ok(rows),
@@ -90,22 +79,8 @@ pub(crate) fn read_rows<S: Alter, T: ReadRow + Drop>(
     sql: &str,
     params: &[ValueRef<'_>],
 ) -> Result<Vec<T>, Fault>
-    ensures ok { IsPlain (understood desk_schema sql.now)
-        → IfOk result (λ found. Same (seen_of (state S.Store conn.old))
-        (seen_of (state S.Store conn.new))
-        × (HasCleanDisk (state S.Store conn.new) → IsTrue (state S.Store conn.old).is_open
-        × ((state S.Store conn.old).now.schema ≡ desk_schema
-        → ShowsRead T.ReadRow.cells sql.now (bound params.now) (state S.Store conn.old)
-        (state S.Store conn.new) found.items))) }
-    ensures err { IsPlain (understood desk_schema sql.now)
-        → OnErr result (Kept (seen_of (state S.Store conn.old))
-        (seen_of (state S.Store conn.new))) }
-    ensures cause { IsAsked sql.now (bound params.now)
-        → IfErr result (HasCauseIf (CanBeRead T.ReadRow.cells T.ReadRow.has_days sql.now
-        (bound params.now) (state S.Store conn.old) (state S.Store conn.new))
-        (state S.Store conn.old) (state S.Store conn.new)) }
-    ensures limit { conn.new.step_limit ≡ conn.old.step_limit }
-    ensures mode { conn.old.in_transaction ≡ false → conn.new.in_transaction ≡ false }
+    ensures { ReadsQuery S.Store T.ReadRow.cells T.ReadRow.has_days
+        (λ found rows. found.items ≡ rows) sql.now (bound params.now) conn.old conn.new result }
 {
     let mut found = Vec::new(alloc);
     let mut rows = match conn.query(sql, params) {
@@ -120,6 +95,20 @@ pub(crate) fn read_rows<S: Alter, T: ReadRow + Drop>(
     }
     // No memory holds so many rows.
     Err(Fault::Memory)
+}
+
+/// The first row of a query that changes nothing, if there is one.
+pub(crate) fn read_one<S: Alter, T: ReadRow + Drop>(
+    alloc: Global,
+    conn: &mut Connection<S>,
+    sql: &str,
+    params: &[ValueRef<'_>],
+) -> Result<Option<T>, Fault>
+    ensures { ReadsQuery S.Store T.ReadRow.cells T.ReadRow.has_days
+        (λ found rows. found ≡ slice_get rows 0) sql.now (bound params.now) conn.old conn.new result }
+{
+    let rows = query(conn, sql, params)?;
+    read_first(alloc, &rows)
 }
 
 /// A text as a query takes it.

@@ -10,24 +10,12 @@ ghost use Rattle.desk_model.specs.Keys.{is_attachment, is_choice_of, is_release}
 ghost use Rattle.desk_sql_lookup.specs.Shown.{text_cells};
 ghost use Rattle.desk_sql_lookup.specs.LookUps.{LooksUp};
 
-use crate::query::{query, read_rows, text};
-use crate::read::{read_all, read_first};
+use crate::query::{query, read_one, read_rows, text};
 use desk_base::Text;
 use desk_model::{AttachedRow, Fault, FrozenRow, ReleaseRow};
 use desk_sql_layout::values::number;
 use sqlite::{Alter, Connection, Row};
 use std::alloc::Global;
-
-fn select_release<S: Alter>(conn: &mut Connection<S>, name: &str) -> Result<Vec<Row>, Fault>
-    ensures { LooksUp S.Store conn.old conn.new result (λ rows t.
-        rows.items ≡ map release_cells (filter (is_release name.now) t.releases)) }
-{
-    query(
-        conn,
-        "SELECT name, place, form, state, revision FROM releases WHERE name = ?1 ORDER BY name",
-        &[text(name)],
-    )
-}
 
 /// The release with a name.
 pub fn release<S: Alter>(
@@ -38,18 +26,11 @@ pub fn release<S: Alter>(
     ensures { LooksUp S.Store conn.old conn.new result (λ found t.
         found ≡ release_found t name.now) }
 {
-    let rows = select_release(conn, name)?;
-    read_first(alloc, &rows)
-}
-
-fn select_releases<S: Alter>(conn: &mut Connection<S>) -> Result<Vec<Row>, Fault>
-    ensures { LooksUp S.Store conn.old conn.new result (λ rows t.
-        rows.items ≡ map release_cells t.releases) }
-{
-    query(
+    read_one(
+        alloc,
         conn,
-        "SELECT name, place, form, state, revision FROM releases ORDER BY name",
-        &[],
+        "SELECT name, place, form, state, revision FROM releases WHERE name = ?1 ORDER BY name",
+        &[text(name)],
     )
 }
 
@@ -60,18 +41,11 @@ pub fn release_rows<S: Alter>(
 ) -> Result<Vec<ReleaseRow>, Fault>
     ensures { LooksUp S.Store conn.old conn.new result (λ found t. found.items ≡ t.releases) }
 {
-    let rows = select_releases(conn)?;
-    read_all(alloc, &rows)
-}
-
-fn select_attached<S: Alter>(conn: &mut Connection<S>, release: &str) -> Result<Vec<Row>, Fault>
-    ensures { LooksUp S.Store conn.old conn.new result (λ rows t.
-        rows.items ≡ map attached_cells (attached_to t.attached release.now)) }
-{
-    query(
+    read_rows(
+        alloc,
         conn,
-        "SELECT release, document FROM attached WHERE release = ?1 ORDER BY release, document",
-        &[text(release)],
+        "SELECT name, place, form, state, revision FROM releases ORDER BY name",
+        &[],
     )
 }
 
@@ -84,8 +58,12 @@ pub fn attached<S: Alter>(
     ensures { LooksUp S.Store conn.old conn.new result (λ found t.
         found.items ≡ attached_to t.attached release.now) }
 {
-    let rows = select_attached(conn, release)?;
-    read_all(alloc, &rows)
+    read_rows(
+        alloc,
+        conn,
+        "SELECT release, document FROM attached WHERE release = ?1 ORDER BY release, document",
+        &[text(release)],
+    )
 }
 
 /// Whether a document is among those attached to a release.
@@ -132,23 +110,6 @@ pub fn attached_count<S: Alter>(conn: &mut Connection<S>, release: &str) -> Resu
     Ok(rows.len() as u64)
 }
 
-pub(crate) fn select_chosen<S: Alter>(
-    conn: &mut Connection<S>,
-    release: &str,
-    document: u32,
-    id: &str,
-) -> Result<Vec<Row>, Fault>
-    ensures { LooksUp S.Store conn.old conn.new result (λ rows t.
-        rows.items ≡ map text_cells (map (λ row. row.term)
-        (filter (is_choice_of release.now document id.now) t.choice))) }
-{
-    query(
-        conn,
-        "SELECT term FROM choice WHERE release = ?1 AND document = ?2 AND package = ?3 ORDER BY release, document, package, term",
-        &[text(release), number(document), text(id)],
-    )
-}
-
 /// The terms chosen for a package in a release, in order.
 pub fn chosen<S: Alter>(
     alloc: Global,
@@ -161,8 +122,12 @@ pub fn chosen<S: Alter>(
         found.items ≡ map (λ row. row.term)
         (filter (is_choice_of release.now document id.now) t.choice)) }
 {
-    let rows = select_chosen(conn, release, document, id)?;
-    read_all(alloc, &rows)
+    read_rows(
+        alloc,
+        conn,
+        "SELECT term FROM choice WHERE release = ?1 AND document = ?2 AND package = ?3 ORDER BY release, document, package, term",
+        &[text(release), number(document), text(id)],
+    )
 }
 
 /// The terms that a release was frozen with, by document and package, each with its rule.

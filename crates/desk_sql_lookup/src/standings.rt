@@ -11,14 +11,13 @@ ghost use Rattle.desk_sql_lookup.specs.Standings.{and_some, ended_standing, has_
 ghost use Rattle.desk_sql_lookup.specs.LookUps.{LooksUp, LooksUpIf};
 
 use crate::changes::{changes_of, steps};
-use crate::query::{query, read_rows, text};
-use crate::read::read_all;
+use crate::query::{read_rows, text};
 use crate::rows::StateRow;
 use crate::runs::standings_from;
 use desk_base::Day;
 use desk_model::{ChangeRow, DutyRow, DutyState, Fault, Standing};
 use desk_sql_layout::values::duty_state;
-use sqlite::{Alter, Connection, Row};
+use sqlite::{Alter, Connection};
 use std::alloc::{AllocError, Global};
 
 /// Where a duty stands.
@@ -106,24 +105,17 @@ pub fn standings_of<S: Alter>(
     standings(alloc, conn, duties, &rows)
 }
 
-fn select_duties_at<S: Alter>(conn: &mut Connection<S>, place: DutyState) -> Result<Vec<Row>, Fault>
-    ensures { LooksUp S.Store conn.old conn.new result (λ rows t.
-        rows.items ≡ map duty_cells (filter (stands_at (duty_state_name place)) t.duty)) }
-{
-    query(
-        conn,
-        "SELECT number, release, document, package, term, code, rule, state FROM duty WHERE state = ?1 ORDER BY number",
-        &[duty_state(place)],
-    )
-}
-
 /// The duties that are waived, by number.
 fn waived<S: Alter>(alloc: Global, conn: &mut Connection<S>) -> Result<Vec<DutyRow>, Fault>
     ensures { LooksUp S.Store conn.old conn.new result (λ found t.
         found.items ≡ filter (stands_at (duty_state_name DutyState.Waived)) t.duty) }
 {
-    let rows = select_duties_at(conn, DutyState::Waived)?;
-    read_all(alloc, &rows)
+    read_rows(
+        alloc,
+        conn,
+        "SELECT number, release, document, package, term, code, rule, state FROM duty WHERE state = ?1 ORDER BY number",
+        &[duty_state(DutyState::Waived)],
+    )
 }
 
 /// The last day of the last change, if that is a waiver that ends.

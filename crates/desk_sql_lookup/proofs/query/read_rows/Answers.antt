@@ -12,8 +12,8 @@ use Rattle.desk_sql_lookup.proofs.Chains.{same_then_kept, same_then_same}
 use Rattle.desk_sql_lookup.proofs.Streaming.{begun_open, begun_read, begun_same, read_all, read_failed, read_on}
 use Rattle.desk_sql_lookup.proofs.query.read_rows.Goals as goal
 
-pub returns-in-Err-clause-err : goal.returns-in-Err-clause-err
-returns-in-Err-clause-err g c = λ plain.
+pub returns-in-Err : goal.returns-in-Err
+returns-in-Err g c =
     let sql = c.args.sql.now in
     let params = bound c.args.params.now in
     let old = state g.S.Store c.args.conn.now in
@@ -21,19 +21,17 @@ returns-in-Err-clause-err g c = λ plain.
     let held = c.query.follows.holds-at-none in
     let survives : Survives old new (CommitsShowing sql params old) = search rules in
     let fails : HasCleanDisk new → FailsToQuery sql params old new c.in-Err.error = search rules in
-    failed sql params old new plain survives c.in-Err.error fails
-
-pub returns-in-Err-clause-cause : goal.returns-in-Err-clause-cause
-returns-in-Err-clause-cause g c = λ asked.
-    let sql = c.args.sql.now in
-    let params = bound c.args.params.now in
-    let old = state g.S.Store c.args.conn.now in
-    let new = state g.S.Store c.query.follows.lender-at-none in
-    let held = c.query.follows.holds-at-none in
-    let survives : Survives old new (CommitsShowing sql params old) = search rules in
-    let fails : HasCleanDisk new → FailsToQuery sql params old new c.in-Err.error = search rules in
-    let has = failed_cause sql params old new (CommitsShowing sql params old) survives asked c.in-Err.error fails in
-    rw c.fault_of.ensures (any_cause (CanBeRead g.T.ReadRow.cells g.T.ReadRow.has_days sql params old new) old new (fault_by c.in-Err.error) has)
+    record {
+      ok = λ plain. tt;
+      err = λ plain. failed sql params old new plain survives c.in-Err.error fails;
+      cause = λ asked.
+          rw c.fault_of.ensures
+          (any_cause (CanBeRead g.T.ReadRow.cells g.T.ReadRow.has_days sql params old new) old new
+          (fault_by c.in-Err.error)
+          (failed_cause sql params old new (CommitsShowing sql params old) survives asked c.in-Err.error fails));
+      limit = search rules;
+      mode = search rules;
+    }
 
 pub rows-init : goal.rows-init
 rows-init g c =
@@ -49,52 +47,69 @@ rows-init g c =
       read = λ plain. rw c.new-found.ensures.items (begun_read g.S.Store g.T.ReadRow.cells sql params c.args.conn.now c.in-Ok.rows.conn.now plain made.begun);
     }
 
-pub returns-in_err-row-clause-err : goal.returns-in_err-row-clause-err
-returns-in_err-row-clause-err g c = λ plain.
+pub returns-in_err-row : goal.returns-in_err-row
+returns-in_err-row g c =
+    let sql = c.args.sql.now in
+    let params = bound c.args.params.now in
     let first = seen_of (state g.S.Store c.args.conn.now) in
     let old = seen_of (state g.S.Store c.rows.rows.conn.now) in
     let new = seen_of (state g.S.Store c.read_next.new.rows.conn.now) in
-    let kept = same_then_kept first old new (c.rows.invariant.same plain) c.in_err-row.ensures.kept in
-    search rules
-
-pub returns-in_err-row-clause-cause : goal.returns-in_err-row-clause-cause
-returns-in_err-row-clause-cause g c = λ asked.
-    let sql = c.args.sql.now in
-    let params = bound c.args.params.now in
-    let plain = subst IsPlain (sym asked.is) asked.plain in
     let step = c.in_err-row.ensures in
-    let has = read_failed g.S.Store g.T.ReadRow.cells g.T.ReadRow.has_days sql params asked c.args.conn.now c.rows.rows.conn.now c.read_next.new.rows.conn.now c.rows.found.items
-    (c.rows.invariant.same plain) step.kept.spared.honest c.rows.invariant.limit (c.rows.invariant.read plain) c.in_err-row.field-0.0 (λ clean. step.cause clean sql params) in
-    err_cause _ _ _ c.from_residual.result c.in_err-row.field-0.0 c.from_residual.ensures.1 (search rules)
+    let fault = c.in_err-row.field-0.0 in
+    record {
+      ok = search rules;
+      err = λ plain. let kept = same_then_kept first old new (c.rows.invariant.same plain) step.kept in search rules;
+      cause = λ asked.
+          let plain = subst IsPlain (sym asked.is) asked.plain in
+          let has = read_failed g.S.Store g.T.ReadRow.cells g.T.ReadRow.has_days sql params asked c.args.conn.now
+          c.rows.rows.conn.now c.read_next.new.rows.conn.now c.rows.found.items (c.rows.invariant.same plain)
+          step.kept.spared.honest c.rows.invariant.limit (c.rows.invariant.read plain) fault
+          (λ clean. step.cause clean sql params) in
+          err_cause _ _ _ c.from_residual.result fault c.from_residual.ensures.1 (search rules);
+      limit = search rules;
+      mode = search rules;
+    }
 
-pub returns-in_err-push-in-Some-clause-cause : goal.returns-in_err-push-in-Some-clause-cause
-returns-in_err-push-in-Some-clause-cause g c = λ asked.
-    memory_err _ _ _ c.from_residual-in_err-push-in-Some.result c.from_residual-in_err-push-in-Some.ensures.1
-
-pub returns-in_err-push-in-Some-clause-err :
-    goal.returns-in_err-push-in-Some-clause-err
-returns-in_err-push-in-Some-clause-err g c = λ plain.
+pub returns-in_err-push-in-Some : goal.returns-in_err-push-in-Some
+returns-in_err-push-in-Some g c =
     let first = seen_of (state g.S.Store c.args.conn.now) in
     let old = seen_of (state g.S.Store c.rows.rows.conn.now) in
     let new = seen_of (state g.S.Store c.read_next.new.rows.conn.now) in
-    let same = same_then_same first old new (c.rows.invariant.same plain) c.in_ok-row.ensures.kept in
-    let kept = same.kept in
-    search rules
+    record {
+      ok = search rules;
+      err = λ plain.
+          let same = same_then_same first old new (c.rows.invariant.same plain) c.in_ok-row.ensures.kept in
+          let kept = same.kept in
+          search rules;
+      cause = λ asked.
+          memory_err _ _ _ c.from_residual-in_err-push-in-Some.result c.from_residual-in_err-push-in-Some.ensures.1;
+      limit = search rules;
+      mode = search rules;
+    }
 
-pub returns-in-None-clause-ok : goal.returns-in-None-clause-ok
-returns-in-None-clause-ok g c = λ plain.
+pub returns-in-None : goal.returns-in-None
+returns-in-None g c =
     let sql = c.args.sql.now in
     let params = bound c.args.params.now in
     let first = seen_of (state g.S.Store c.args.conn.now) in
     let old = seen_of (state g.S.Store c.rows.rows.conn.now) in
     let new = seen_of (state g.S.Store c.read_next.new.rows.conn.now) in
-    let same = same_then_same first old new (c.rows.invariant.same plain) c.in_ok-row.ensures.kept in
-    let opened = c.rows.invariant.opened in
-    let honest = c.in_ok-row.ensures.kept.kept.spared.honest in
-    let shown = read_all g.S.Store g.T.ReadRow.cells sql params plain c.args.conn.now c.rows.rows.conn.now c.read_next.new.rows.conn.now c.rows.found.items
-    c.in_ok-row.ensures.kept.kept.spared.honest (c.rows.invariant.read plain)
-    (λ clean. let moved = c.in_ok-row.ensures.reads clean in (moved.0, λ given has. rw c.in-None.is at (moved.1 sql params given has))) in
-    search rules
+    record {
+      ok = λ plain.
+          let same = same_then_same first old new (c.rows.invariant.same plain) c.in_ok-row.ensures.kept in
+          let opened = c.rows.invariant.opened in
+          let honest = c.in_ok-row.ensures.kept.kept.spared.honest in
+          let shown = read_all g.S.Store g.T.ReadRow.cells sql params plain c.args.conn.now c.rows.rows.conn.now
+          c.read_next.new.rows.conn.now c.rows.found.items honest (c.rows.invariant.read plain)
+          (λ clean.
+          let moved = c.in_ok-row.ensures.reads clean in
+          (moved.0, λ given has. rw c.in-None.is at (moved.1 sql params given has))) in
+          search rules;
+      err = search rules;
+      cause = search rules;
+      limit = search rules;
+      mode = search rules;
+    }
 
 pub rows-preserved : goal.rows-preserved
 rows-preserved g c =

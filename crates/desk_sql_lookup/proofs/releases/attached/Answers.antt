@@ -1,13 +1,11 @@
-use Rattle.std.proofs.Common.{◌≡◌, filter, ◌∙◌}
-use Rattle.desk_model.specs.Keys.{is_attached_to}
-use Rattle.desk_sql_layout.specs.Cells.{attached_cells}
-use Rattle.desk_sql_lookup.proofs.Causes.{filter_written}
-use Rattle.desk_sql_lookup.proofs.LookUps.{then_values}
+use Rattle.std.proofs.Common.{◌≡◌}
+use Rattle.desk_model.specs.History.{attached_to}
+use Rattle.desk_sql_lookup.proofs.ReleaseQueries.{attached_finds}
+use Rattle.desk_sql_lookup.proofs.LookUps.{rows_found}
 use Rattle.desk_sql_lookup.proofs.releases.attached.Goals as goal
 
 pub returns : goal.returns
 returns g c =
-    let p = is_attached_to c.args.release.now in
-    then_values g.S.Store c.args.conn.now c.select_attached.new.conn c.in_ok-rows.ensures (λ t. Unit {0}) c.read_all.result (λ found t. found.items ≡ filter p t.attached) attached_cells c.deref.result.now (λ t. filter p t.attached)
-    (λ clean t held any. c.deref.ensures.value ∙ c.in_ok-rows.ensures.found clean t held) (λ t written. filter_written attached_cells attached_cells (λ x row. row) p t.attached (written.cells 17))
-    (λ found rows. found.items ≡ rows) (λ found t is. is tt) c.read_all.ensures.value c.read_all.ensures.cause
+    rows_found g.S.Store c.args.conn.now c.read_rows.new.conn (attached_finds c.args.release.now) c.read_rows.result (λ found rows. found.items ≡ rows)
+    (rw c.text.ensures at c.read_rows.ensures) (λ t. Unit {0})
+    (λ found t. found.items ≡ attached_to t.attached c.args.release.now) (λ found t orderly is. is)

@@ -1,4 +1,4 @@
-use Rattle.std.proofs.Common.{◌≡◌, ◌∙◌, ◌≤◌, ◌+◌, length, arith, subst, Ok}
+use Rattle.std.proofs.Common.{◌∙◌, arith, subst, Ok}
 use Rattle.desk_sql_lookup.specs.Steps.{AreCounts, HaveSteps}
 use Rattle.desk_sql_lookup.proofs.LookUps.{then_tells}
 use Rattle.desk_sql_lookup.proofs.StepLemmas.{have_steps}
