@@ -1,5 +1,5 @@
 -- What a database is to a migration, and what one that holds a desk's tables in an older version tells.
-use Rattle.std.proofs.Common.{◌≡◌, ◌≢◌, ℕ, ℤ, pos, negsuc, Bool, true, false, List, [], ◌∷◌, map, filter, length, take, codes, Option, Some, None, Ok, inl, inr, refl, sym, ap, subst, subst₂, ◌∙◌, arith, IfSome, IfNone, IsPermutation}
+use Rattle.std.proofs.Common.{◌≡◌, ◌≢◌, ℕ, ℤ, pos, negsuc, Bool, true, false, List, [], ◌∷◌, map, length, codes, Option, Some, None, inr, refl, sym, ap, subst, subst₂, ◌∙◌, arith, IfSome, IfNone, IsPermutation}
 use Rattle.std.specs.Prelude.{◌==◌}
 use Rattle.std.specs.List.{AllByRecursion}
 use Rattle.std.proofs.lemmas.Bool.Decides.{nat_tests}
@@ -19,7 +19,6 @@ use Rattle.sqlite.specs.Listing.{understood, reads_listing}
 use Rattle.sqlite.specs.State.{State, Shown}
 use Rattle.sqlite.proofs.Callers.{IsPlain, command_of, one_permutation, reads_as}
 use Rattle.desk_sql_layout.specs.Layout.{meta_table}
-use Rattle.desk_sql_layout.specs.Cells.{number}
 use Rattle.desk_sql_layout.specs.Stored.{AreStored}
 use Rattle.desk_sql_layout.proofs.Queries.{query_on, env, selected}
 use Rattle.desk_sql_lookup.proofs.Selects.{order_by}

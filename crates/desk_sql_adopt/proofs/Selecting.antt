@@ -1,38 +1,20 @@
--- What the library makes of the text of a query, known once for all that is said of it.
-use Rattle.std.proofs.Common.{◌≡◌, ℕ, true, false, List, [], length, None, Ok, subst}
+-- What the library makes of the text of a query by any schema.
+use Rattle.std.proofs.Common.{◌≡◌, ℕ, List, None, Ok}
 use Rattle.sqlite_value.specs.declared.keys.Key.{Key}
-use Rattle.sqlite_value.specs.Order.{Row}
 use Rattle.sqlite_sql.specs.Term.{Term}
-use Rattle.sqlite_typing.specs.Types.{accepts_program}
 use Rattle.sqlite_schema.specs.declared.schema.Schema.{Schema}
-use Rattle.sqlite_schema.specs.declared.schema.Table.{Table}
-use Rattle.sqlite_schema.specs.declared.command.Command.TheVariants.{Select}
 use Rattle.sqlite_resolve.specs.Lowering.{and_then}
 use Rattle.sqlite_resolve.specs.Compile.{first, returning}
-use Rattle.sqlite.specs.Listing.{understood, reads_listing}
-use Rattle.sqlite.proofs.Callers.{IsPlain, command_of}
-use Rattle.desk_sql_layout.specs.Layout.{desk_schema, table_of}
-use Rattle.desk_sql_layout.proofs.Queries.{query_on}
-use Rattle.desk_sql_lookup.specs.Causes.{IsAsked}
-use Rattle.desk_sql_lookup.proofs.Causes.{Suits, asked}
+use Rattle.desk_sql_lookup.proofs.Selecting.{IsSelect}
 use Rattle.desk_sql_adopt.specs.Reading.{Asks}
 use Rattle.desk_sql_adopt.proofs.Asking.{asks}
 
--- a text with so many parameters is this query of a table, by any schema it changes nothing, and the library plans it as it stands
-pub record IsSelect (text : List ℕ) (parameters tree : ℕ) (tests project : List Term) (by : List (Term × Key)) (names : List (List ℕ)) : Type 0 where
+-- this query of a table, by the desk's schema, which by no schema changes anything
+pub record IsBareSelect (text : List ℕ) (parameters tree : ℕ) (tests project : List Term) (by : List (Term × Key))
+    (names : List (List ℕ)) : Type 0 where
   pub bare : (schema : Schema) (base : ℕ) → and_then (first text) (λ p. returning schema base p.statement) ≡ Ok None
-  pub is : (command_of (understood desk_schema text) ≡ Select (record { lets = []; body = query_on tree tests project by }) names) × (reads_listing desk_schema text ≡ false)
-  pub plain : IsPlain (understood desk_schema text)
-  pub suits : Suits text parameters (understood desk_schema text)
+  pub select : IsSelect text parameters tree tests project by names
 
-module _ {text : List ℕ} {parameters tree : ℕ} {tests project : List Term} {by : List (Term × Key)} {names : List (List ℕ)} (it : IsSelect text parameters tree tests project by names) where
-  pub select_asks : Asks text
-  select_asks = asks text it.bare
-
-  -- with these values
-  pub select_asked : (params : Row) → parameters ≡ length params → accepts_program desk_schema [] (query_on tree tests project by) params ≡ true → IsAsked text params
-  select_asked params many accepts = asked text params tree tests project by names it.is it.plain (subst (λ n. Suits text n (understood desk_schema text)) many it.suits) accepts
-
--- a table by its parts, beside which a desk's tables have none
-abbrev pub as_declared : Table → Table
-as_declared table = table_of table.name table.tree table.columns table.key table.primary table.uniques table.orders
+pub select_asks : {text : List ℕ} {parameters tree : ℕ} {tests project : List Term} {by : List (Term × Key)}
+    {names : List (List ℕ)} → IsBareSelect text parameters tree tests project by names → Asks text
+select_asks {text} it = asks text it.bare

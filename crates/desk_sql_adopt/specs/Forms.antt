@@ -1,5 +1,5 @@
 -- What a form declares.
-use Rattle.std.specs.Prelude.{◌≡◌, ℕ, List, [], map, Bool, true, false}
+use Rattle.std.specs.Prelude.{◌≡◌, ℕ, List, [], map, true, false}
 use Rattle.std.specs.Borrow.{Bor}
 use Rattle.sqlite_value.specs.Keys.{plain}
 use Rattle.sqlite_value.specs.declared.keys.Order.{Order}

@@ -1,6 +1,6 @@
 -- Databases of older versions: what they hold, and what becomes of it. Version 1 has neither the profiles of documents nor the last days
 -- of waivers, version 2 not the last days.
-use Rattle.std.specs.Prelude.{◌≡◌, ◌≢◌, ◌⊎◌, ℕ, pos, Bool, true, false, not, ◌==◌, if◌then◌else◌, List, [], ◌∷◌, map, take, Some, None}
+use Rattle.std.specs.Prelude.{◌≡◌, ◌≢◌, ◌⊎◌, ℕ, pos, true, false, not, ◌==◌, if◌then◌else◌, List, [], ◌∷◌, map, take, Some, None}
 use Rattle.std.specs.List.{list_all}
 use Rattle.sqlite_value.specs.Order.{Row, column}
 use Rattle.sqlite_schema.specs.declared.schema.Schema.{Schema}

@@ -1,4 +1,4 @@
-use Rattle.std.proofs.Common.{◌≡◌, ◌≢◌, [], ◌∷◌, pos, true, false, Some, refl, sym, ap, subst, ◌∙◌, IfSome, IfNone}
+use Rattle.std.proofs.Common.{◌≡◌, ◌≢◌, [], ◌∷◌, pos, false, Some, refl, sym, ap, subst, ◌∙◌, IfSome, IfNone}
 use Rattle.sqlite_schema.specs.declared.schema.Schema.{Schema}
 use Rattle.sqlite.specs.Held.{state}
 use Rattle.desk_sql_layout.specs.Cells.{number}
