@@ -17,7 +17,7 @@ use Rattle.desk_sql_scan.specs.Orders.{meta_order, catalogue_order, rule_order}
 use Rattle.desk_sql_scan.proofs.Scanning.{itself, sorted_by}
 use Rattle.desk_sql_scan.proofs.Values.{number_in, text_in}
 use Rattle.desk_sql_scan.proofs.Rising.{numbers_rise, rules_rise}
-use Rattle.desk_sql_adopt.proofs.Selecting.{IsSelect}
+use Rattle.desk_sql_adopt.proofs.Selecting.{IsBareSelect}
 use Rattle.desk_sql_scan.specs.declared.source.Source.{Ghosts}
 use Rattle.desk_sql_scan.proofs.Queries.{TellsRows, read_by_key, read_by_rowid}
 
@@ -26,9 +26,12 @@ use Rattle.desk_sql_scan.proofs.Queries.{TellsRows, read_by_key, read_by_rowid}
 abbrev pub meta_text : List ℕ
 meta_text = codes "SELECT version FROM meta ORDER BY version"
 
-meta_is : IsSelect meta_text 0 0 [] (col 1 0 ∷ []) (order_by (0 ∷ [])) (codes "version" ∷ [])
+meta_is : IsBareSelect meta_text 0 0 [] (col 1 0 ∷ []) (order_by (0 ∷ [])) (codes "version" ∷ [])
 unfolding first returning understood everything
-meta_is = record { bare = λ schema base. refl; is = (refl, refl); plain = (refl, refl); suits = (refl, refl) }
+meta_is = record {
+  bare = λ schema base. refl;
+  select = record { is = (refl, refl); plain = (refl, refl); suits = (refl, refl) };
+}
 
 pub meta_read : {S : Type 0} (g : Ghosts S) → TellsRows g meta_text 1 d.meta_table stored_meta_cells meta_order (λ rows t. rows ≡ record { version = pos 3 } ∷ [])
 meta_read g =
@@ -41,9 +44,12 @@ meta_read g =
 abbrev pub catalogue_text : List ℕ
 catalogue_text = codes "SELECT revision, body FROM catalogue ORDER BY revision"
 
-catalogue_is : IsSelect catalogue_text 0 1 [] (col 1 0 ∷ col 1 2 ∷ []) (order_by (0 ∷ [])) (codes "revision" ∷ codes "body" ∷ [])
+catalogue_is : IsBareSelect catalogue_text 0 1 [] (col 1 0 ∷ col 1 2 ∷ []) (order_by (0 ∷ [])) (codes "revision" ∷ codes "body" ∷ [])
 unfolding first returning understood everything
-catalogue_is = record { bare = λ schema base. refl; is = (refl, refl); plain = (refl, refl); suits = (refl, refl) }
+catalogue_is = record {
+  bare = λ schema base. refl;
+  select = record { is = (refl, refl); plain = (refl, refl); suits = (refl, refl) };
+}
 
 pub catalogue_read : {S : Type 0} (g : Ghosts S) → TellsRows g catalogue_text 2 d.catalogue_table stored_catalogue_cells catalogue_order (λ rows t. rows ≡ map catalogue_stored t.catalogue)
 catalogue_read g =
@@ -56,9 +62,12 @@ catalogue_read g =
 abbrev pub rule_text : List ℕ
 rule_text = codes "SELECT revision, term, form, spelled, codes FROM rule ORDER BY +revision, term, form"
 
-rule_is : IsSelect rule_text 0 2 [] (col 1 1 ∷ col 1 2 ∷ col 1 3 ∷ col 1 4 ∷ col 1 5 ∷ []) (sorted_by (1 ∷ 2 ∷ 3 ∷ [])) (codes "revision" ∷ codes "term" ∷ codes "form" ∷ codes "spelled" ∷ codes "codes" ∷ [])
+rule_is : IsBareSelect rule_text 0 2 [] (col 1 1 ∷ col 1 2 ∷ col 1 3 ∷ col 1 4 ∷ col 1 5 ∷ []) (sorted_by (1 ∷ 2 ∷ 3 ∷ [])) (codes "revision" ∷ codes "term" ∷ codes "form" ∷ codes "spelled" ∷ codes "codes" ∷ [])
 unfolding first returning understood everything
-rule_is = record { bare = λ schema base. refl; is = (refl, refl); plain = (refl, refl); suits = (refl, refl) }
+rule_is = record {
+  bare = λ schema base. refl;
+  select = record { is = (refl, refl); plain = (refl, refl); suits = (refl, refl) };
+}
 
 pub rule_read : {S : Type 0} (g : Ghosts S) → TellsRows g rule_text 5 d.rule_table stored_rule_cells rule_order (λ rows t. AreSortedAsListed t → rows ≡ map rule_stored t.rule)
 rule_read g =

@@ -18,7 +18,7 @@ use Rattle.desk_sql_scan.specs.Orders.{document_order, extracted_order}
 use Rattle.desk_sql_scan.proofs.Scanning.{itself, sorted_by}
 use Rattle.desk_sql_scan.proofs.Values.{number_in, text_in, bytes_in, text_if_any, as_it_was}
 use Rattle.desk_sql_scan.proofs.Rising.{numbers_rise, extracted_rise, packages_rise}
-use Rattle.desk_sql_adopt.proofs.Selecting.{IsSelect}
+use Rattle.desk_sql_adopt.proofs.Selecting.{IsBareSelect}
 use Rattle.desk_sql_scan.specs.declared.source.Source.{Ghosts}
 use Rattle.desk_sql_scan.proofs.Queries.{TellsRows, read_by_key, read_by_rowid}
 
@@ -27,9 +27,12 @@ use Rattle.desk_sql_scan.proofs.Queries.{TellsRows, read_by_key, read_by_rowid}
 abbrev pub document_text : List ℕ
 document_text = codes "SELECT number, namespace, bytes FROM document ORDER BY number"
 
-document_is : IsSelect document_text 0 4 [] (col 1 0 ∷ col 1 2 ∷ col 1 3 ∷ []) (order_by (0 ∷ [])) (codes "number" ∷ codes "namespace" ∷ codes "bytes" ∷ [])
+document_is : IsBareSelect document_text 0 4 [] (col 1 0 ∷ col 1 2 ∷ col 1 3 ∷ []) (order_by (0 ∷ [])) (codes "number" ∷ codes "namespace" ∷ codes "bytes" ∷ [])
 unfolding first returning understood everything
-document_is = record { bare = λ schema base. refl; is = (refl, refl); plain = (refl, refl); suits = (refl, refl) }
+document_is = record {
+  bare = λ schema base. refl;
+  select = record { is = (refl, refl); plain = (refl, refl); suits = (refl, refl) };
+}
 
 pub document_read : {S : Type 0} (g : Ghosts S) → TellsRows g document_text 3 d.document_table stored_document_cells document_order (λ rows t. rows ≡ map document_stored t.document)
 document_read g =
@@ -42,9 +45,12 @@ document_read g =
 abbrev pub reading_text : List ℕ
 reading_text = codes "SELECT document, profile FROM reading ORDER BY document"
 
-reading_is : IsSelect reading_text 0 27 [] (col 1 0 ∷ col 1 2 ∷ []) (order_by (0 ∷ [])) (codes "document" ∷ codes "profile" ∷ [])
+reading_is : IsBareSelect reading_text 0 27 [] (col 1 0 ∷ col 1 2 ∷ []) (order_by (0 ∷ [])) (codes "document" ∷ codes "profile" ∷ [])
 unfolding first returning understood everything
-reading_is = record { bare = λ schema base. refl; is = (refl, refl); plain = (refl, refl); suits = (refl, refl) }
+reading_is = record {
+  bare = λ schema base. refl;
+  select = record { is = (refl, refl); plain = (refl, refl); suits = (refl, refl) };
+}
 
 pub reading_read : {S : Type 0} (g : Ghosts S) → TellsRows g reading_text 2 d.reading_table stored_reading_cells reading_order (λ rows t. rows ≡ map reading_stored t.document)
 reading_read g =
@@ -57,9 +63,12 @@ reading_read g =
 abbrev pub package_text : List ℕ
 package_text = codes "SELECT document, id, name, version, concluded, copyright, shipped FROM package ORDER BY +document, id"
 
-package_is : IsSelect package_text 0 6 [] (col 1 1 ∷ col 1 2 ∷ col 1 3 ∷ col 1 4 ∷ col 1 5 ∷ col 1 6 ∷ col 1 7 ∷ []) (sorted_by (1 ∷ 2 ∷ [])) (codes "document" ∷ codes "id" ∷ codes "name" ∷ codes "version" ∷ codes "concluded" ∷ codes "copyright" ∷ codes "shipped" ∷ [])
+package_is : IsBareSelect package_text 0 6 [] (col 1 1 ∷ col 1 2 ∷ col 1 3 ∷ col 1 4 ∷ col 1 5 ∷ col 1 6 ∷ col 1 7 ∷ []) (sorted_by (1 ∷ 2 ∷ [])) (codes "document" ∷ codes "id" ∷ codes "name" ∷ codes "version" ∷ codes "concluded" ∷ codes "copyright" ∷ codes "shipped" ∷ [])
 unfolding first returning understood everything
-package_is = record { bare = λ schema base. refl; is = (refl, refl); plain = (refl, refl); suits = (refl, refl) }
+package_is = record {
+  bare = λ schema base. refl;
+  select = record { is = (refl, refl); plain = (refl, refl); suits = (refl, refl) };
+}
 
 pub package_read : {S : Type 0} (g : Ghosts S) → TellsRows g package_text 7 d.package_table stored_package_cells package_order (λ rows t. rows ≡ map package_stored t.packages)
 package_read g =
@@ -73,9 +82,12 @@ package_read g =
 abbrev pub extracted_text : List ℕ
 extracted_text = codes "SELECT document, reference, body FROM extracted ORDER BY +document, reference"
 
-extracted_is : IsSelect extracted_text 0 8 [] (col 1 1 ∷ col 1 2 ∷ col 1 3 ∷ []) (sorted_by (1 ∷ 2 ∷ [])) (codes "document" ∷ codes "reference" ∷ codes "body" ∷ [])
+extracted_is : IsBareSelect extracted_text 0 8 [] (col 1 1 ∷ col 1 2 ∷ col 1 3 ∷ []) (sorted_by (1 ∷ 2 ∷ [])) (codes "document" ∷ codes "reference" ∷ codes "body" ∷ [])
 unfolding first returning understood everything
-extracted_is = record { bare = λ schema base. refl; is = (refl, refl); plain = (refl, refl); suits = (refl, refl) }
+extracted_is = record {
+  bare = λ schema base. refl;
+  select = record { is = (refl, refl); plain = (refl, refl); suits = (refl, refl) };
+}
 
 pub extracted_read : {S : Type 0} (g : Ghosts S) → TellsRows g extracted_text 3 d.extracted_table stored_extracted_cells extracted_order (λ rows t. AreSortedAsListed t → rows ≡ map extracted_stored t.extracted)
 extracted_read g =

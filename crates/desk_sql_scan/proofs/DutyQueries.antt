@@ -19,7 +19,7 @@ use Rattle.desk_sql_scan.proofs.Scanning.{itself, sorted_by}
 use Rattle.desk_sql_scan.proofs.Values.{number_in, text_in}
 use Rattle.desk_sql_scan.proofs.Rising.{numbers_rise, changes_rise}
 use Rattle.desk_sql_scan.proofs.Waivers.{waivers_are}
-use Rattle.desk_sql_adopt.proofs.Selecting.{IsSelect}
+use Rattle.desk_sql_adopt.proofs.Selecting.{IsBareSelect}
 use Rattle.desk_sql_scan.specs.declared.source.Source.{Ghosts}
 use Rattle.desk_sql_scan.proofs.Queries.{TellsRows, read_by_key, read_by_rowid}
 
@@ -28,9 +28,12 @@ use Rattle.desk_sql_scan.proofs.Queries.{TellsRows, read_by_key, read_by_rowid}
 abbrev pub duty_text : List ℕ
 duty_text = codes "SELECT number, release, document, package, term, code, rule, state FROM duty ORDER BY number"
 
-duty_is : IsSelect duty_text 0 23 [] (col 1 0 ∷ col 1 2 ∷ col 1 3 ∷ col 1 4 ∷ col 1 5 ∷ col 1 6 ∷ col 1 7 ∷ col 1 8 ∷ []) (order_by (0 ∷ [])) (codes "number" ∷ codes "release" ∷ codes "document" ∷ codes "package" ∷ codes "term" ∷ codes "code" ∷ codes "rule" ∷ codes "state" ∷ [])
+duty_is : IsBareSelect duty_text 0 23 [] (col 1 0 ∷ col 1 2 ∷ col 1 3 ∷ col 1 4 ∷ col 1 5 ∷ col 1 6 ∷ col 1 7 ∷ col 1 8 ∷ []) (order_by (0 ∷ [])) (codes "number" ∷ codes "release" ∷ codes "document" ∷ codes "package" ∷ codes "term" ∷ codes "code" ∷ codes "rule" ∷ codes "state" ∷ [])
 unfolding first returning understood everything
-duty_is = record { bare = λ schema base. refl; is = (refl, refl); plain = (refl, refl); suits = (refl, refl) }
+duty_is = record {
+  bare = λ schema base. refl;
+  select = record { is = (refl, refl); plain = (refl, refl); suits = (refl, refl) };
+}
 
 pub duty_read : {S : Type 0} (g : Ghosts S) → TellsRows g duty_text 8 d.duty_table stored_duty_cells duty_order (λ rows t. rows ≡ map duty_stored t.duty)
 duty_read g =
@@ -43,9 +46,12 @@ duty_read g =
 abbrev pub change_text : List ℕ
 change_text = codes "SELECT duty, step, day, word, body FROM change ORDER BY +duty, step"
 
-change_is : IsSelect change_text 0 25 [] (col 1 1 ∷ col 1 2 ∷ col 1 3 ∷ col 1 4 ∷ col 1 5 ∷ []) (sorted_by (1 ∷ 2 ∷ [])) (codes "duty" ∷ codes "step" ∷ codes "day" ∷ codes "word" ∷ codes "body" ∷ [])
+change_is : IsBareSelect change_text 0 25 [] (col 1 1 ∷ col 1 2 ∷ col 1 3 ∷ col 1 4 ∷ col 1 5 ∷ []) (sorted_by (1 ∷ 2 ∷ [])) (codes "duty" ∷ codes "step" ∷ codes "day" ∷ codes "word" ∷ codes "body" ∷ [])
 unfolding first returning understood everything
-change_is = record { bare = λ schema base. refl; is = (refl, refl); plain = (refl, refl); suits = (refl, refl) }
+change_is = record {
+  bare = λ schema base. refl;
+  select = record { is = (refl, refl); plain = (refl, refl); suits = (refl, refl) };
+}
 
 pub change_read : {S : Type 0} (g : Ghosts S) → TellsRows g change_text 5 d.change_table stored_change_cells change_order (λ rows t. rows ≡ map change_stored t.changes)
 change_read g =
@@ -59,9 +65,12 @@ change_read g =
 abbrev pub waiver_text : List ℕ
 waiver_text = codes "SELECT duty, step, last_day FROM waiver ORDER BY +duty, step"
 
-waiver_is : IsSelect waiver_text 0 28 [] (col 1 1 ∷ col 1 2 ∷ col 1 3 ∷ []) (sorted_by (1 ∷ 2 ∷ [])) (codes "duty" ∷ codes "step" ∷ codes "last_day" ∷ [])
+waiver_is : IsBareSelect waiver_text 0 28 [] (col 1 1 ∷ col 1 2 ∷ col 1 3 ∷ []) (sorted_by (1 ∷ 2 ∷ [])) (codes "duty" ∷ codes "step" ∷ codes "last_day" ∷ [])
 unfolding first returning understood everything
-waiver_is = record { bare = λ schema base. refl; is = (refl, refl); plain = (refl, refl); suits = (refl, refl) }
+waiver_is = record {
+  bare = λ schema base. refl;
+  select = record { is = (refl, refl); plain = (refl, refl); suits = (refl, refl) };
+}
 
 pub waiver_read : {S : Type 0} (g : Ghosts S) → TellsRows g waiver_text 3 d.waiver_table stored_waiver_cells waiver_order (λ rows t. rows ≡ map waiver_stored (filter is_waiver t.changes))
 waiver_read g =

@@ -16,7 +16,7 @@ use Rattle.desk_sql_scan.specs.Orders.{adoption_order}
 use Rattle.desk_sql_scan.proofs.Scanning.{itself, sorted_by}
 use Rattle.desk_sql_scan.proofs.Values.{number_in, text_in}
 use Rattle.desk_sql_scan.proofs.Rising.{conclusions_rise, adoptions_rise}
-use Rattle.desk_sql_adopt.proofs.Selecting.{IsSelect}
+use Rattle.desk_sql_adopt.proofs.Selecting.{IsBareSelect}
 use Rattle.desk_sql_scan.specs.declared.source.Source.{Ghosts}
 use Rattle.desk_sql_scan.proofs.Queries.{TellsRows, read_by_key}
 
@@ -25,9 +25,12 @@ use Rattle.desk_sql_scan.proofs.Queries.{TellsRows, read_by_key}
 abbrev pub conclusion_text : List ℕ
 conclusion_text = codes "SELECT document, package, expression FROM conclusion ORDER BY +document, package"
 
-conclusion_is : IsSelect conclusion_text 0 10 [] (col 1 1 ∷ col 1 2 ∷ col 1 3 ∷ []) (sorted_by (1 ∷ 2 ∷ [])) (codes "document" ∷ codes "package" ∷ codes "expression" ∷ [])
+conclusion_is : IsBareSelect conclusion_text 0 10 [] (col 1 1 ∷ col 1 2 ∷ col 1 3 ∷ []) (sorted_by (1 ∷ 2 ∷ [])) (codes "document" ∷ codes "package" ∷ codes "expression" ∷ [])
 unfolding first returning understood everything
-conclusion_is = record { bare = λ schema base. refl; is = (refl, refl); plain = (refl, refl); suits = (refl, refl) }
+conclusion_is = record {
+  bare = λ schema base. refl;
+  select = record { is = (refl, refl); plain = (refl, refl); suits = (refl, refl) };
+}
 
 pub conclusion_read : {S : Type 0} (g : Ghosts S) → TellsRows g conclusion_text 3 d.conclusion_table stored_conclusion_cells conclusion_order (λ rows t. rows ≡ map conclusion_stored t.conclusion)
 conclusion_read g =
@@ -41,9 +44,12 @@ conclusion_read g =
 abbrev pub adoption_text : List ℕ
 adoption_text = codes "SELECT document, reference, licence FROM adoption ORDER BY +document, reference"
 
-adoption_is : IsSelect adoption_text 0 12 [] (col 1 1 ∷ col 1 2 ∷ col 1 3 ∷ []) (sorted_by (1 ∷ 2 ∷ [])) (codes "document" ∷ codes "reference" ∷ codes "licence" ∷ [])
+adoption_is : IsBareSelect adoption_text 0 12 [] (col 1 1 ∷ col 1 2 ∷ col 1 3 ∷ []) (sorted_by (1 ∷ 2 ∷ [])) (codes "document" ∷ codes "reference" ∷ codes "licence" ∷ [])
 unfolding first returning understood everything
-adoption_is = record { bare = λ schema base. refl; is = (refl, refl); plain = (refl, refl); suits = (refl, refl) }
+adoption_is = record {
+  bare = λ schema base. refl;
+  select = record { is = (refl, refl); plain = (refl, refl); suits = (refl, refl) };
+}
 
 pub adoption_read : {S : Type 0} (g : Ghosts S) → TellsRows g adoption_text 3 d.adoption_table stored_adoption_cells adoption_order (λ rows t. rows ≡ map adoption_stored t.adoption)
 adoption_read g =

@@ -22,7 +22,8 @@ use Rattle.desk_sql_layout.proofs.Queries.{query_on, env}
 use Rattle.desk_sql_lookup.specs.Causes.{AreWritten, IsRow}
 use Rattle.desk_sql_lookup.proofs.Selects.{AreApart, order_by, mine, by_rowid, by_unique}
 use Rattle.desk_sql_lookup.proofs.Ties.{are_keys, keys, picked}
-use Rattle.desk_sql_adopt.proofs.Selecting.{IsSelect, as_declared, select_asked, select_asks}
+use Rattle.desk_sql_lookup.proofs.Selecting.{as_declared, select_asked}
+use Rattle.desk_sql_adopt.proofs.Selecting.{IsBareSelect, select_asks}
 use Rattle.desk_sql_scan.specs.Causes.{AreCells}
 use Rattle.desk_sql_scan.specs.Cells.{columns_of}
 use Rattle.desk_sql_scan.specs.Scanning.{Lists, Scans}
@@ -54,7 +55,7 @@ module _ {S : Type 0} (g : Ghosts S) (table : Table) (place : ℕ) (listed : sli
   same t db holds = (mine table.name table.tree table.columns table.key table.primary table.uniques table.orders place listed (λ x. cells_of (stored_of x)) (rows_of t) (xs t) (here t) db holds.rows).same
 
   -- a query that sorts by the columns `at` of what it shows, which are at `ps` in a stored row
-  module _ {text : List ℕ} {project : List Term} {by : List (Term × Key)} {names : List (List ℕ)} (it : IsSelect text 0 table.tree [] project by names) (accepts : accepts_program desk_schema [] (query_on table.tree [] project by) [] ≡ true)
+  module _ {text : List ℕ} {project : List Term} {by : List (Term × Key)} {names : List (List ℕ)} (it : IsBareSelect text 0 table.tree [] project by names) (accepts : accepts_program desk_schema [] (query_on table.tree [] project by) [] ≡ true)
       (ps : List ℕ) (keyed : map (λ (k : Term × Key). k.1) by ≡ keys ps) (at : List ℕ) (acts : (r : Row) → output (query_on table.tree [] project by) (env [] r) ≡ (picked at (cells this r), cells this r))
       (picks : (r : Row) → picked at (cells this r) ≡ picked ps r) (agrees : (a b : A) → key_cmp 0 (keys ps) (picked at (cells_of a)) (picked at (cells_of b)) ≡ order a b)
       (apart : (t : Tables) (db : Database) → HasRows (rows_of t) db → AreApart ps (db.trees table.tree)) where
@@ -63,25 +64,25 @@ module _ {S : Type 0} (g : Ghosts S) (table : Table) (place : ℕ) (listed : sli
 
     module _ (db : Database) (shown : List Row) (reads : Reads (command_of (understood desk_schema text)) db [] shown) where
       raw : (rows : List A) → map (columns_of width) shown ≡ map cells_of rows → IsScan this cells_of order rows db
-      raw rows are = scanned table text names project ps by keyed (picked at) width it.is.0 acts wide db shown reads cells_of order by_order rows are
+      raw rows are = scanned table text names project ps by keyed (picked at) width it.select.is.0 acts wide db shown reads cells_of order by_order rows are
 
       held : (rows : List A) → map (columns_of width) shown ≡ map cells_of rows → (t : Tables) → Holds t db → Rise t → rows ≡ map stored_of (xs t)
       held rows are t holds rise =
-          is_held table text names project ps by keyed (picked at) width it.is.0 acts wide db shown reads cells_of order by_order rows are
+          is_held table text names project ps by keyed (picked at) width it.select.is.0 acts wide db shown reads cells_of order by_order rows are
           (apart t db holds.rows) picks stored_of (xs t) (same t db holds) rise back inverse
 
       written : (t : Tables) → Holds t db → AreWritten t → AllByRecursion (AreCells cells_of) shown
       written t holds are =
-          all_written table text names project ps by keyed (picked at) width it.is.0 acts wide db shown reads cells_of stored_of (xs t)
+          all_written table text names project ps by keyed (picked at) width it.select.is.0 acts wide db shown reads cells_of stored_of (xs t)
           (same t db holds) (subst (AllByRecursion IsRow) (here t) (are.cells table.tree))
 
     table_read : (Is : List A → Tables → Type 0) → Tells Is → TellsRows g text width this cells_of order Is
     table_read Is tells old new r lists =
-        scan_told text (select_asks it) (select_asked it [] refl accepts) (it.plain, it.is.1) width cells_of g old new r lists (IsScan this cells_of order) Is
+        scan_told text (select_asks it) (select_asked it.select [] refl accepts) (it.select.plain, it.select.is.1) width cells_of g old new r lists (IsScan this cells_of order) Is
         (λ rows db shown reads are. raw db shown reads rows are) (λ rows db shown reads are t holds. tells rows t holds.orderly (held db shown reads rows are t holds)) written
 
   -- by its rowid
-  pub read_by_rowid : {text : List ℕ} {project : List Term} {names : List (List ℕ)} → IsSelect text 0 table.tree [] project (order_by (0 ∷ [])) names → accepts_program desk_schema [] (query_on table.tree [] project (order_by (0 ∷ []))) [] ≡ true
+  pub read_by_rowid : {text : List ℕ} {project : List Term} {names : List (List ℕ)} → IsBareSelect text 0 table.tree [] project (order_by (0 ∷ [])) names → accepts_program desk_schema [] (query_on table.tree [] project (order_by (0 ∷ []))) [] ≡ true
       → ((r : Row) → output (query_on table.tree [] project (order_by (0 ∷ []))) (env [] r) ≡ (picked (0 ∷ []) (cells this r), cells this r)) → ((r : Row) → picked (0 ∷ []) (cells this r) ≡ picked (0 ∷ []) r)
       → ((a b : A) → key_cmp 0 (keys (0 ∷ [])) (picked (0 ∷ []) (cells_of a)) (picked (0 ∷ []) (cells_of b)) ≡ order a b) → (Is : List A → Tables → Type 0) → Tells Is → TellsRows g text width this cells_of order Is
   read_by_rowid it accepts acts picks agrees =
@@ -89,7 +90,7 @@ module _ {S : Type 0} (g : Ghosts S) (table : Table) (place : ℕ) (listed : sli
 
   -- by the key that is declared unique in this place
   pub read_by_key : (ps at : List ℕ) (nth : ℕ) → slice_get table.uniques nth ≡ Some ps → get_or table.orders nth plain ≡ plain → map (λ (k : Term × Key). k.1) (sorted_by ps) ≡ keys ps
-      → {text : List ℕ} {project : List Term} {names : List (List ℕ)} → IsSelect text 0 table.tree [] project (sorted_by ps) names → accepts_program desk_schema [] (query_on table.tree [] project (sorted_by ps)) [] ≡ true
+      → {text : List ℕ} {project : List Term} {names : List (List ℕ)} → IsBareSelect text 0 table.tree [] project (sorted_by ps) names → accepts_program desk_schema [] (query_on table.tree [] project (sorted_by ps)) [] ≡ true
       → ((r : Row) → output (query_on table.tree [] project (sorted_by ps)) (env [] r) ≡ (picked at (cells this r), cells this r)) → ((r : Row) → picked at (cells this r) ≡ picked ps r)
       → ((r : Row) → are_keys ps r ≡ are_keys at (cells this r)) → ((x : X) → are_keys at (cells_of (stored_of x)) ≡ true)
       → ((a b : A) → key_cmp 0 (keys ps) (picked at (cells_of a)) (picked at (cells_of b)) ≡ order a b) → (Is : List A → Tables → Type 0) → Tells Is → TellsRows g text width this cells_of order Is

@@ -15,7 +15,7 @@ use Rattle.desk_sql_scan.specs.Cells.{stored_release_cells, stored_attached_cell
 use Rattle.desk_sql_scan.proofs.Scanning.{itself, sorted_by}
 use Rattle.desk_sql_scan.proofs.Values.{number_in, text_in}
 use Rattle.desk_sql_scan.proofs.Rising.{releases_rise, attached_rise, choices_rise, frozen_rise}
-use Rattle.desk_sql_adopt.proofs.Selecting.{IsSelect}
+use Rattle.desk_sql_adopt.proofs.Selecting.{IsBareSelect}
 use Rattle.desk_sql_scan.specs.declared.source.Source.{Ghosts}
 use Rattle.desk_sql_scan.proofs.Queries.{TellsRows, read_by_key}
 
@@ -24,9 +24,12 @@ use Rattle.desk_sql_scan.proofs.Queries.{TellsRows, read_by_key}
 abbrev pub release_text : List ℕ
 release_text = codes "SELECT name, place, form, state, revision FROM releases ORDER BY +name"
 
-release_is : IsSelect release_text 0 14 [] (col 1 1 ∷ col 1 2 ∷ col 1 3 ∷ col 1 4 ∷ col 1 5 ∷ []) (sorted_by (1 ∷ [])) (codes "name" ∷ codes "place" ∷ codes "form" ∷ codes "state" ∷ codes "revision" ∷ [])
+release_is : IsBareSelect release_text 0 14 [] (col 1 1 ∷ col 1 2 ∷ col 1 3 ∷ col 1 4 ∷ col 1 5 ∷ []) (sorted_by (1 ∷ [])) (codes "name" ∷ codes "place" ∷ codes "form" ∷ codes "state" ∷ codes "revision" ∷ [])
 unfolding first returning understood everything
-release_is = record { bare = λ schema base. refl; is = (refl, refl); plain = (refl, refl); suits = (refl, refl) }
+release_is = record {
+  bare = λ schema base. refl;
+  select = record { is = (refl, refl); plain = (refl, refl); suits = (refl, refl) };
+}
 
 pub release_read : {S : Type 0} (g : Ghosts S) → TellsRows g release_text 5 d.releases_table stored_release_cells release_order (λ rows t. rows ≡ map release_stored t.releases)
 release_read g =
@@ -40,9 +43,12 @@ release_read g =
 abbrev pub attached_text : List ℕ
 attached_text = codes "SELECT release, document FROM attached ORDER BY +release, document"
 
-attached_is : IsSelect attached_text 0 17 [] (col 1 1 ∷ col 1 2 ∷ []) (sorted_by (1 ∷ 2 ∷ [])) (codes "release" ∷ codes "document" ∷ [])
+attached_is : IsBareSelect attached_text 0 17 [] (col 1 1 ∷ col 1 2 ∷ []) (sorted_by (1 ∷ 2 ∷ [])) (codes "release" ∷ codes "document" ∷ [])
 unfolding first returning understood everything
-attached_is = record { bare = λ schema base. refl; is = (refl, refl); plain = (refl, refl); suits = (refl, refl) }
+attached_is = record {
+  bare = λ schema base. refl;
+  select = record { is = (refl, refl); plain = (refl, refl); suits = (refl, refl) };
+}
 
 pub attached_read : {S : Type 0} (g : Ghosts S) → TellsRows g attached_text 2 d.attached_table stored_attached_cells attached_order (λ rows t. rows ≡ map attached_stored t.attached)
 attached_read g =
@@ -56,9 +62,12 @@ attached_read g =
 abbrev pub choice_text : List ℕ
 choice_text = codes "SELECT release, document, package, term FROM choice ORDER BY +release, document, package, term"
 
-choice_is : IsSelect choice_text 0 19 [] (col 1 1 ∷ col 1 2 ∷ col 1 3 ∷ col 1 4 ∷ []) (sorted_by (1 ∷ 2 ∷ 3 ∷ 4 ∷ [])) (codes "release" ∷ codes "document" ∷ codes "package" ∷ codes "term" ∷ [])
+choice_is : IsBareSelect choice_text 0 19 [] (col 1 1 ∷ col 1 2 ∷ col 1 3 ∷ col 1 4 ∷ []) (sorted_by (1 ∷ 2 ∷ 3 ∷ 4 ∷ [])) (codes "release" ∷ codes "document" ∷ codes "package" ∷ codes "term" ∷ [])
 unfolding first returning understood everything
-choice_is = record { bare = λ schema base. refl; is = (refl, refl); plain = (refl, refl); suits = (refl, refl) }
+choice_is = record {
+  bare = λ schema base. refl;
+  select = record { is = (refl, refl); plain = (refl, refl); suits = (refl, refl) };
+}
 
 pub choice_read : {S : Type 0} (g : Ghosts S) → TellsRows g choice_text 4 d.choice_table stored_choice_cells choice_order (λ rows t. rows ≡ map choice_stored t.choice)
 choice_read g =
@@ -72,9 +81,12 @@ choice_read g =
 abbrev pub frozen_text : List ℕ
 frozen_text = codes "SELECT release, document, package, term, rule FROM frozen ORDER BY +release, document, package, term"
 
-frozen_is : IsSelect frozen_text 0 21 [] (col 1 1 ∷ col 1 2 ∷ col 1 3 ∷ col 1 4 ∷ col 1 5 ∷ []) (sorted_by (1 ∷ 2 ∷ 3 ∷ 4 ∷ [])) (codes "release" ∷ codes "document" ∷ codes "package" ∷ codes "term" ∷ codes "rule" ∷ [])
+frozen_is : IsBareSelect frozen_text 0 21 [] (col 1 1 ∷ col 1 2 ∷ col 1 3 ∷ col 1 4 ∷ col 1 5 ∷ []) (sorted_by (1 ∷ 2 ∷ 3 ∷ 4 ∷ [])) (codes "release" ∷ codes "document" ∷ codes "package" ∷ codes "term" ∷ codes "rule" ∷ [])
 unfolding first returning understood everything
-frozen_is = record { bare = λ schema base. refl; is = (refl, refl); plain = (refl, refl); suits = (refl, refl) }
+frozen_is = record {
+  bare = λ schema base. refl;
+  select = record { is = (refl, refl); plain = (refl, refl); suits = (refl, refl) };
+}
 
 pub frozen_read : {S : Type 0} (g : Ghosts S) → TellsRows g frozen_text 5 d.frozen_table stored_frozen_cells frozen_order (λ rows t. rows ≡ map frozen_stored t.frozen)
 frozen_read g =
