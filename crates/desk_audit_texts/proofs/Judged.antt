@@ -4,7 +4,7 @@ use Rattle.std.specs.Prelude.{Option, is_some, true}
 use Rattle.std.specs.List.{flat_map, list_all}
 use Rattle.std.specs.Result.{result_ok}
 use Rattle.desk_model.specs.Readings.{Readings}
-use Rattle.desk_snapshot.specs.Conditions.{AreDocuments, extracted_by, is_read, packages_by, rules_by}
+use Rattle.desk_snapshot.specs.Conditions.{AreDocuments, ArePackages, extracted_by, is_read, packages_by, rules_by}
 use Rattle.desk_snapshot.specs.Reports.{IsFirst}
 use Rattle.desk_snapshot.specs.Rows.{AreFrom}
 use Rattle.desk_snapshot.specs.declared.fault.AuditFault.TheVariants.{BadDocument, BadPackage, BadRevision, BadRule}
@@ -40,32 +40,32 @@ documents_read : (w : Readings) (s : Snapshot) (rows : List StoredDocument) → 
 documents_read w s rows e listed read =
     record { numbered = listed.numbered; read = rw e at read; profiled = listed.profiled; profiles = listed.profiles }
 
+-- what stays of a table of documents' parts
+part_left : {X : Type 0} (w : Readings) (s : Snapshot) (rows : List StoredDocument) (kept : List X)
+    (by : StoredDocument → List X) (left : Option (List X)) → (ArePackages w s → kept ≡ flat_map by s.document)
+    → rows ≡ s.document
+    → AreListed s → list_all (is_read w) rows ≡ true
+    → IsLeft kept (flat_map by rows) left → left ≢ Some []
+    → IsFirst w s (BadDocument ∷ BadPackage ∷ []) (Some BadPackage)
+part_left w s rows kept by left are e listed read rest more =
+    inr (
+      documents_read w s rows e listed read,
+      inl (
+        refl,
+        λ all. not_used_up kept (flat_map by rows) left rest more (are all ∙ ap (flat_map by) (sym e)),
+      ),
+    )
+
 pub packages_left : (w : Readings) (s : Snapshot) (rows : List StoredDocument) (left : Option (List StoredPackage))
     → rows ≡ s.document
     → AreListed s → list_all (is_read w) rows ≡ true
     → IsLeft s.packages (flat_map (packages_by w) rows) left → left ≢ Some []
     → IsFirst w s (BadDocument ∷ BadPackage ∷ []) (Some BadPackage)
-packages_left w s rows left e listed read rest more =
-    inr (
-      documents_read w s rows e listed read,
-      inl (
-        refl,
-        λ all. not_used_up s.packages (flat_map (packages_by w) rows) left rest more
-            (all.all ∙ ap (flat_map (packages_by w)) (sym e)),
-      ),
-    )
+packages_left w s rows left = part_left w s rows s.packages (packages_by w) left (λ all. all.all)
 
 pub extracted_left : (w : Readings) (s : Snapshot) (rows : List StoredDocument) (left : Option (List StoredExtracted))
     → rows ≡ s.document
     → AreListed s → list_all (is_read w) rows ≡ true
     → IsLeft s.extracted (flat_map (extracted_by w) rows) left → left ≢ Some []
     → IsFirst w s (BadDocument ∷ BadPackage ∷ []) (Some BadPackage)
-extracted_left w s rows left e listed read rest more =
-    inr (
-      documents_read w s rows e listed read,
-      inl (
-        refl,
-        λ all. not_used_up s.extracted (flat_map (extracted_by w) rows) left rest more
-            (all.extracted ∙ ap (flat_map (extracted_by w)) (sym e)),
-      ),
-    )
+extracted_left w s rows left = part_left w s rows s.extracted (extracted_by w) left (λ all. all.extracted)
