@@ -128,22 +128,30 @@ documents_within w (Import bytes profile ∷ h) row m =
     (λ x here. elim here [ inl same ↦ omega (arith, next_document w h bytes profile, ap (λ (row : DocumentRow). row.number) same) | inr none ↦ absurd none ]) row m
 documents_within w (c ∷ h) row m = documents_within w h row m
 
+-- the parts of one document more have its number
+parts_within : (w : Readings) (h : List Command) (bytes : List ℕ) (profile : Profile) {Row Part : Type 0} (number : Row → ℕ)
+    (of : Part → Row) → ((x : Part) → number (of x) ≡ length (documents w h) + 1) → (old : List Row) (new : List Part)
+    → ((row : Row) → IsIn row old → number row ≤ length (documents w h)) → (row : Row) → IsIn row (old ++ map of new)
+    → number row ≤ length (documents w (Import bytes profile ∷ h))
+parts_within w h bytes profile number of numbered old new so_far =
+    behind number (length (documents w h)) (length (documents w (Import bytes profile ∷ h))) old (map of new)
+    (omega (arith, next_document w h bytes profile)) so_far
+    (λ x here.
+    let at = from_map of x new here in
+    omega (arith, next_document w h bytes profile, ap number at.2, numbered at.0))
+
 pub packages_within : (w : Readings) (h : List Command) (row : PackageRow) → IsIn row (packages w h) → row.document ≤ length (documents w h)
 packages_within w [] row m = absurd m
 packages_within w (Import bytes profile ∷ h) row m =
-    let new = packages_in (result_ok (w.document bytes)) in
-    behind (λ (row : PackageRow). row.document) (length (documents w h)) (length (documents w (Import bytes profile ∷ h))) (packages w h) (map (package_row (length (documents w h) + 1)) new)
-    (omega (arith, next_document w h bytes profile)) (packages_within w h)
-    (λ x here. let at = from_map (package_row (length (documents w h) + 1)) x new here in omega (arith, next_document w h bytes profile, ap (λ (row : PackageRow). row.document) at.2)) row m
+    parts_within w h bytes profile (λ (row : PackageRow). row.document) (package_row (length (documents w h) + 1)) (λ x. refl)
+    (packages w h) (packages_in (result_ok (w.document bytes))) (packages_within w h) row m
 packages_within w (c ∷ h) row m = packages_within w h row m
 
 pub references_within : (w : Readings) (h : List Command) (row : ExtractedRow) → IsIn row (references w h) → row.document ≤ length (documents w h)
 references_within w [] row m = absurd m
 references_within w (Import bytes profile ∷ h) row m =
-    let new = references_in (result_ok (w.document bytes)) in
-    behind (λ (row : ExtractedRow). row.document) (length (documents w h)) (length (documents w (Import bytes profile ∷ h))) (references w h) (map (extracted_row (length (documents w h) + 1)) new)
-    (omega (arith, next_document w h bytes profile)) (references_within w h)
-    (λ x here. let at = from_map (extracted_row (length (documents w h) + 1)) x new here in omega (arith, next_document w h bytes profile, ap (λ (row : ExtractedRow). row.document) at.2)) row m
+    parts_within w h bytes profile (λ (row : ExtractedRow). row.document) (extracted_row (length (documents w h) + 1)) (λ x. refl)
+    (references w h) (references_in (result_ok (w.document bytes))) (references_within w h) row m
 references_within w (c ∷ h) row m = references_within w h row m
 
 -- ---- what later commands leave

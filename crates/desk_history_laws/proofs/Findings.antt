@@ -1,5 +1,5 @@
 -- The findings of a document: there is one list of them, and no other.
-use Rattle.std.proofs.Common.{◌≡◌, ◌∙◌, ◌⊎◌, inl, inr, ℕ, ◌<◌, ◌≤◌, List, [], ◌∷◌, length, get_or, map, sym, subst, ap, ap₂, refl, arith, Option, Some, None}
+use Rattle.std.proofs.Common.{◌≡◌, ◌∙◌, ◌⊎◌, inl, inr, ℕ, ◌<◌, ◌≤◌, List, [], ◌∷◌, length, get_or, sym, subst, ap, ap₂, refl, arith, Option, Some, None}
 use Rattle.std.proofs.lemmas.Bool.{cases_lt}
 use Rattle.std.specs.Prelude.{Result, Ok, Err}
 use Rattle.std.specs.Cmp.{IsTotalOrder, nat_cmp_total, on_total, then_total}

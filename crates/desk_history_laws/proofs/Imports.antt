@@ -93,30 +93,33 @@ references_stored n (Some d) = all d.references
     all [] = refl
     all (r ∷ rs) = ap (λ rows. stored_extracted (pos n) r ∷ rows) (all rs)
 
+-- the parts of one document more
+one_document : {Row Part Doc Stored : Type 0} (f : Row → Stored) (by : Part → List Stored) (of : Doc → Part) (old new : List Row)
+    (rows : List Doc) (row : Doc) → map f old ≡ flat_map by (map of rows) → map f new ≡ by (of row)
+    → map f (old ++ new) ≡ flat_map by (map of (rows ++ row ∷ []))
+one_document f by of old new rows row so_far here =
+    map-append f old new
+    ∙ (ap (λ l. l ++ map f new) so_far
+    ∙ (ap (λ l. flat_map by (map of rows) ++ l) here
+    ∙ (sym (flat_map-push by (map of rows) (of row)) ∙ ap (flat_map by) (sym (map-append of rows (row ∷ []))))))
+
 packages_all : (w : Readings) (h : List Command) → map package_stored (packages w h) ≡ flat_map (packages_by w) (map document_stored (documents w h))
 packages_all w [] = refl
 packages_all w (Import bytes profile ∷ h) =
-    let row = row_of w h bytes profile in
     let n = length (documents w h) + 1 in
-    let new = packages_in (result_ok (w.document bytes)) in
-    map-append package_stored (packages w h) (map (package_row n) new)
-    ∙ (ap (λ rows. rows ++ map package_stored (map (package_row n) new)) (packages_all w h)
-    ∙ (ap (λ rows. flat_map (packages_by w) (map document_stored (documents w h)) ++ rows) (packages_stored n (result_ok (w.document bytes)))
-    ∙ (sym (flat_map-push (packages_by w) (map document_stored (documents w h)) (document_stored row))
-    ∙ ap (flat_map (packages_by w)) (sym (map-append document_stored (documents w h) (row ∷ []))))))
+    let read = result_ok (w.document bytes) in
+    one_document package_stored (packages_by w) document_stored (packages w h) (map (package_row n) (packages_in read))
+    (documents w h) (row_of w h bytes profile) (packages_all w h) (packages_stored n read)
 packages_all w (_ ∷ h) = packages_all w h
 
 references_all : (w : Readings) (h : List Command) → map extracted_stored (references w h) ≡ flat_map (extracted_by w) (map document_stored (documents w h))
 references_all w [] = refl
 references_all w (Import bytes profile ∷ h) =
-    let row = row_of w h bytes profile in
     let n = length (documents w h) + 1 in
-    let new = references_in (result_ok (w.document bytes)) in
-    map-append extracted_stored (references w h) (map (extracted_row n) new)
-    ∙ (ap (λ rows. rows ++ map extracted_stored (map (extracted_row n) new)) (references_all w h)
-    ∙ (ap (λ rows. flat_map (extracted_by w) (map document_stored (documents w h)) ++ rows) (references_stored n (result_ok (w.document bytes)))
-    ∙ (sym (flat_map-push (extracted_by w) (map document_stored (documents w h)) (document_stored row))
-    ∙ ap (flat_map (extracted_by w)) (sym (map-append document_stored (documents w h) (row ∷ []))))))
+    let read = result_ok (w.document bytes) in
+    one_document extracted_stored (extracted_by w) document_stored (references w h)
+    (map (extracted_row n) (references_in read)) (documents w h) (row_of w h bytes profile) (references_all w h)
+    (references_stored n read)
 references_all w (_ ∷ h) = references_all w h
 
 pub are_packages : (w : Readings) (h : List Command) → ArePackages w (snapshot_of (tables w h))

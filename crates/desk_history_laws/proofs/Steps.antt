@@ -6,7 +6,6 @@ use Rattle.std.specs.Option.{option_map, option_map_or, option_and_then}
 use Rattle.std.specs.Str.{bytes_eq}
 use Rattle.std.proofs.lemmas.Bool.Decides.{nat_tests}
 use Rattle.desk_base.specs.Day.{is_day}
-use Rattle.desk_base.specs.Limits as most
 use Rattle.desk_base.proofs.Bools.{and_left, and_right}
 use Rattle.desk_base.proofs.Numbers.{numbers_equal}
 use Rattle.desk_base.proofs.Texts.{text_tells, texts_equal, same_text}
@@ -17,7 +16,7 @@ use Rattle.desk_model.specs.History.{form_of, state_of, state_given}
 use Rattle.desk_model.specs.Raised.{raised, owed_at}
 use Rattle.desk_model.specs.States.{is_met, is_waived, state_after}
 use Rattle.desk_model.specs.Moves.{duty_at, is_raised_for, raises, is_known, has_ended, end_after, move_if, with_move, moves, place, place_after, changes}
-use Rattle.desk_model.specs.Answers.{answer, IsHistory, is_recorded, unless, gone, settled, is_over, Moving, move_answer, moving}
+use Rattle.desk_model.specs.Answers.{answer, IsHistory, is_recorded, unless, gone, Moving, move_answer, moving}
 use Rattle.desk_model.specs.declared.row.Owed.{Owed}
 use Rattle.desk_model.specs.declared.row.Move.{Move}
 use Rattle.desk_model.specs.declared.state.DutyState.{DutyState}
@@ -26,29 +25,20 @@ use Rattle.desk_model.specs.declared.state.ReleaseState.{ReleaseState}
 use Rattle.desk_model.specs.declared.state.ReleaseState.TheVariants as release
 use Rattle.desk_model.specs.declared.state.Word.{Word}
 use Rattle.desk_model.specs.declared.state.Word.TheVariants as word
-use Rattle.desk_model.specs.declared.refusal.Limit.TheVariants as limit
 use Rattle.desk_model.specs.declared.refusal.Refusal.TheVariants as why
 use Rattle.desk_model.specs.declared.command.Command.{Command}
 use Rattle.desk_model.specs.declared.command.Command.TheVariants.{Freeze, Meet, Waive, Reopen, Withdraw, CloseDay}
 use Rattle.desk_history.proofs.OwnKeys.{open_at}
 use Rattle.desk_history.proofs.Recorded.{past, is_so}
 use Rattle.desk_history.proofs.Moving.{length-change_rows}
-use Rattle.desk_history_laws.proofs.Recorded.{less}
+use Rattle.desk_history_laws.proofs.Recorded.{allows, less}
 
 -- What a recorded command looked up
 
 -- Meet, Waive and Reopen: fewer changes than the limit
 steps_below : (word : Word) (day text : List ℕ) (until : Option (List ℕ)) (found : Moving)
     → IsTrue (is_recorded (move_answer word day text until found)) → found.steps < 999
-steps_below word day text until found e =
-    let one = past (unless (is_day day && option_map_or is_day until true) why.BadDay) _ e in
-    let two = past (unless (is_note text) why.BadText) _ one.1 in
-    let three = past (unless (not (is_over day until)) why.BadEnd) _ two.1 in
-    let four = past (unless (is_some found.place) why.UnknownDuty) _ three.1 in
-    let five = past (gone found.release) _ four.1 in
-    let six = past (option_and_then (settled word) found.place) _ five.1 in
-    let seven = past (unless (nat_lt found.steps most.changes) (why.Full limit.Changes)) _ six.1 in
-    less found.steps 999 (is_so (nat_lt found.steps most.changes) (why.Full limit.Changes) seven.0)
+steps_below word day text until found e = (allows word day text until found e).room
 
 -- Withdraw: a release that is not withdrawn
 not_gone : (s : ReleaseState) (form : Option (List ℕ)) → is_some (option_map (λ (f : List ℕ). s) form) ≡ true
