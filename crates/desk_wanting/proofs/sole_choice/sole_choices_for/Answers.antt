@@ -1,9 +1,10 @@
-use Rattle.std.proofs.Common.{◌++◌, ap, refl}
+use Rattle.std.proofs.Common.{◌++◌, ap}
 use Rattle.std.specs.List.{filter_map}
-use Rattle.desk_access.proofs.Chains.{same_self, same_then_same}
+use Rattle.desk_access.proofs.Chains.{same_self}
+use Rattle.desk_model.specs.Readings.{Readings}
+use Rattle.desk_model.specs.Tables.{Tables}
 use Rattle.desk_wanting.specs.Sole.{sole_choice_found}
-use Rattle.desk_wanting.proofs.Lists.{ended}
-use Rattle.desk_wanting.proofs.SoFar.{fails, option_more}
+use Rattle.desk_wanting.proofs.SoFar.{fails, option_end, option_turn}
 use Rattle.desk_wanting.proofs.sole_choice.sole_choices_for.Goals as goal
 
 pub loop-row-init : goal.loop-row-init
@@ -14,15 +15,11 @@ loop-row-init g c = record {
 
 pub loop-row-preserved : goal.loop-row-preserved
 loop-row-preserved g c =
-    let before = c.loop-row.invariant in
-    let one = c.in_ok-choice.ensures in
-    record {
-      same = same_then_same _ _ _ before.same one.kept;
-      found = λ w right.
-          option_more (λ t. sole_choice_found w t c.args.release.now) c.args.packages.now c.loop-row.row-index c.row-item.result
-          c.loop-row.choices.items c.add_choice.new.choices.items (λ t. filter_map (sole_choice_found w t c.args.release.now) c.args.packages.now)
-          c.in_ok-choice.choice _ _ _ c.loop-row-test.true c.row-item.is before.same one.kept (one.found w right) c.in_ok-add_choice.ensures (before.found w right);
-    }
+    let told = λ (w : Readings) (t : Tables). sole_choice_found w t c.args.release.now in
+    option_turn g.T.Texts.are_right told c.args.packages.now c.loop-row.row-index c.row-item.result c.loop-row.choices.items
+    c.add_choice.new.choices.items (λ w t. filter_map (told w t) c.args.packages.now) c.in_ok-choice.choice
+    c.loop-row-test.true c.row-item.is c.loop-row.invariant c.in_ok-choice.ensures.kept c.in_ok-choice.ensures.found
+    c.in_ok-add_choice.ensures
 
 pub returns-in_err-choice-clause-kept : goal.returns-in_err-choice-clause-kept
 returns-in_err-choice-clause-kept g c =
@@ -33,7 +30,7 @@ returns-in_err-add_choice-clause-kept g c =
     fails _ _ _ c.from_residual-in_err-add_choice.result c.from_residual-in_err-add_choice.ensures.0 c.loop-row.invariant.same c.in_ok-choice.ensures.kept.kept
 
 pub returns-clause-found : goal.returns-clause-found
-returns-clause-found g c = λ w right h t held.
-    let told = filter_map (sole_choice_found w t c.args.release.now) in
-    ended told c.args.packages.now c.loop-row.row-index c.loop-row.choices.items (told c.args.packages.now) c.loop-row-test.false refl
-    (c.loop-row.invariant.found w right h t held)
+returns-clause-found g c =
+    let told = λ (w : Readings) (t : Tables). sole_choice_found w t c.args.release.now in
+    option_end g.T.Texts.are_right told c.args.packages.now c.loop-row.row-index c.loop-row.choices.items
+    (λ w t. filter_map (told w t) c.args.packages.now) c.loop-row-test.false c.loop-row.invariant
