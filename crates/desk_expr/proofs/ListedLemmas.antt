@@ -49,23 +49,11 @@ noted_first chosen own n room = record {
   told = λ t k is early at. absurd (omega (arith, early));
 }
 
--- of a term that isn't found nothing is noted
-pub noted_none : (chosen : List Term) (own : List (Option (Bor Term))) (places : List ℕ) (i : ℕ) (t : Term) → slice_get chosen i ≡ Some t → (IsOwn own t → ⊥) → NotedTo chosen own places i → NotedTo chosen own places (i + 1)
-noted_none chosen own places i t at none so_far = record {
-  there = so_far.there;
-  told = λ u k is early at'.
-      ⊎_elim
-      (λ below. so_far.told u k is below at')
-      (λ above.
-      let here : k ≡ i = omega arith in
-      let same : t ≡ u = same_listed chosen i t u at (ap (slice_get chosen) (sym here) ∙ at') in
-      absurd (none (subst (IsOwn own) (sym same) is)))
-      (order k i);
-}
-
--- a term that stands earlier keeps its place
-pub noted_kept : (chosen : List Term) (own : List (Option (Bor Term))) (places : List ℕ) (i : ℕ) (t : Term) → slice_get chosen i ≡ Some t → noted_place own places t ≤ i → NotedTo chosen own places i → NotedTo chosen own places (i + 1)
-noted_kept chosen own places i t at earlier so_far = record {
+-- a term whose place is not behind it, if it is found
+noted_next : (chosen : List Term) (own : List (Option (Bor Term))) (places : List ℕ) (i : ℕ) (t : Term)
+    → slice_get chosen i ≡ Some t → (IsOwn own t → noted_place own places t ≤ i)
+    → NotedTo chosen own places i → NotedTo chosen own places (i + 1)
+noted_next chosen own places i t at earlier so_far = record {
   there = so_far.there;
   told = λ u k is early at'.
       ⊎_elim
@@ -74,9 +62,18 @@ noted_kept chosen own places i t at earlier so_far = record {
       let here : k ≡ i = omega arith in
       let within : i < length chosen = slice_get_within chosen i t at in
       let same : t ≡ u = same_listed chosen i t u at (ap (slice_get chosen) (sym here) ∙ at') in
-      subst (λ v. noted_place own places v < length chosen) same (omega (arith, earlier, within)))
+      let low = earlier (subst (IsOwn own) (sym same) is) in
+      subst (λ v. noted_place own places v < length chosen) same (omega (arith, low, within)))
       (order k i);
 }
+
+-- of a term that isn't found nothing is noted
+pub noted_none : (chosen : List Term) (own : List (Option (Bor Term))) (places : List ℕ) (i : ℕ) (t : Term) → slice_get chosen i ≡ Some t → (IsOwn own t → ⊥) → NotedTo chosen own places i → NotedTo chosen own places (i + 1)
+noted_none chosen own places i t at none = noted_next chosen own places i t at (λ is. absurd (none is))
+
+-- a term that stands earlier keeps its place
+pub noted_kept : (chosen : List Term) (own : List (Option (Bor Term))) (places : List ℕ) (i : ℕ) (t : Term) → slice_get chosen i ≡ Some t → noted_place own places t ≤ i → NotedTo chosen own places i → NotedTo chosen own places (i + 1)
+noted_kept chosen own places i t at earlier = noted_next chosen own places i t at (λ is. earlier)
 
 -- a term is noted
 pub noted_here : (chosen : List Term) (own : List (Option (Bor Term))) (places more : List ℕ) (i : ℕ) (t : Term) → slice_get chosen i ≡ Some t → IsOwn own t

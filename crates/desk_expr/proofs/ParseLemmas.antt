@@ -126,30 +126,51 @@ end_spells_nothing Spells end ts a (TooLong p) reason h = reason
 end_spells_nothing Spells end ts a (TooManyTerms p) reason h = reason
 end_spells_nothing Spells end ts a (Memory m) reason h = reason
 
-no_end : (profile : Profile) (text : List ℕ) (f : ParseFault) (e : Tree) → StopsAtEnd SpellsTree profile text f → SpellsWithinBy profile text e → ⊥
-no_end profile text f e (t, behind, are, stands, reason) (short, us, are', h, keeps) =
-    let same : us ≡ t ∷ behind = same_tokens profile 0 text us (t ∷ behind) are' are in
-    end_spells_nothing SpellsTree (length text) (t ∷ behind) e f reason (subst (λ l. SpellsTree (symbols l) e) same h)
+-- a text that stops spells nothing, in any language whose words have symbols, if a stop at a token says so
+module _ {A : Type 0} (Spells : List Symbol → A → Type 0) (Within : A → Type 0) (profile : Profile) (text : List ℕ)
+    (spelled : (a : A) → Within a → (length text ≤ limit.expression_bytes)
+    × (ts : List Lexeme) × AreTokensBy profile 0 text ts × Spells (symbols ts) a)
+    (words : (a : A) → Spells [] a → ⊥)
+    (no_reason : (f : ParseFault) (a : A) → StopsAtToken Spells profile text f → Within a → ⊥) where
+  spelled_by_tokens : (a : A) (ts : List Lexeme) → AreTokensBy profile 0 text ts → Within a → Spells (symbols ts) a
+  spelled_by_tokens a ts are within =
+      let it = spelled a within in
+      subst (λ l. Spells (symbols l) a) (same_tokens profile 0 text it.1 ts it.2 are) it.3
 
-no_tokens : (profile : Profile) (text : List ℕ) (e : Tree) → AreTokensBy profile 0 text [] → SpellsWithinBy profile text e → ⊥
-no_tokens profile text e are (short, us, are', h, keeps) =
-    let same : us ≡ [] = same_tokens profile 0 text us [] are' are in
-    something e (subst (λ l. SpellsTree (symbols l) e) same h)
+  no_end : (f : ParseFault) (a : A) → StopsAtEnd Spells profile text f → Within a → ⊥
+  no_end f a (t, behind, are, stands, reason) within =
+      end_spells_nothing Spells (length text) (t ∷ behind) a f reason (spelled_by_tokens a (t ∷ behind) are within)
+
+  pub stop_spells : (f : ParseFault) → IsStopBy Spells profile text f
+      → (f ≡ Memory alloc_error) ⊎ ((a : A) → Within a → ⊥)
+  stop_spells (Empty p) h = inr (λ a within. words a (spelled_by_tokens a [] h.1 within))
+  stop_spells (BadToken p) h = inr (λ a within. no_reason (BadToken p) a h.1 within)
+  stop_spells (Unexpected p) h =
+      inr (λ a within. elim h.1 [
+        | inl token ↦ no_reason (Unexpected p) a token within
+        | inr end ↦ no_end (Unexpected p) a end within
+      ])
+  stop_spells (Unclosed p) h = inr (λ a within. no_end (Unclosed p) a h.1 within)
+  stop_spells (TooDeep p) h = inr (λ a within. no_reason (TooDeep p) a h.1 within)
+  stop_spells (TooLong p) h =
+      inr (λ a within. let short = (spelled a within).0 in absurd (omega (arith, h.0, short)))
+  stop_spells (TooManyTerms p) h = inr (λ a within. no_reason (TooManyTerms p) a h.1 within)
+  stop_spells (Memory m) h = inl refl
+
+  pub faults_spell : {R : Type 0} (r : Result R ParseFault) → IfErr r (IsStopBy Spells profile text)
+      → IfErr r (λ f. (f ≡ Memory alloc_error) ⊎ ((a : A) → Within a → ⊥))
+  faults_spell (Ok e) h = h
+  faults_spell (Err f) h = stop_spells f h
 
 pub stop_spells_nothing : (profile : Profile) (text : List ℕ) (f : ParseFault) → IsStopBy SpellsTree profile text f → (f ≡ Memory alloc_error) ⊎ ((e : Tree) → SpellsWithinBy profile text e → ⊥)
-stop_spells_nothing profile text (Empty p) h = inr (λ e within. no_tokens profile text e h.1 within)
-stop_spells_nothing profile text (BadToken p) h = inr (λ e within. no_reason profile text (BadToken p) e h.1 within)
-stop_spells_nothing profile text (Unexpected p) h =
-    inr (λ e within. elim h.1 [ inl a ↦ no_reason profile text (Unexpected p) e a within | inr b ↦ no_end profile text (Unexpected p) e b within ])
-stop_spells_nothing profile text (Unclosed p) h = inr (λ e within. no_end profile text (Unclosed p) e h.1 within)
-stop_spells_nothing profile text (TooDeep p) h = inr (λ e within. no_reason profile text (TooDeep p) e h.1 within)
-stop_spells_nothing profile text (TooLong p) h = inr (λ e within. absurd (omega (arith, h.0, within.0)))
-stop_spells_nothing profile text (TooManyTerms p) h = inr (λ e within. no_reason profile text (TooManyTerms p) e h.1 within)
-stop_spells_nothing profile text (Memory m) h = inl refl
+stop_spells_nothing profile text =
+    stop_spells SpellsTree (SpellsWithinBy profile text) profile text (λ e h. (h.0, h.1, h.2, h.3)) something
+    (no_reason profile text)
 
 pub faults_spell_nothing : (profile : Profile) (text : List ℕ) (r : Result Tree ParseFault) → IfErr r (IsStopBy SpellsTree profile text) → IfErr r (λ f. (f ≡ Memory alloc_error) ⊎ ((e : Tree) → SpellsWithinBy profile text e → ⊥))
-faults_spell_nothing profile text (Ok e) h = h
-faults_spell_nothing profile text (Err f) h = stop_spells_nothing profile text f h
+faults_spell_nothing profile text =
+    faults_spell SpellsTree (SpellsWithinBy profile text) profile text (λ e h. (h.0, h.1, h.2, h.3)) something
+    (no_reason profile text)
 
 -- ---- the end of the loop
 

@@ -24,7 +24,7 @@ use Rattle.desk_expr.specs.Spelling.{symbol, symbol_of, symbols, open_after, is_
 use Rattle.desk_expr.specs.TermReading.{TermRest, HasBegun, TermSteps, TermStops, TermEnds, TermFalls}
 use Rattle.desk_expr.proofs.Lexing.{tokens_exist, same_tokens}
 use Rattle.desk_expr.proofs.ProgressLemmas.{symbols_push, fronts_push}
-use Rattle.desk_expr.proofs.ParseLemmas.{SoFar, end_spells_nothing, symbols_behind, symbols_split}
+use Rattle.desk_expr.proofs.ParseLemmas.{SoFar, faults_spell, stop_spells, symbols_behind, symbols_split}
 
 -- ---- steps
 
@@ -315,27 +315,15 @@ no_reason profile text f e (front, t, behind, are, stands, reason) (short, (us, 
         let stand = short_stands (front ++ t ∷ []) reason.0 in let few = stand.terms in absurd (omega (arith, few, reason.2))
     none (Memory m) reason h = reason
 
-no_end : (profile : Profile) (text : List ℕ) (f : ParseFault) (e : Term) → StopsAtEnd SpellsTerm profile text f → SpellsTermWithinBy profile text e → ⊥
-no_end profile text f e (t, behind, are, stands, reason) (short, (us, are', h)) =
-    let same : us ≡ t ∷ behind = same_tokens profile 0 text us (t ∷ behind) are' are in
-    end_spells_nothing SpellsTerm (length text) (t ∷ behind) e f reason (subst (λ l. SpellsTerm (symbols l) e) same h)
-
-no_tokens : (profile : Profile) (text : List ℕ) (e : Term) → AreTokensBy profile 0 text [] → SpellsTermWithinBy profile text e → ⊥
-no_tokens profile text e are (short, (us, are', h)) =
-    let same : us ≡ [] = same_tokens profile 0 text us [] are' are in
-    elim (term_inv [] e (subst (λ l. SpellsTerm (symbols l) e) same h)) [ inl (o, is) ↦ cc | inr (v, u, o, x, is, k) ↦ cc ]
+words : (e : Term) → SpellsTerm [] e → ⊥
+words e h = elim (term_inv [] e h) [ inl (o, is) ↦ cc | inr (v, u, o, x, is, k) ↦ cc ]
 
 pub stop_spells_no_term : (profile : Profile) (text : List ℕ) (f : ParseFault) → IsStopBy SpellsTerm profile text f → (f ≡ Memory alloc_error) ⊎ ((e : Term) → SpellsTermWithinBy profile text e → ⊥)
-stop_spells_no_term profile text (Empty p) h = inr (λ e within. no_tokens profile text e h.1 within)
-stop_spells_no_term profile text (BadToken p) h = inr (λ e within. no_reason profile text (BadToken p) e h.1 within)
-stop_spells_no_term profile text (Unexpected p) h =
-    inr (λ e within. elim h.1 [ inl a ↦ no_reason profile text (Unexpected p) e a within | inr b ↦ no_end profile text (Unexpected p) e b within ])
-stop_spells_no_term profile text (Unclosed p) h = inr (λ e within. no_end profile text (Unclosed p) e h.1 within)
-stop_spells_no_term profile text (TooDeep p) h = inr (λ e within. no_reason profile text (TooDeep p) e h.1 within)
-stop_spells_no_term profile text (TooLong p) h = inr (λ e within. absurd (omega (arith, h.0, within.0)))
-stop_spells_no_term profile text (TooManyTerms p) h = inr (λ e within. no_reason profile text (TooManyTerms p) e h.1 within)
-stop_spells_no_term profile text (Memory m) h = inl refl
+stop_spells_no_term profile text =
+    stop_spells SpellsTerm (SpellsTermWithinBy profile text) profile text (λ e h. (h.0, h.1.0, h.1.1, h.1.2)) words
+    (no_reason profile text)
 
 pub faults_spell_no_term : (profile : Profile) (text : List ℕ) (r : Result Term ParseFault) → IfErr r (IsStopBy SpellsTerm profile text) → IfErr r (λ f. (f ≡ Memory alloc_error) ⊎ ((e : Term) → SpellsTermWithinBy profile text e → ⊥))
-faults_spell_no_term profile text (Ok e) h = h
-faults_spell_no_term profile text (Err f) h = stop_spells_no_term profile text f h
+faults_spell_no_term profile text =
+    faults_spell SpellsTerm (SpellsTermWithinBy profile text) profile text (λ e h. (h.0, h.1.0, h.1.1, h.1.2)) words
+    (no_reason profile text)

@@ -13,45 +13,44 @@ step-requires c = word_of c.loop-token.token-iterator.profile c.in-Some.token.ki
 pub returns-then-text-gt-EXPRESSION_BYTES-clause-only : goal.returns-then-text-gt-EXPRESSION_BYTES-clause-only
 returns-then-text-gt-EXPRESSION_BYTES-clause-only c = spells_once c.args.profile c.args.text.now
 
-pub returns-in-Err-clause-only : goal.returns-in-Err-clause-only
-returns-in-Err-clause-only c = spells_once c.args.profile c.args.text.now
-
-pub returns-clause-only : goal.returns-clause-only
-returns-clause-only c = spells_once c.args.profile c.args.text.now
-
 pub loop-token-preserved : goal.loop-token-preserved
 loop-token-preserved c = record {
   read = subst (λ l. HasRead l c.in-Ok.next) (sym (lexemes_push c.loop-token.yielded c.in-Some.token)) (c.in-Ok.ensures.ok (map lexeme c.loop-token.yielded) c.loop-token.invariant.read);
   so_far = so_far_push c.args.profile c.args.text.now c.loop-token.yielded c.in-Some.token c.loop-token.token-iterator c.next.new.self c.loop-token.invariant.so_far c.in-Some.ensures.steps;
 }
 
-pub returns-in-Err-clause-stop : goal.returns-in-Err-clause-stop
-returns-in-Err-clause-stop c =
-    stop_at_token c.args.profile c.args.text.now c.loop-token.yielded c.in-Some.token c.loop-token.token-iterator c.next.new.self c.in-Err.fault c.if-text-gt-EXPRESSION_BYTES.false
-    c.loop-token.invariant.so_far c.in-Some.ensures.steps c.loop-token.invariant.read.stands (c.in-Err.ensures.err (map lexeme c.loop-token.yielded) c.loop-token.invariant.read)
-
-pub returns-in-Err-clause-complete : goal.returns-in-Err-clause-complete
-returns-in-Err-clause-complete c =
-    stop_spells_nothing c.args.profile c.args.text.now c.in-Err.fault
-    (stop_at_token c.args.profile c.args.text.now c.loop-token.yielded c.in-Some.token c.loop-token.token-iterator c.next.new.self c.in-Err.fault c.if-text-gt-EXPRESSION_BYTES.false
-    c.loop-token.invariant.so_far c.in-Some.ensures.steps c.loop-token.invariant.read.stands (c.in-Err.ensures.err (map lexeme c.loop-token.yielded) c.loop-token.invariant.read))
+pub returns-in-Err : goal.returns-in-Err
+returns-in-Err c =
+    let profile = c.args.profile in
+    let text = c.args.text.now in
+    let before = c.loop-token.invariant in
+    let stop = stop_at_token profile text c.loop-token.yielded c.in-Some.token c.loop-token.token-iterator
+    c.next.new.self c.in-Err.fault c.if-text-gt-EXPRESSION_BYTES.false before.so_far c.in-Some.ensures.steps
+    before.read.stands (c.in-Err.ensures.err (map lexeme c.loop-token.yielded) before.read) in
+    record {
+      spelled = tt;
+      stop = stop;
+      complete = stop_spells_nothing profile text c.in-Err.fault stop;
+      only = spells_once profile text;
+    }
 
 -- the tokens of the whole text
-pub returns-clause-spelled : goal.returns-clause-spelled
-returns-clause-spelled c =
+pub returns : goal.returns
+returns c =
+    let profile = c.args.profile in
+    let text = c.args.text.now in
+    let read = c.loop-token.invariant.read in
+    let short = c.if-text-gt-EXPRESSION_BYTES.false in
     let ts : List Lexeme = map lexeme c.loop-token.yielded in
-    let are : AreTokensBy c.args.profile 0 c.args.text.now ts = subst (AreTokensBy c.args.profile 0 c.args.text.now) (append-nil ts) (c.loop-token.invariant.so_far [] c.in-None.ensures.steps.0) in
-    spelled_at_end c.args.profile c.args.text.now ts c.if-text-gt-EXPRESSION_BYTES.false are c.loop-token.invariant.read.stands c.finish.result (spelled_by ts c.loop-token.progress c.finish.result c.finish.ensures.ok c.loop-token.invariant.read)
-
-pub returns-clause-stop : goal.returns-clause-stop
-returns-clause-stop c =
-    let ts : List Lexeme = map lexeme c.loop-token.yielded in
-    let are : AreTokensBy c.args.profile 0 c.args.text.now ts = subst (AreTokensBy c.args.profile 0 c.args.text.now) (append-nil ts) (c.loop-token.invariant.so_far [] c.in-None.ensures.steps.0) in
-    stopped_at_end c.args.profile c.args.text.now ts c.if-text-gt-EXPRESSION_BYTES.false are c.loop-token.invariant.read.stands c.finish.result (ended_by ts c.loop-token.progress (length c.args.text.now) c.finish.result c.finish.ensures.err c.loop-token.invariant.read)
-
-pub returns-clause-complete : goal.returns-clause-complete
-returns-clause-complete c =
-    let ts : List Lexeme = map lexeme c.loop-token.yielded in
-    let are : AreTokensBy c.args.profile 0 c.args.text.now ts = subst (AreTokensBy c.args.profile 0 c.args.text.now) (append-nil ts) (c.loop-token.invariant.so_far [] c.in-None.ensures.steps.0) in
-    faults_spell_nothing c.args.profile c.args.text.now c.finish.result
-    (stopped_at_end c.args.profile c.args.text.now ts c.if-text-gt-EXPRESSION_BYTES.false are c.loop-token.invariant.read.stands c.finish.result (ended_by ts c.loop-token.progress (length c.args.text.now) c.finish.result c.finish.ensures.err c.loop-token.invariant.read))
+    let are : AreTokensBy profile 0 text ts =
+    subst (AreTokensBy profile 0 text) (append-nil ts) (c.loop-token.invariant.so_far [] c.in-None.ensures.steps.0) in
+    let stop = stopped_at_end profile text ts short are read.stands c.finish.result
+    (ended_by ts c.loop-token.progress (length text) c.finish.result c.finish.ensures.err read) in
+    record {
+      spelled =
+          spelled_at_end profile text ts short are read.stands c.finish.result
+          (spelled_by ts c.loop-token.progress c.finish.result c.finish.ensures.ok read);
+      stop = stop;
+      complete = faults_spell_nothing profile text c.finish.result stop;
+      only = spells_once profile text;
+    }
