@@ -1,7 +1,9 @@
-use Rattle.std.proofs.Common.{inr}
-use Rattle.std.specs.Prelude.{map}
+use Rattle.std.proofs.Common.{◌≡◌, inr}
+use Rattle.std.specs.Prelude.{map, Result}
 use Rattle.desk_tagvalue.specs.Entries.{entry_text}
-use Rattle.desk_tagvalue.specs.Documents.{too_large, no_text}
+use Rattle.desk_fields.specs.declared.fault.DocFault.{DocFault}
+use Rattle.desk_tagvalue.specs.Documents.{judged, no_text, too_large}
+use Rattle.desk_tagvalue.specs.Parts.{DocumentText}
 use Rattle.desk_tagvalue.proofs.ReadLemmas.{spells_judged, ok_from, err_from, err_cut}
 use Rattle.desk_tagvalue.proofs.reading.read.Goals as goal
 
@@ -11,19 +13,17 @@ returns-then-bytes-gt-DOCUMENT_BYTES-clause-err c = inr (too_large c.args.bytes.
 pub returns-in_default-clause-err : goal.returns-in_default-clause-err
 returns-in_default-clause-err c = inr (no_text c.args.bytes.now c.if-bytes-gt-DOCUMENT_BYTES.false c.in_default.ensures.cases.0)
 
-pub returns-in-Ok-entries_of-clause-ok : goal.returns-in-Ok-entries_of-clause-ok
-returns-in-Ok-entries_of-clause-ok c =
+pub returns-in-Ok-entries_of : goal.returns-in-Ok-entries_of
+returns-in-Ok-entries_of c =
+    let bytes = c.args.bytes.now in
     let t = c.in-Ok.ensures.cases in
     let es = map entry_text c.in-Ok-entries_of.entries.items in
-    ok_from c.args.bytes.now es c.judged.result
-    (λ x is. spells_judged c.args.bytes.now c.in-Ok.text.now es x c.if-bytes-gt-DOCUMENT_BYTES.false t.1 t.0 c.in-Ok-entries_of.ensures.ok is) c.judged.ensures.ok
-
-pub returns-in-Ok-entries_of-clause-err : goal.returns-in-Ok-entries_of-clause-err
-returns-in-Ok-entries_of-clause-err c =
-    let t = c.in-Ok.ensures.cases in
-    let es = map entry_text c.in-Ok-entries_of.entries.items in
-    err_from c.args.bytes.now es c.judged.result
-    (λ x is. spells_judged c.args.bytes.now c.in-Ok.text.now es x c.if-bytes-gt-DOCUMENT_BYTES.false t.1 t.0 c.in-Ok-entries_of.ensures.ok is) c.judged.ensures.err
+    let spells = λ (x : Result DocumentText DocFault) (is : judged es ≡ x).
+    spells_judged bytes c.in-Ok.text.now es x c.if-bytes-gt-DOCUMENT_BYTES.false t.1 t.0 c.in-Ok-entries_of.ensures.ok is in
+    record {
+      ok = ok_from bytes es c.judged.result spells c.judged.ensures.ok;
+      err = err_from bytes es c.judged.result spells c.judged.ensures.err;
+    }
 
 pub returns-in-Err-clause-err : goal.returns-in-Err-clause-err
 returns-in-Err-clause-err c =
