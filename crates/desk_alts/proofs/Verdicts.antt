@@ -6,6 +6,7 @@ use Rattle.desk_expr.specs.Tree.{Tree, Trees, one, all, any, no_more, more}
 use Rattle.desk_expr.specs.Meaning.{Holds, AllHold, SomeHolds, IsMinimal, Without, CanGo, IsFirst}
 use Rattle.desk_expr.proofs.SameTerms.{same_term, contains_cases, contains_here, contains_there}
 use Rattle.desk_expr.proofs.Minimal.{holds_more, minimal_if_none_can_go}
+use Rattle.desk_alts.proofs.Choosing.{is_listed}
 use Rattle.desk_alts.proofs.Decide.{Decided, decided_not, decided_both, first_below}
 
 module _ (set : Term → Type 0) (known : (t : Term) → Decided (set t)) where
@@ -30,19 +31,8 @@ module _ (set : Term → Type 0) (known : (t : Term) → Decided (set t)) where
           ]
         ]
 
-contains_or_not : (ts : List Term) (t : Term) → Decided (Contains ts t)
-contains_or_not [] t = inr (λ at. absurd (omega (arith, at.1)))
-contains_or_not (u ∷ ts) t =
-    elim (same_term u t) [
-      | inl same ↦ inl (contains_here u ts t same)
-      | inr other ↦ elim (contains_or_not ts t) [
-        | inl later ↦ inl (contains_there u ts t later)
-        | inr none ↦ inr (λ at. elim (contains_cases u ts t at) [ inl same ↦ other same | inr later ↦ none later ])
-      ]
-    ]
-
 without_or_not : (chosen : List Term) (gone t : Term) → Decided (Without chosen gone t)
-without_or_not chosen gone t = decided_both (Contains chosen t) (t ≡ gone → ⊥) (contains_or_not chosen t) (decided_not (t ≡ gone) (same_term t gone))
+without_or_not chosen gone t = decided_both (Contains chosen t) (t ≡ gone → ⊥) (is_listed chosen t) (decided_not (t ≡ gone) (same_term t gone))
 
 can_go_or_not : (chosen : List Term) (e : Tree) (i : ℕ) → Decided (CanGo chosen e i)
 can_go_or_not chosen e i = at (slice_get chosen i) refl
@@ -57,7 +47,7 @@ can_go_or_not chosen e i = at (slice_get chosen i) refl
 
 pub verdict : (e : Tree) (chosen : List Term) → (Holds (Contains chosen) e → ⊥) ⊎ ((Holds (Contains chosen) e × (i : ℕ) × IsFirst (CanGo chosen e) i) ⊎ IsMinimal chosen e)
 verdict e chosen =
-    elim (holds_or_not (Contains chosen) (contains_or_not chosen) e) [
+    elim (holds_or_not (Contains chosen) (is_listed chosen) e) [
       | inr fails ↦ inl fails
       | inl h ↦ elim (first_below (CanGo chosen e) (can_go_or_not chosen e) (length chosen)) [
         | inl found ↦ inr (inl (h, found.0, found.1))
