@@ -128,10 +128,6 @@ filter_written {X} full part keeps p (x ∷ xs) all = go (filter_written full pa
     go more true is = rw is (keeps x all.0, more)
     go more false is = rw is more
 
-pub mapped_written : {X Y : Type 0} (full : X → Row) (part : Y → Row) (f : X → Y) → ((x : X) → IsRow (full x) → IsRow (part (f x))) → (xs : List X) → AllByRecursion IsRow (map full xs) → AllByRecursion IsRow (map part (map f xs))
-mapped_written full part f keeps [] all = tt
-mapped_written full part f keeps (x ∷ xs) all = (keeps x all.0, mapped_written full part f keeps xs all.1)
-
 pub every_written : {X : Type 0} (full part : X → Row) → ((x : X) → IsRow (full x) → IsRow (part x)) → (xs : List X) → AllByRecursion IsRow (map full xs) → AllByRecursion IsRow (map part xs)
 every_written full part keeps [] all = tt
 every_written full part keeps (x ∷ xs) all = (keeps x all.0, every_written full part keeps xs all.1)
@@ -194,7 +190,3 @@ module _ {X : Type 0} (cells : X → Row) (Is : Tables → Type 0) (old new : St
   pub rows_cause : IfErr r (λ fault. (ys : List X) → rows ≡ map cells ys → AllByRecursion IsRow rows → fault ≡ Memory) → IfErr r (HasCauseIf Is old new)
   rows_cause = read_cause Is old new r (λ fault. (ys : List X) → rows ≡ map cells ys → AllByRecursion IsRow rows → fault ≡ Memory)
       (λ clean t holds written is fault told. let it = shown clean t holds is in told (xs t) it (subst (AllByRecursion IsRow) (sym it) (all t written)))
-
-  pub values_cause : IfErr r (λ fault. (ys : List X) → rows ≡ map cells ys → AllByRecursion IsRow rows → AllByRecursion (λ y. Unit {0}) ys → fault ≡ Memory) → IfErr r (HasCauseIf Is old new)
-  values_cause = read_cause Is old new r (λ fault. (ys : List X) → rows ≡ map cells ys → AllByRecursion IsRow rows → AllByRecursion (λ y. Unit {0}) ys → fault ≡ Memory)
-      (λ clean t holds written is fault told. let it = shown clean t holds is in told (xs t) it (subst (AllByRecursion IsRow) (sym it) (all t written)) (no_days (xs t)))

@@ -21,7 +21,7 @@ use Rattle.desk_sql_lookup.specs.Causes.{AreWritten, HasCauseIf, IsAsked, IsRow}
 use Rattle.desk_sql_lookup.specs.LookUps.{LooksUp, LooksUpGiven}
 use Rattle.desk_sql_lookup.specs.Queried.{Queries, ReadsQuery}
 use Rattle.desk_sql_lookup.proofs.Calls.{shown_open, shown_unchanged}
-use Rattle.desk_sql_lookup.proofs.Causes.{any_cause, cause_after, memory_cause, no_days, rows_cause, values_cause}
+use Rattle.desk_sql_lookup.proofs.Causes.{any_cause, cause_after, memory_cause, no_days, rows_cause}
 use Rattle.desk_sql_lookup.proofs.Finding.{Finds, FindsRows}
 use Rattle.desk_sql_lookup.proofs.Chains.{same_then_kept, same_then_same}
 
@@ -182,9 +182,6 @@ module _ {S A : Type 0} (g : Ghosts S) (old new : Held S) {Given : Tables → Ty
 
     pub then_rows : IfErr r (λ fault. (ys : List X) → rows ≡ map cells ys → AllByRecursion IsRow rows → fault ≡ Memory) → LooksUpGiven g If old new r Has
     then_rows cause = then_tells told (rows_cause cells If (state g old) (state g new) r rows xs shown all cause)
-
-    pub then_values : IfErr r (λ fault. (ys : List X) → rows ≡ map cells ys → AllByRecursion IsRow rows → AllByRecursion (λ y. Unit {0}) ys → fault ≡ Memory) → LooksUpGiven g If old new r Has
-    then_values cause = then_tells told (values_cause cells If (state g old) (state g new) r rows xs shown all cause)
 
 -- ---- of a look-up that failed
 
