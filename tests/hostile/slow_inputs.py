@@ -209,10 +209,36 @@ def nested_files(depth, each):
     return made
 
 
-def many_licences(room):
-    toml = f'version = 1\n[[annotations]]\npath = "**"\nprecedence = "aggregate"\n{LICENCE} = [' + ", ".join(f'"l{n}"' for n in range(5_000)) + "]\n"
+def licensing(path, licences):
+    """An annotation that counts beside what files state: a path, and so many licences."""
+    return f'[[annotations]]\npath = "{path}"\nprecedence = "aggregate"\n{LICENCE} = [' + ", ".join(f'"{n}"' for n in licences) + "]\n"
+
+
+def many_licences(each):
+    """A REUSE.toml of so many licences, over files that have a tag each."""
+    def made(room):
+        size = write(room, "tree/REUSE.toml", "version = 1\n" + licensing("**", (f"l{n}" for n in range(each))))
+        size += sum(write(room, f"tree/f{n}", f"{LICENCE}: m{n}\n") + len(f"f{n}") for n in range(MOST - 1))
+        return ["lint", "tree"], None, size
+    return made
+
+
+def licences_by_turns(room):
+    """Two annotations of 5,000 licences each, which count for every other file."""
+    toml = "version = 1\n" + "".join(licensing(f"*.{side}", (f"{side}{n}" for n in range(5_000))) for side in "ab")
     size = write(room, "tree/REUSE.toml", toml)
-    size += sum(write(room, f"tree/f{n}", f"{LICENCE}: m{n}\n") + len(f"f{n}") for n in range(MOST - 1))
+    for n in range(MOST - 1):
+        name = f"f{n:04}." + "ab"[n % 2]
+        size += write(room, f"tree/{name}", f"{LICENCE}: m{n}\n") + len(name)
+    return ["lint", "tree"], None, size
+
+
+def licences_of_folders(room):
+    """A REUSE.toml of 5,000 licences, and one of a licence in each of 4,999 folders."""
+    size = write(room, "tree/REUSE.toml", "version = 1\n" + licensing("**", (f"l{n}" for n in range(5_000))))
+    for n in range((MOST - 1) // 2):
+        size += write(room, f"tree/{n}/REUSE.toml", "version = 1\n" + licensing("**", [f"m{n}"])) + len(f"{n}/REUSE.toml")
+        size += write(room, f"tree/{n}/f", "x") + len(f"{n}/f")
     return ["lint", "tree"], None, size
 
 
@@ -326,7 +352,10 @@ SLOW = {
     "tree: 10,000 files with tags": many_files,
     "tree: 200 folders in one another, 9,000 files": nested_files(200, 45),
     "tree: 1,900 folders in one another, 7,600 files": nested_files(1_900, 4),
-    "tree: 5,000 licences of a REUSE.toml, 9,999 files": many_licences,
+    "tree: 5,000 licences of a REUSE.toml, 9,999 files": many_licences(5_000),
+    "tree: a million licences of a REUSE.toml, 9,999 files": many_licences(1_000_000),
+    "tree: twice 5,000 licences for every other of 9,999 files": licences_by_turns,
+    "tree: 5,000 licences, and one in each of 4,999 folders": licences_of_folders,
     "tree: a file of a million tags": million_tags,
     "tree: 100,000 licences in 1,000 files": other_tags,
     "tree: 1,000 annotations, 1,000 files": many_annotations,

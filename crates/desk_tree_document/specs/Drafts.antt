@@ -1,5 +1,5 @@
 -- The draft of a tree (SPDX 2.3, clauses 6 to 8).
-use Rattle.std.specs.Prelude.{ℕ, Bool, true, false, List, [], ◌∷◌, Ok, if◌then◌else◌}
+use Rattle.std.specs.Prelude.{ℕ, Bool, List, [], ◌∷◌, Ok, if◌then◌else◌}
 use Rattle.std.specs.List.{list_any, flat_map}
 use Rattle.sha1.specs.Sha1.{sha1}
 use Rattle.desk_model.specs.Texts.{sorted_set}
@@ -10,6 +10,7 @@ use Rattle.desk_tree_gather.specs.declared.gathering.FileInfo.{FileInfo}
 use Rattle.desk_tree_gather.specs.Readers.{Reader}
 use Rattle.desk_tree_gather.specs.Trees.{Read, bytes_of, tree_of}
 use Rattle.desk_tree_gather.specs.Gathering.{gathered}
+use Rattle.desk_tree_gather.specs.Sharing.{is_none}
 use Rattle.desk_tree_document.specs.Texts.{expression_read, copyright_of}
 use Rattle.desk_base.specs.Results.{then_read, followed}
 
@@ -31,10 +32,6 @@ files_of r tree [] = Ok []
 files_of r tree (i ∷ is) = followed (file_of r tree i) (files_of r tree is)
 
 -- ---- the package
-
-abbrev pub is_none : List (List ℕ) → Bool
-is_none [] = true
-is_none (t ∷ ts) = false
 
 abbrev pub is_bare : FileInfo → Bool
 is_bare info = is_none info.licences

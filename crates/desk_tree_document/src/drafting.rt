@@ -8,12 +8,12 @@ ghost use Rattle.desk_tree_document.specs.Shown.{Gives, named};
 ghost use Rattle.desk_tree_document.specs.Texts.{copyright_of, expression_read};
 ghost use Rattle.desk_tree_document.specs.Drafts.{package_licences, package_notices};
 
-use crate::files::{digests_of, files_of, infos_of, package_licences, package_notices};
+use crate::files::{digests_of, files_of, package_licences, package_notices};
 use crate::texts::{copyright_of, expression_read};
 use desk_base::{Items, Text};
 use desk_bom::verification_code;
 use desk_tagvalue::{Draft, DraftFile};
-use desk_tree_gather::{FileInfo, GatherFault, SourceFile, told};
+use desk_tree_gather::{GatherFault, Infos, SourceFile, told};
 use std::alloc::{AllocError, Global};
 
 // What a document is called.
@@ -57,7 +57,7 @@ fn names_of(alloc: Global, title: Title<'_>) -> Result<Names, AllocError>
 }
 
 // What the package concludes of all files.
-fn concluded(alloc: Global, infos: &[FileInfo]) -> Result<Result<Text, GatherFault>, AllocError>
+fn concluded(alloc: Global, infos: &Infos) -> Result<Result<Text, GatherFault>, AllocError>
     ensures { (r : Reader) → IsRightReader r → IfOk result
         (Gives (expression_read r.reading (package_licences infos.now)) (λ t. t)) }
 {
@@ -66,7 +66,7 @@ fn concluded(alloc: Global, infos: &[FileInfo]) -> Result<Result<Text, GatherFau
 }
 
 // The copyright notices of all files.
-fn copyright(alloc: Global, infos: &[FileInfo]) -> Result<Text, AllocError>
+fn copyright(alloc: Global, infos: &Infos) -> Result<Text, AllocError>
     ensures { IfOk result (λ t. t ≡ copyright_of (package_notices infos.now)) }
 {
     let notices = package_notices(alloc, infos)?;
@@ -77,7 +77,7 @@ fn copyright(alloc: Global, infos: &[FileInfo]) -> Result<Text, AllocError>
 fn draft_with(
     alloc: Global,
     title: Title<'_>,
-    infos: &[FileInfo],
+    infos: &Infos,
     files: Vec<DraftFile>,
 ) -> Result<Result<Draft, GatherFault>, AllocError>
     ensures ok { (r : Reader) → IsRightReader r
@@ -128,12 +128,12 @@ fn drafted(
         Ok(told) => told,
         Err(fault) => return Ok(Err(fault)),
     };
-    let files = match files_of(alloc, told.as_slice())? {
+    let files = match files_of(alloc, &told)? {
         Ok(files) => files,
         Err(fault) => return Ok(Err(fault)),
     };
-    let infos = infos_of(alloc, told)?;
-    draft_with(alloc, title, infos.as_slice(), files)
+    let infos = told.into_infos(alloc)?;
+    draft_with(alloc, title, &infos, files)
 }
 
 /// The draft of a tree: of the document, its package and each covered file by path. The first fault

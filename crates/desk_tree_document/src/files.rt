@@ -1,17 +1,18 @@
 //! The files of a draft.
 
-ghost use Rattle.std.specs.Prelude.{◌≡◌, IfOk, OnOk, map, ◌++◌};
-ghost use Rattle.std.specs.List.{list_any, flat_map};
+ghost use Rattle.std.specs.Prelude.{◌≡◌, IfOk, map};
+ghost use Rattle.std.specs.List.{list_any};
 ghost use Rattle.desk_tree_gather.specs.Readers.{Reader, IsRightReader};
-ghost use Rattle.desk_tree_document.specs.Drafts.{is_bare, package_licences, package_notices};
-ghost use Rattle.desk_tree_document.specs.Told.{infos_in, file_told, files_told};
+ghost use Rattle.desk_tree_gather.specs.Sharing.{outline_in};
+ghost use Rattle.desk_tree_document.specs.Drafts.{package_licences, package_notices};
+ghost use Rattle.desk_tree_document.specs.Told.{file_told, files_told};
 ghost use Rattle.desk_tree_document.specs.Shown.{Gives};
 
 use crate::texts::{copyright_of, expression_read};
 use desk_base::Items;
 use desk_tagvalue::DraftFile;
 use desk_tree_annotations::SharedText;
-use desk_tree_gather::{FileInfo, GatherFault, ToldFile, shared_set};
+use desk_tree_gather::{GatherFault, Infos, Outline, Subject, ToldFile, ToldFiles};
 use std::alloc::{AllocError, Global};
 
 // What the draft says of a file.
@@ -34,31 +35,20 @@ fn file_of(alloc: Global, told: &ToldFile) -> Result<Result<DraftFile, GatherFau
 /// What the draft says of the files, in their order.
 pub(crate) fn files_of(
     alloc: Global,
-    told: &[ToldFile],
+    told: &ToldFiles,
 ) -> Result<Result<Vec<DraftFile>, GatherFault>, AllocError>
     ensures { (r : Reader) → IsRightReader r
         → IfOk result (Gives (files_told r told.now) (λ v. v.items)) }
 {
     let mut files = Vec::new(alloc);
-    for one in told {
-        match file_of(alloc, one)? {
+    for place in 0..told.len() {
+        let one = told.file(alloc, place)?;
+        match file_of(alloc, &one)? {
             Ok(file) => files.push(file)?,
             Err(fault) => return Ok(Err(fault)),
         }
     }
     Ok(Ok(files))
-}
-
-/// The information of the files, in their order.
-pub(crate) fn infos_of(alloc: Global, told: Vec<ToldFile>) -> Result<Vec<FileInfo>, AllocError>
-    ensures { IfOk result (λ v. v.items ≡ infos_in told.items) }
-{
-    let mut infos = Vec::new(alloc);
-    for one in told {
-        let ToldFile { info, .. } = one;
-        infos.push(info)?;
-    }
-    Ok(infos)
 }
 
 /// The digests of files.
@@ -72,67 +62,38 @@ pub(crate) fn digests_of(alloc: Global, files: &[DraftFile]) -> Result<Vec<[u8; 
     Ok(digests)
 }
 
-// Adds texts to others.
-fn add(list: &mut Vec<SharedText>, more: &[SharedText]) -> Result<(), AllocError>
-    ensures { OnOk result (list.new.items ≡ list.old.items ++ more.now) }
-{
-    for text in more {
-        list.push(text.clone()?)?;
-    }
-    Ok(())
-}
-
 // Whether some file has no licence.
-fn is_bare(infos: &[FileInfo]) -> bool
-    ensures { result ≡ list_any is_bare infos.now }
+fn is_bare(outlines: &[Outline<'_>]) -> bool
+    ensures { result ≡ list_any (λ o. o.no_licence) (map outline_in outlines.now) }
 {
-    for info in infos {
-        if info.licences.as_slice().is_empty() {
+    for file in outlines {
+        if file.no_licence {
             return true;
         }
     }
     false
 }
 
-fn all_licences(alloc: Global, infos: &[FileInfo]) -> Result<Vec<SharedText>, AllocError>
-    ensures { IfOk result (λ v. v.items ≡ flat_map (λ i. i.licences) infos.now) }
-{
-    let mut list = Vec::new(alloc);
-    for info in infos {
-        add(&mut list, info.licences.as_slice())?;
-    }
-    Ok(list)
-}
-
-fn all_notices(alloc: Global, infos: &[FileInfo]) -> Result<Vec<SharedText>, AllocError>
-    ensures { IfOk result (λ v. v.items ≡ flat_map (λ i. i.notices) infos.now) }
-{
-    let mut list = Vec::new(alloc);
-    for info in infos {
-        add(&mut list, info.notices.as_slice())?;
-    }
-    Ok(list)
-}
-
 /// The distinct licences of all files, and none where some file has none.
 pub(crate) fn package_licences(
     alloc: Global,
-    infos: &[FileInfo],
+    infos: &Infos,
 ) -> Result<Items<SharedText>, AllocError>
     ensures { IfOk result (λ t. t ≡ package_licences infos.now) }
 {
-    if is_bare(infos) {
+    let outlines = infos.outlines(alloc)?;
+    if is_bare(outlines.as_slice()) {
         return Ok(Items::new(alloc));
     }
-    shared_set(alloc, all_licences(alloc, infos)?)
+    infos.distinct(alloc, Subject::Licences)
 }
 
 /// The distinct notices of all files.
 pub(crate) fn package_notices(
     alloc: Global,
-    infos: &[FileInfo],
+    infos: &Infos,
 ) -> Result<Items<SharedText>, AllocError>
     ensures { IfOk result (λ t. t ≡ package_notices infos.now) }
 {
-    shared_set(alloc, all_notices(alloc, infos)?)
+    infos.distinct(alloc, Subject::Notices)
 }

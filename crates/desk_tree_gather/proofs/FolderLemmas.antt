@@ -12,10 +12,10 @@ use Rattle.std.proofs.lemmas.Cmp.{eq_by_cmp_equiv, nat_list_cmp_total, nat_list_
 use Rattle.std.proofs.lemmas.Slice.Eq.{bytes_eq-Decides}
 use Rattle.std.proofs.lemmas.Map.Text.{is_eq-slice_cmp}
 use Rattle.desk_tree_annotations.specs.declared.annotation.Annotation.{Annotation}
-use Rattle.desk_tree_annotations.specs.declared.annotation.Annotations.{Annotations}
 use Rattle.desk_tree_gather.specs.declared.tomls.Toml.{Toml}
 use Rattle.desk_tree_gather.specs.Tomls.{TomlText, annotations_in}
-use Rattle.desk_tree_gather.specs.Folders.{Folders, list_or_none, kept_for}
+use Rattle.desk_tree_gather.specs.Folders.{Numbers, list_or_none, numbers_for}
+use Rattle.desk_tree_gather.specs.Sharing.{annotations_at}
 use Rattle.desk_tree_gather.specs.Shown.{tomls_in}
 
 -- the annotations of a folder, or others where no file is for it
@@ -36,7 +36,7 @@ abbrev folder_cmp : Vec ℕ Global → Vec ℕ Global → Ordering
 folder_cmp a b = slice_cmp nat_cmp a.items b.items
 
 module _ (eq : Vec ℕ Global → Vec ℕ Global → Bool) (test : Vec ℕ Global → Bool) where
-  other_entries : (old new : List (Vec ℕ Global × Annotations)) → KeepsOthers eq test old new → (other : Vec ℕ Global → Bool) → IsKeyTest eq other → AreApart test other → lookup other new ≡ lookup other old
+  other_entries : (old new : List (Vec ℕ Global × Vec ℕ Global)) → KeepsOthers eq test old new → (other : Vec ℕ Global → Bool) → IsKeyTest eq other → AreApart test other → lookup other new ≡ lookup other old
   unfolding KeepsOthers
   other_entries old new h = h
 
@@ -45,20 +45,33 @@ apart_in_order bs cs ks differs same =
     is_eq-slice_cmp cs ks ∙ nat_list_eq_equiv.symm cs ks ∙ sym (nat_list_eq_equiv.congr bs ks cs (sym (is_eq-slice_cmp bs ks) ∙ same)) ∙ differs
 
 -- one folder more in the map
-pub kept_for-insert : (folder : Vec ℕ Global) (name : List ℕ) (x : Annotations) (old new : Folders) → folder.items ≡ name → Updates folder_cmp old new folder (Some x) → (q : List ℕ)
-    → kept_for new q ≡ cond (bytes_eq name q) x.list (kept_for old q)
-kept_for-insert folder name x old new is updates q =
+pub numbers_for-insert : (folder : Vec ℕ Global) (name : List ℕ) (x : Vec ℕ Global) (old new : Numbers) → folder.items ≡ name → Updates folder_cmp old new folder (Some x) → (q : List ℕ)
+    → numbers_for new q ≡ cond (bytes_eq name q) x.items (numbers_for old q)
+numbers_for-insert folder name x old new is updates q =
     elim (cases_Bool (bytes_eq folder.items q)) [
       | inl here ↦
-          subst (λ l. kept_for new l ≡ x.list) ((bytes_eq-Decides folder.items q).0 here) (ap list_or_none updates.1)
-          ∙ sym (ap (λ b. cond b x.list (kept_for old q)) (ap (λ f. bytes_eq f q) (sym is) ∙ here))
+          subst (λ l. numbers_for new l ≡ x.items) ((bytes_eq-Decides folder.items q).0 here) (ap list_or_none updates.1)
+          ∙ sym (ap (λ b. cond b x.items (numbers_for old q)) (ap (λ f. bytes_eq f q) (sym is) ∙ here))
       | inr away ↦
           ap list_or_none (other_entries (eq_by_cmp folder_cmp) (is_at (folder_cmp folder)) old.entries new.entries updates.3 (λ k. is_eq (slice_cmp nat_cmp q k.items))
           (λ a b. (eq_by_cmp_equiv nat_list_cmp_total).congr q a.items b.items) (λ k. apart_in_order folder.items q k.items away))
-          ∙ sym (ap (λ b. cond b x.list (kept_for old q)) (ap (λ f. bytes_eq f q) (sym is) ∙ away))
+          ∙ sym (ap (λ b. cond b x.items (numbers_for old q)) (ap (λ f. bytes_eq f q) (sym is) ∙ away))
     ]
 
 -- where no file is left
 pub none_left : (ts : List Toml) → length ts ≡ 0 → (folder : List ℕ) (others : List Annotation) → others ≡ annotations_or (tomls_in ts) folder others
 none_left [] is folder others = refl
 none_left (t ∷ ts) is folder others = absurd cc
+
+-- the annotations of one folder more, whatever comes behind them
+pub folder_kept : (grown : List Annotation) (folder : Vec ℕ Global) (name : List ℕ) (x : Vec ℕ Global) (list : List Annotation) (old new : Numbers) → folder.items ≡ name
+    → Updates folder_cmp old new folder (Some x) → annotations_at grown x.items ≡ list → (q : List ℕ)
+    → annotations_at grown (numbers_for new q) ≡ cond (bytes_eq name q) list (annotations_at grown (numbers_for old q))
+folder_kept grown folder name x list old new is updates listed q =
+    ap (annotations_at grown) (numbers_for-insert folder name x old new is updates q)
+    ∙ by_name (bytes_eq name q)
+    ∙ ap (λ l. cond (bytes_eq name q) l (annotations_at grown (numbers_for old q))) listed
+  where
+    by_name : (b : Bool) → annotations_at grown (cond b x.items (numbers_for old q)) ≡ cond b (annotations_at grown x.items) (annotations_at grown (numbers_for old q))
+    by_name true = refl
+    by_name false = refl

@@ -1,10 +1,12 @@
 -- The parts of what is gathered, put together.
-use Rattle.std.proofs.Common.{◌≡◌, ◌∙◌, List, sym, ap}
-use Rattle.std.specs.Prelude.{Ok, Err}
+use Rattle.std.proofs.Common.{◌≡◌, ◌∙◌, List, sym, ap, subst}
+use Rattle.std.specs.Prelude.{Result, Ok, Err}
 use Rattle.desk_tree_gather.specs.declared.fault.GatherFault.{GatherFault}
 use Rattle.desk_tree_gather.specs.declared.files.SourceFile.{SourceFile}
+use Rattle.desk_tree_gather.specs.declared.folders.Folders.{Folders}
 use Rattle.desk_tree_gather.specs.Readers.{Reader, Stated}
-use Rattle.desk_tree_gather.specs.Trees.{tree_of}
+use Rattle.desk_tree_gather.specs.Shown.{Gives}
+use Rattle.desk_tree_gather.specs.Trees.{Read, tree_of}
 use Rattle.desk_tree_gather.specs.Tomls.{TomlText, tomls_of}
 use Rattle.desk_tree_gather.specs.Information.{counting}
 use Rattle.desk_tree_gather.specs.Gathering.{holder, stated_in, info_with, info_of, infos_of, gathered}
@@ -23,3 +25,11 @@ info_fails r tomls tree file fault is = ap (λ s. then_read s (λ own. Ok (info_
 
 pub info_found : (r : Reader) (tomls : List TomlText) (tree : List SourceFile) (file : SourceFile) (own : Stated) → stated_in r (holder tree file) ≡ Ok own → info_of r tomls tree file ≡ Ok (info_with file.path (counting r tomls file.path) own)
 info_found r tomls tree file own is = ap (λ s. then_read s (λ x. Ok (info_with file.path (counting r tomls file.path) x))) is
+
+-- what a call gives by the annotations of a trail that is by the same folders
+module _ {A B : Type 0} (read : Read B) (show : Folders → A → B) (was now : Folders) (same : now ≡ was) (x : Result A GatherFault) (gives : Gives read (show now) x) where
+  pub gives_at : (y : A) → x ≡ Ok y → read ≡ Ok (show was y)
+  gives_at y is = subst (Gives read (show now)) is gives ∙ ap (λ f. Ok (show f y)) same
+
+  pub gives_fault : (fault : GatherFault) → x ≡ Err fault → read ≡ Err fault
+  gives_fault fault is = subst (Gives read (show now)) is gives

@@ -1,5 +1,6 @@
 pub mod EachLemmas
 pub mod TreeLemmas
+pub mod SharingLemmas
 pub mod FolderLemmas
 pub mod Running
 pub mod ReaderLemmas
@@ -9,6 +10,8 @@ pub mod StatedLemmas
 pub mod RestLemmas
 pub mod WayLemmas
 pub mod SetLemmas
+pub mod AmongLemmas
+pub mod FirstsLemmas
 pub mod GatheredLemmas
 pub mod SurveyLaws
 pub mod SurveyLemmas

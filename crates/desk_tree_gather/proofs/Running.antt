@@ -1,11 +1,14 @@
 -- The texts of a file, given by one walk down the folders.
-use Rattle.std.proofs.Common.{◌≡◌, ◌∙◌, ℕ, true, false, cond, List, [], ◌∷◌, ◌++◌, Option, Some, None, option_map, sym, ap, refl, append_assoc, filter}
-use Rattle.std.specs.List.{flat_map}
+use Rattle.std.proofs.Common.{◌≡◌, ◌∙◌, ℕ, ◌+◌, ◌<◌, true, false, cond, List, [], ◌∷◌, ◌++◌, length, get_or, drop, Option, Some, None, option_map, option_to_list, sym, ap, refl, append_assoc, filter}
+use Rattle.std.specs.List.{flat_map, slice_get, cons_option}
+use Rattle.std.proofs.lemmas.List.{append-nil}
 use Rattle.desk_tree_annotations.specs.declared.annotation.Annotation.{Annotation}
 use Rattle.desk_tree_annotations.specs.declared.annotation.Precedence.{Precedence}
 use Rattle.desk_tree_annotations.specs.declared.annotation.Precedence.TheVariants.{Closest, Aggregate, Override}
 use Rattle.desk_tree_gather.specs.declared.information.Subject.{Subject}
 use Rattle.desk_tree_gather.specs.Information.{texts_of, is_override, is_aggregate, topmost, aggregated, some_or, closest_texts, nearest, given, given_by}
+use Rattle.desk_tree_gather.specs.Sharing.{annotations_at, texts_at}
+use Rattle.desk_tree_gather.proofs.SharingLemmas.{annotations_at-drop, texts_at-append, texts_at-one}
 
 abbrev pub Texts : Type 0
 Texts = List (List ℕ)
@@ -93,3 +96,54 @@ at_first of own list None = ap (λ n. aggregated of list ++ some_or own n) (none
 -- from nothing, it gives the texts of the definition
 pub running_gives : (of : Subject) (own : Texts) (list : List Annotation) → running of own [] [] list ≡ given of own list
 running_gives of own list = runs_to of own [] [] list ∙ at_first of own list (topmost list)
+
+-- ---- by the annotations' numbers
+
+module _ (all : List Annotation) (of : Subject) (own : Texts) (numbers : List ℕ) (closest : Texts) (counting : List ℕ) (i d : ℕ) (a : Annotation) (within : i < length counting) (is : Some a ≡ slice_get all (get_or counting i d)) where
+  abbrev rest : List Annotation
+  rest = annotations_at all (drop (i + 1) counting)
+
+  abbrev done : Texts
+  done = texts_at all of numbers
+
+  whole : pick a.precedence (done ++ texts_of of a) (running of own (done ++ texts_of of a) closest rest) (running of own done (some_or (texts_of of a) closest) rest)
+      ≡ running of own done closest (annotations_at all (drop i counting))
+  whole = sym (ap (running of own done closest) (annotations_at-drop all counting i d within ∙ ap (λ o. cons_option o rest) (sym is)))
+
+  with_one : (grown : List ℕ) → grown ≡ numbers ++ get_or counting i d ∷ [] → texts_at all of grown ≡ done ++ texts_of of a
+  with_one grown added = ap (texts_at all of) added ∙ texts_at-append all of numbers (get_or counting i d ∷ []) ∙ ap (λ l. done ++ l) (texts_at-one all of (get_or counting i d) a (sym is))
+
+  pub by_override : (grown : List ℕ) (nothing : Texts) → a.precedence ≡ Override → grown ≡ numbers ++ get_or counting i d ∷ [] → nothing ≡ []
+      → texts_at all of grown ++ nothing ≡ running of own done closest (annotations_at all (drop i counting))
+  by_override grown nothing override added none =
+      ap (λ l. texts_at all of grown ++ l) none ∙ append-nil (texts_at all of grown) ∙ with_one grown added
+      ∙ ap (λ p. pick p (done ++ texts_of of a) (running of own (done ++ texts_of of a) closest rest) (running of own done (some_or (texts_of of a) closest) rest)) (sym override)
+      ∙ whole
+
+  pub by_aggregate_at : (grown : List ℕ) (near : Texts) → a.precedence ≡ Aggregate → grown ≡ numbers ++ get_or counting i d ∷ [] → near ≡ closest
+      → running of own (texts_at all of grown) near rest ≡ running of own done closest (annotations_at all (drop i counting))
+  by_aggregate_at grown near aggregate added same =
+      (λ j. running of own (with_one grown added j) (same j) rest)
+      ∙ ap (λ p. pick p (done ++ texts_of of a) (running of own (done ++ texts_of of a) closest rest) (running of own done (some_or (texts_of of a) closest) rest)) (sym aggregate)
+      ∙ whole
+
+  pub by_closest_at : (same : List ℕ) (near : Texts) → a.precedence ≡ Closest → same ≡ numbers → near ≡ some_or (texts_of of a) closest
+      → running of own (texts_at all of same) near rest ≡ running of own done closest (annotations_at all (drop i counting))
+  by_closest_at same near is_closest kept nearer =
+      (λ j. running of own (texts_at all of (kept j)) (nearer j) rest)
+      ∙ ap (λ p. pick p (done ++ texts_of of a) (running of own (done ++ texts_of of a) closest rest) (running of own done (some_or (texts_of of a) closest) rest)) (sym is_closest)
+      ∙ whole
+
+nothing : (xs : Texts) → length xs ≡ 0 → xs ≡ []
+nothing [] is = refl
+nothing (x ∷ xs) is = absurd cc
+
+-- where a file has no texts of its own
+pub without_own : (all : List Annotation) (of : Subject) (numbers grown : List ℕ) (own : Texts) (closest : Option ℕ) → grown ≡ numbers ++ option_to_list closest → length own ≡ 0
+    → texts_at all of grown ++ own ≡ texts_at all of numbers ++ some_or own (texts_at all of (option_to_list closest))
+without_own all of numbers grown own closest added none =
+    let no_own : own ≡ [] = nothing own none in
+    (λ i. texts_at all of (added i) ++ no_own i)
+    ∙ append-nil (texts_at all of (numbers ++ option_to_list closest))
+    ∙ texts_at-append all of numbers (option_to_list closest)
+    ∙ ap (λ o. texts_at all of numbers ++ some_or o (texts_at all of (option_to_list closest))) (sym no_own)

@@ -4,13 +4,16 @@ use Rattle.std.proofs.Math.Seq.{take-append_seam}
 use Rattle.std.proofs.lemmas.Bool.Decides.{nat_tests}
 use Rattle.std.proofs.lemmas.Simd.{map-map}
 use Rattle.std.proofs.lemmas.List.{append_assoc, length-append, map-append, take-map, drop_more}
-use Rattle.std.specs.Prelude.{Option, Some, None, option_to_list}
-use Rattle.std.specs.List.{cons_option, filter_map}
+use Rattle.std.specs.Prelude.{Option, Some, None, option_and_then, option_to_list}
+use Rattle.std.specs.List.{cons_option, filter_map, slice_get}
+use Rattle.std.proofs.lemmas.List.Elements.{filter_map-append}
 use Rattle.desk_tree_gather.specs.Readers.{Reader}
 use Rattle.desk_tree_gather.specs.Tomls.{TomlText, annotations_in}
 use Rattle.desk_tree_gather.specs.Information.{rests, last_covering, counting_in, counting}
 use Rattle.desk_tree_gather.specs.Ways.{way, ways, Shares, lists_of, first_or, behind_slash}
 use Rattle.desk_tree_annotations.specs.declared.annotation.Annotation.{Annotation}
+use Rattle.desk_tree_gather.specs.Sharing.{annotations_at}
+use Rattle.desk_tree_gather.proofs.SharingLemmas.{annotations_at-option}
 use denote.Ref.{Bor}
 
 -- the folders on the way in the rest of a path, behind what is done of it
@@ -122,11 +125,11 @@ shared-end before path old new rest folders so_far = (
 )
 
 -- what is kept of those that are on the way to the path before, with that of the others, is that of all
-pub kept-along : (f : List ℕ → List Annotation) (lists : List (Bor (List Annotation))) (before path rest : List ℕ) (folders : ℕ) → Shares before path folders rest
+pub kept-along : (f : List ℕ → List ℕ) (lists : List (Bor (List ℕ))) (before path rest : List ℕ) (folders : ℕ) → Shares before path folders rest
     → lists_of lists ≡ map f (ways before) → lists_of (take folders lists) ++ map f (map (way path) (rests rest)) ≡ map f (ways path)
 kept-along f lists before path rest folders (both, others, many, to_before, to_path) along =
     let kept =
-    sym (take-map (λ (l : Bor (List Annotation)). l.now) folders lists)
+    sym (take-map (λ (l : Bor (List ℕ)). l.now) folders lists)
     ∙ ap (take folders) along
     ∙ take-map f folders (ways before)
     ∙ (λ i. map f (take (sym many i) (to_before i)))
@@ -167,9 +170,15 @@ along-counts r tomls path =
     ∙ ap (λ l. option_to_list (counting_in r tomls path path) ++ l) (rests-counted r f path path)
     ∙ one_more (counting_in r tomls path path) (filter_map (counting_in r tomls path) (rests path))
 
--- one folder more
-pub along-more : (r : Reader) (done : List Annotation) (lists : List (Bor (List Annotation))) (i : ℕ) (d : Bor (List Annotation)) (rest : List ℕ) → i < length lists
-    → (done ++ option_to_list (last_covering r rest (get_or lists i d).now)) ++ along r (lists_of (drop (i + 1) lists)) (behind_slash rest) ≡ done ++ along r (lists_of (drop i lists)) rest
-along-more r done lists i d rest within =
-    append_assoc done (option_to_list (last_covering r rest (get_or lists i d).now)) (along r (lists_of (drop (i + 1) lists)) (behind_slash rest))
-    ∙ ap (λ ls. done ++ along r (lists_of ls) rest) (sym (drop_more lists i d within))
+-- one folder more: the number that was found in it, and those that follow
+pub along-more : (r : Reader) (all : List Annotation) (done : List ℕ) (found : Option ℕ) (lists : List (Bor (List ℕ))) (i : ℕ) (d : Bor (List ℕ)) (rest : List ℕ) → i < length lists
+    → option_and_then (slice_get all) found ≡ last_covering r rest (annotations_at all (get_or lists i d).now)
+    → annotations_at all (done ++ option_to_list found) ++ along r (map (annotations_at all) (lists_of (drop (i + 1) lists))) (behind_slash rest)
+    ≡ annotations_at all done ++ along r (map (annotations_at all) (lists_of (drop i lists))) rest
+along-more r all done found lists i d rest within is =
+    let last = option_to_list (last_covering r rest (annotations_at all (get_or lists i d).now)) in
+    let others = along r (map (annotations_at all) (lists_of (drop (i + 1) lists))) (behind_slash rest) in
+    ap (λ l. l ++ others) (filter_map-append (slice_get all) done (option_to_list found))
+    ∙ ap (λ l. (annotations_at all done ++ l) ++ others) (annotations_at-option all found ∙ ap option_to_list is)
+    ∙ append_assoc (annotations_at all done) last others
+    ∙ ap (λ ls. annotations_at all done ++ along r (map (annotations_at all) (lists_of ls)) rest) (sym (drop_more lists i d within))

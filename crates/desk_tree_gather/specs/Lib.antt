@@ -2,10 +2,13 @@ pub mod Readers
 pub mod Paths
 pub mod Trees
 pub mod Tomls
-pub mod Folders
 pub mod Information
 pub mod Ways
 pub mod Gathering
+pub mod Sharing
+pub mod Folders
+pub mod Firsts
 pub mod Telling
+pub mod Digests
 pub mod Survey
 pub mod Shown

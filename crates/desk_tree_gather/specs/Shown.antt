@@ -3,7 +3,6 @@ use Rattle.std.specs.Prelude.{◌≡◌, ℕ, List, map, Result, Ok, Err}
 use Rattle.std.specs.BTreeMap.{BTreeMap}
 use Rattle.std.specs.String.{string_bytes}
 use denote.Ref.{Bor}
-use Rattle.desk_tree_annotations.specs.declared.annotation.Annotation.{Annotation}
 use Rattle.desk_tree_annotations.specs.Tags.{tag_text}
 use Rattle.desk_tree_annotations.specs.declared.info.Info.{Info}
 use Rattle.desk_tree_gather.specs.Readers.{Stated}
@@ -59,9 +58,6 @@ toml_in t = record { folder = t.folder.now; annotations = t.annotations.list }
 
 abbrev pub tomls_in : List Toml → List TomlText
 tomls_in ts = map toml_in ts
-
-abbrev pub annotations_of : List (Bor Annotation) → List Annotation
-annotations_of list = map (λ (a : Bor Annotation). a.now) list
 
 -- what a file states, without where it lies in memory
 abbrev pub stated_of : Info → Stated

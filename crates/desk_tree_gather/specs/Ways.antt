@@ -1,7 +1,6 @@
 -- The folders on the way to a path.
 use Rattle.std.specs.Prelude.{◌≡◌, ℕ, ◌-◌, List, [], ◌∷◌, ◌++◌, length, take, map}
 use denote.Ref.{Bor}
-use Rattle.desk_tree_annotations.specs.declared.annotation.Annotation.{Annotation}
 use Rattle.desk_tree_gather.specs.Information.{rests}
 
 -- the folder from which the rest of a path is seen
@@ -25,5 +24,5 @@ abbrev pub Shares : List ℕ → List ℕ → ℕ → List ℕ → Type 0
 Shares before path many rest =
     (both others : List (List ℕ)) × (length both ≡ many) × (ways before ≡ both ++ others) × (ways path ≡ both ++ map (way path) (rests rest))
 
-abbrev pub lists_of : List (Bor (List Annotation)) → List (List Annotation)
-lists_of lists = map (λ (l : Bor (List Annotation)). l.now) lists
+abbrev pub lists_of : List (Bor (List ℕ)) → List (List ℕ)
+lists_of lists = map (λ (l : Bor (List ℕ)). l.now) lists

@@ -1,13 +1,15 @@
 //! The annotations that count for a file.
 
-ghost use Rattle.std.specs.Prelude.{◌≡◌, ◌++◌, List, map, option_map, option_to_list, IfOk, OnOk, IsUtf8};
+ghost use Rattle.std.specs.Prelude.{◌≡◌, ◌∷◌, [], List, map, option_and_then, IfOk, OnOk, IsUtf8};
+ghost use Rattle.std.specs.List.{list_any, slice_get};
 ghost use Rattle.desk_tree_gather.specs.Readers.{Reader, IsRightReader};
 ghost use Rattle.desk_tree_gather.specs.Tomls.{TomlText, annotations_in};
 ghost use Rattle.desk_tree_gather.specs.Information.{covers, last_covering, counting};
 ghost use Rattle.desk_tree_gather.specs.Folders.{Holds};
-ghost use Rattle.desk_tree_gather.specs.Shown.{annotations_of};
+ghost use Rattle.desk_tree_gather.specs.Sharing.{annotations_at};
 ghost use Rattle.desk_tree_gather.specs.Ways.{behind_slash, ways, lists_of};
 
+use crate::information::{add_some, annotation_at};
 use crate::trail::Trail;
 use desk_tree_annotations::Annotation;
 use std::alloc::{AllocError, Global};
@@ -24,29 +26,29 @@ fn covers(annotation: &Annotation, path: &str) -> bool
     false
 }
 
-// The last annotation that covers a path.
-fn last_covering<'m>(annotations: &'m [Annotation], path: &str) -> Option<&'m Annotation>
-    ensures { (r : Reader) → IsRightReader r → option_map (λ a. a.now) result
-        ≡ last_covering r path.now annotations.now }
+// Whether the annotation of a number covers a path.
+fn covers_at(all: &[Annotation], number: usize, path: &str) -> bool
+    ensures { (r : Reader) → IsRightReader r
+        → result ≡ list_any (λ a. covers r a path.now) (annotations_at all.now (number ∷ [])) }
+{
+    match annotation_at(all, number) {
+        Some(annotation) => covers(annotation, path),
+        None => false,
+    }
+}
+
+// The number of the last annotation that covers a path.
+fn last_covering(all: &[Annotation], numbers: &[usize], path: &str) -> Option<usize>
+    ensures { (r : Reader) → IsRightReader r → option_and_then (slice_get all.now) result
+        ≡ last_covering r path.now (annotations_at all.now numbers.now) }
 {
     let mut last = None;
-    for annotation in annotations {
-        if covers(annotation, path) {
-            last = Some(annotation);
+    for number in numbers {
+        if covers_at(all, *number, path) {
+            last = Some(*number);
         }
     }
     last
-}
-
-// Adds the annotation that counts in a folder, if there is one.
-fn add<'m>(list: &mut Vec<&'m Annotation>, found: Option<&'m Annotation>) -> Result<(), AllocError>
-    ensures { OnOk result (annotations_of list.new.items
-        ≡ annotations_of list.old.items ++ option_to_list (option_map (λ a. a.now) found.entry)) }
-{
-    if let Some(annotation) = found {
-        list.push(annotation)?;
-    }
-    Ok(())
 }
 
 // What stands behind the first slash, or all where there is none.
@@ -60,37 +62,39 @@ fn behind_slash(path: &str) -> &str
     }
 }
 
-// The annotations that count for a path, by those of the folders on the way to it.
-fn counting_along<'m>(
+// The numbers of the annotations that count for a path, by those of the folders on the way to it.
+fn counting_along(
     alloc: Global,
-    lists: &[&'m [Annotation]],
+    all: &[Annotation],
+    lists: &[&[usize]],
     path: &str,
-) -> Result<Vec<&'m Annotation>, AllocError>
+) -> Result<Vec<usize>, AllocError>
     ensures { (r : Reader) → IsRightReader r → (tomls : List TomlText)
-        → lists_of lists.now ≡ map (annotations_in tomls) (ways path.now)
-        → IfOk result (λ v. annotations_of v.items ≡ counting r tomls path.now) }
+        → map (annotations_at all.now) (lists_of lists.now)
+        ≡ map (annotations_in tomls) (ways path.now)
+        → IfOk result (λ v. annotations_at all.now v.items ≡ counting r tomls path.now) }
 {
     let mut list = Vec::new(alloc);
     let mut rest = path;
-    for annotations in lists {
-        add(&mut list, last_covering(annotations, rest))?;
+    for numbers in lists {
+        add_some(&mut list, last_covering(all, numbers, rest))?;
         rest = behind_slash(rest);
     }
     Ok(list)
 }
 
-/// The annotations that count for a path, from the root to its folder, by the way to the path
-/// before.
-pub(crate) fn counting<'m>(
+/// The numbers of the annotations that count for a path, from the root to its folder, by the way
+/// to the path before.
+pub(crate) fn counting(
     alloc: Global,
-    trail: &mut Trail<'m>,
+    trail: &mut Trail<'_>,
     path: &str,
-) -> Result<Vec<&'m Annotation>, AllocError>
+) -> Result<Vec<usize>, AllocError>
     ensures same { OnOk result (trail.new.folders.now ≡ trail.old.folders.now) }
     ensures counting { (r : Reader) → IsRightReader r → (tomls : List TomlText)
-        → Holds tomls trail.old.folders.now
-        → IfOk result (λ v. annotations_of v.items ≡ counting r tomls path.now) }
+        → Holds tomls trail.old.folders.now → IfOk result (λ v.
+        annotations_at trail.old.folders.now.all.items v.items ≡ counting r tomls path.now) }
 {
     *trail = trail.to(alloc, path)?;
-    counting_along(alloc, trail.lists(), path)
+    counting_along(alloc, trail.folders.all.as_slice(), trail.lists(), path)
 }

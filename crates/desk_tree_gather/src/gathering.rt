@@ -4,25 +4,24 @@ ghost use Rattle.std.specs.Prelude.{◌≡◌, ◌⊎◌, List, IfOk, IfErr, OnO
 ghost use Rattle.desk_tree_annotations.specs.Tags.{tag_text};
 ghost use Rattle.desk_tree_gather.specs.Readers.{Reader, IsRightReader, Stated};
 ghost use Rattle.desk_tree_gather.specs.Tomls.{TomlText};
-ghost use Rattle.desk_model.specs.Texts.{sorted_set};
 ghost use Rattle.desk_tree_gather.specs.Folders.{Holds};
 ghost use Rattle.desk_tree_gather.specs.Information.{given};
 ghost use Rattle.desk_tree_gather.specs.Gathering.{holder, bad_line, stated_in, values, info_with, info_of, infos_of, gathered};
 ghost use Rattle.desk_tree_gather.specs.Trees.{each};
 ghost use Rattle.desk_tree_gather.specs.Paths.{is_covered};
-ghost use Rattle.desk_tree_gather.specs.Shown.{Gives, file_of, files_of, held_in, tree_in, annotations_of, stated_of};
+ghost use Rattle.desk_tree_gather.specs.Sharing.{annotations_at, all_texts, info_at, infos_at};
+ghost use Rattle.desk_tree_gather.specs.Shown.{Gives, file_of, files_of, held_in, tree_in, stated_of};
 
 use crate::counting::counting;
 use crate::fault::GatherFault;
 use crate::files::{File, SourceFile, bytes_at, files_of, is_covered, tree_of};
-use crate::information::{Subject, given};
-use crate::sets::{LastSet, LastSets};
-use crate::tomls::{by_folder, tomls_of};
+use crate::folders::{Folders, by_folder};
+use crate::information::{Sources, Subject, given};
+use crate::infos::{Covered, Infos};
+use crate::tomls::tomls_of;
 use crate::trail::Trail;
 use desk_base::{Items, Text};
-use desk_tree_annotations::{
-    Annotation, Annotations, Info, SharedText, Tagged, header, is_expression_beside,
-};
+use desk_tree_annotations::{Annotation, Info, SharedText, Tagged, header, is_expression_beside};
 use std::alloc::{AllocError, Global};
 use std::collections::BTreeMap;
 
@@ -41,14 +40,7 @@ pub struct FileInfo {
 #[derive(Drop)]
 pub(crate) struct Known<'a> {
     pub(crate) tree: BTreeMap<&'a str, &'a [u8]>,
-    pub(crate) folders: BTreeMap<Vec<u8>, Annotations>,
-}
-
-/// What is kept of the file before, since most of it is that of the next one by path, too.
-#[derive(Drop)]
-pub(crate) struct Before<'m> {
-    pub(crate) trail: Trail<'m>,
-    pub(crate) sets: LastSets,
+    pub(crate) folders: Folders,
 }
 
 /// The file that holds what is stated of another, or of itself.
@@ -56,21 +48,6 @@ pub(crate) struct Before<'m> {
 pub(crate) struct Held<'a> {
     pub(crate) path: String,
     pub(crate) bytes: &'a [u8],
-}
-
-impl<'m> Before<'m> {
-    /// What is kept before the first file.
-    pub(crate) fn of(
-        alloc: Global,
-        folders: &'m BTreeMap<Vec<u8>, Annotations>,
-    ) -> Result<Before<'m>, AllocError>
-        ensures { IfOk result (λ b. b.trail.folders.now ≡ folders.now) }
-    {
-        Ok(Before {
-            trail: Trail::of(alloc, folders)?,
-            sets: LastSets::new(alloc),
-        })
-    }
 }
 
 // The line of the first licence that is no expression.
@@ -150,97 +127,82 @@ fn values(alloc: Global, tags: &[Tagged<'_>]) -> Result<Vec<SharedText>, AllocEr
     Ok(values)
 }
 
-// The distinct texts of a file in byte order, from its own and the annotations that count.
-fn set_of(
+// The texts of a file, by its tags and the annotations that count.
+fn given_of(
     alloc: Global,
-    last: &mut LastSet,
     of: Subject,
     own: &[Tagged<'_>],
-    counting: &[&Annotation],
-) -> Result<Items<SharedText>, AllocError>
-    ensures { IfOk result (λ set. set
-        ≡ sorted_set (given of (values (map tag_text own.now)) (annotations_of counting.now))) }
+    all: &[Annotation],
+    counting: &[usize],
+) -> Result<Sources, AllocError>
+    ensures { IfOk result (λ g. all_texts all.now of g ≡ given of
+        (values (map tag_text own.now)) (annotations_at all.now counting.now)) }
 {
     let own = values(alloc, own)?;
-    let texts = given(alloc, of, own.as_slice(), counting)?;
-    last.next(alloc, texts)
+    given(alloc, of, own, all, counting)
 }
 
 /// The information of a file, from its own and the annotations that count.
 pub(crate) fn info_with(
     alloc: Global,
     path: &str,
-    counting: &[&Annotation],
+    all: &[Annotation],
+    counting: &[usize],
     own: &Info<'_>,
-    last: &mut LastSets,
-) -> Result<FileInfo, AllocError>
-    ensures { IfOk result (λ i. i
-        ≡ info_with path.now (annotations_of counting.now) (stated_of own.now)) }
+) -> Result<Covered, AllocError>
+    ensures { IfOk result (λ file. info_at all.now file
+        ≡ info_with path.now (annotations_at all.now counting.now) (stated_of own.now)) }
 {
-    Ok(FileInfo {
+    let notices = own.notices.as_slice();
+    let licences = own.licences.as_slice();
+    Ok(Covered {
         path: Text::of(alloc, path)?,
-        notices: set_of(
-            alloc,
-            &mut last.notices,
-            Subject::Notices,
-            own.notices.as_slice(),
-            counting,
-        )?,
-        licences: set_of(
-            alloc,
-            &mut last.licences,
-            Subject::Licences,
-            own.licences.as_slice(),
-            counting,
-        )?,
+        notices: given_of(alloc, Subject::Notices, notices, all, counting)?,
+        licences: given_of(alloc, Subject::Licences, licences, all, counting)?,
     })
 }
 
-// The information of a file, by what is kept of the one before.
+// The information of a file, by the way to the one before.
 fn info_of<'a>(
     alloc: Global,
     tree: &BTreeMap<&'a str, &'a [u8]>,
-    before: &mut Before<'_>,
+    trail: &mut Trail<'_>,
     file: File<'a>,
-) -> Result<Result<FileInfo, GatherFault>, AllocError>
-    ensures same { OnOk result (before.new.trail.folders.now ≡ before.old.trail.folders.now) }
+) -> Result<Result<Covered, GatherFault>, AllocError>
+    ensures same { OnOk result (trail.new.folders.now ≡ trail.old.folders.now) }
     ensures info { (r : Reader) → IsRightReader r → (tomls : List TomlText)
-        → Holds tomls before.old.trail.folders.now
-        → IfOk result (λ i. i ≡ info_of r tomls (tree_in tree.now) (file_of file.entry)) }
+        → Holds tomls trail.old.folders.now
+        → IfOk result (Gives (info_of r tomls (tree_in tree.now) (file_of file.entry))
+        (info_at trail.old.folders.now.all.items)) }
 {
     let own = match own_of(alloc, tree, file)? {
         Ok(own) => own,
         Err(fault) => return Ok(Err(fault)),
     };
-    let counting = counting(alloc, &mut before.trail, file.path)?;
-    let info = info_with(
-        alloc,
-        file.path,
-        counting.as_slice(),
-        &own,
-        &mut before.sets,
-    )?;
+    let counting = counting(alloc, trail, file.path)?;
+    let all = trail.folders.all.as_slice();
+    let info = info_with(alloc, file.path, all, counting.as_slice(), &own)?;
     Ok(Ok(info))
 }
 
-// The information of the covered files, in their order, by what is kept of the one before.
+// The information of the covered files, in their order, by the way to the one before.
 fn each_info<'a>(
     alloc: Global,
     tree: &BTreeMap<&'a str, &'a [u8]>,
-    before: &mut Before<'_>,
+    trail: &mut Trail<'_>,
     files: &[File<'a>],
-) -> Result<Result<Vec<FileInfo>, GatherFault>, AllocError>
+) -> Result<Result<Vec<Covered>, GatherFault>, AllocError>
     ensures { (r : Reader) → IsRightReader r → (tomls : List TomlText)
-        → Holds tomls before.old.trail.folders.now
+        → Holds tomls trail.old.folders.now
         → IfOk result (Gives (each is_covered (info_of r tomls (tree_in tree.now))
-        (files_of files.now)) (λ v. v.items)) }
+        (files_of files.now)) (λ v. infos_at trail.old.folders.now.all.items v.items)) }
 {
     let mut infos = Vec::new(alloc);
     for file in files {
         if !is_covered(*file) {
             continue;
         }
-        match info_of(alloc, tree, before, *file)? {
+        match info_of(alloc, tree, trail, *file)? {
             Ok(info) => infos.push(info)?,
             Err(fault) => return Ok(Err(fault)),
         }
@@ -248,28 +210,47 @@ fn each_info<'a>(
     Ok(Ok(infos))
 }
 
-// The information of the covered files, in their order.
-fn infos_of<'a>(
+// The information of the covered files, in their order, by the annotations' numbers.
+fn covered_of<'a>(
     alloc: Global,
     known: &Known<'a>,
     files: &[File<'a>],
-) -> Result<Result<Vec<FileInfo>, GatherFault>, AllocError>
+) -> Result<Result<Vec<Covered>, GatherFault>, AllocError>
     ensures { (r : Reader) → IsRightReader r → (tomls : List TomlText)
         → Holds tomls known.now.folders
         → IfOk result (Gives (each is_covered (info_of r tomls (tree_in known.now.tree))
-        (files_of files.now)) (λ v. v.items)) }
+        (files_of files.now)) (λ v. infos_at known.now.folders.all.items v.items)) }
 {
-    let mut before = Before::of(alloc, &known.folders)?;
-    each_info(alloc, &known.tree, &mut before, files)
+    let mut trail = Trail::of(alloc, &known.folders)?;
+    each_info(alloc, &known.tree, &mut trail, files)
+}
+
+// The information of the covered files, in their order.
+fn infos_of<'a>(
+    alloc: Global,
+    known: Known<'a>,
+    files: &[File<'a>],
+) -> Result<Result<Infos, GatherFault>, AllocError>
+    ensures { (r : Reader) → IsRightReader r → (tomls : List TomlText)
+        → Holds tomls known.entry.folders
+        → IfOk result (Gives (each is_covered (info_of r tomls (tree_in known.entry.tree))
+        (files_of files.now)) (λ infos. infos)) }
+{
+    let covered = match covered_of(alloc, &known, files)? {
+        Ok(covered) => covered,
+        Err(fault) => return Ok(Err(fault)),
+    };
+    let folders = known.folders;
+    Ok(Ok(Infos::of(folders.all, covered)))
 }
 
 /// As `gather`, with want of memory told apart from the faults of the tree.
 pub fn gathered(
     alloc: Global,
     files: &[SourceFile],
-) -> Result<Result<Vec<FileInfo>, GatherFault>, AllocError>
+) -> Result<Result<Infos, GatherFault>, AllocError>
     ensures { (r : Reader) → IsRightReader r
-        → IfOk result (Gives (gathered r files.now) (λ v. v.items)) }
+        → IfOk result (Gives (gathered r files.now) (λ infos. infos)) }
 {
     let tree = match tree_of(alloc, files)? {
         Ok(tree) => tree,
@@ -282,7 +263,7 @@ pub fn gathered(
     };
     let folders = by_folder(alloc, tomls)?;
     let known = Known { tree, folders };
-    infos_of(alloc, &known, files.as_slice())
+    infos_of(alloc, known, files.as_slice())
 }
 
 /// The information of each covered file by path, or the first fault: too many files; of the paths
@@ -290,9 +271,9 @@ pub fn gathered(
 ///
 /// For each right reader the answer is that of `gathered`; `Memory` is want of memory and nothing
 /// else.
-pub fn gather(alloc: Global, files: &[SourceFile]) -> Result<Vec<FileInfo>, GatherFault>
+pub fn gather(alloc: Global, files: &[SourceFile]) -> Result<Infos, GatherFault>
     ensures ok { (r : Reader) → IsRightReader r
-        → IfOk result (λ v. gathered r files.now ≡ Ok v.items) }
+        → IfOk result (λ infos. gathered r files.now ≡ Ok infos) }
     ensures err { (r : Reader) → IsRightReader r
         → IfErr result (λ f. (f ≡ GatherFault.Memory alloc_error)
         ⊎ (gathered r files.now ≡ Err f)) }

@@ -1,19 +1,34 @@
 //! What a file's own texts and the annotations that count give together.
 
-ghost use Rattle.std.specs.Prelude.{◌≡◌, ◌++◌, IfOk, OnOk};
+ghost use Rattle.std.specs.Prelude.{◌≡◌, ◌++◌, ◌∷◌, [], List, IfOk, OnOk, option_map, option_to_list};
+ghost use Rattle.std.specs.List.{slice_get};
 ghost use Rattle.desk_tree_gather.specs.Information.{texts_of, some_or, given};
-ghost use Rattle.desk_tree_gather.specs.Shown.{annotations_of};
+ghost use Rattle.desk_tree_gather.specs.Sharing.{annotations_at, texts_at, all_texts};
 
 use desk_tree_annotations::{Annotation, Precedence, SharedText};
 use std::alloc::{AllocError, Global};
 
 /// What is asked of a file.
 #[derive(Clone, Copy)]
-pub(crate) enum Subject {
+pub enum Subject {
     /// Its copyright notices.
     Notices,
     /// Its licences.
     Licences,
+}
+
+/// The texts of a file: those of annotations, by their numbers, and its own.
+#[derive(Drop)]
+pub(crate) struct Sources {
+    pub(crate) numbers: Vec<usize>,
+    pub(crate) own: Vec<SharedText>,
+}
+
+/// The annotation of a number.
+pub(crate) fn annotation_at(all: &[Annotation], number: usize) -> Option<&Annotation>
+    ensures { option_map (λ a. a.now) result ≡ slice_get all.now number }
+{
+    all.get(number)
 }
 
 // The texts of an annotation.
@@ -26,59 +41,89 @@ fn texts_of<'m>(of: Subject, annotation: &'m Annotation) -> &'m [SharedText]
     }
 }
 
-// Texts, or others where there are none.
-fn some_or<'m>(texts: &'m [SharedText], others: &'m [SharedText]) -> &'m [SharedText]
-    ensures { result.now ≡ some_or texts.now others.now }
+/// The texts of the annotation of a number.
+pub(crate) fn texts_at<'m>(of: Subject, all: &'m [Annotation], number: usize) -> &'m [SharedText]
+    ensures { result.now ≡ texts_at all.now of (number ∷ []) }
 {
-    if texts.is_empty() { others } else { texts }
+    match annotation_at(all, number) {
+        Some(annotation) => texts_of(of, annotation),
+        None => &[],
+    }
 }
 
-// Adds texts to others.
-fn add(list: &mut Vec<SharedText>, more: &[SharedText]) -> Result<(), AllocError>
-    ensures { OnOk result (list.new.items ≡ list.old.items ++ more.now) }
+/// Adds the number of an annotation, if there is one.
+pub(crate) fn add_some(list: &mut Vec<usize>, found: Option<usize>) -> Result<(), AllocError>
+    ensures { OnOk result (list.new.items ≡ list.old.items ++ option_to_list found) }
 {
-    for text in more {
-        list.push(text.clone()?)?;
+    if let Some(number) = found {
+        list.push(number)?;
     }
     Ok(())
 }
 
-// Adds a file's own texts, or others where it has none.
-fn add_own(
-    list: &mut Vec<SharedText>,
-    own: &[SharedText],
-    others: &[SharedText],
-) -> Result<(), AllocError>
-    ensures { OnOk result (list.new.items ≡ list.old.items ++ some_or own.now others.now) }
+// The nearest `closest` annotation that has some texts: this one, or the one so far.
+fn nearer(
+    of: Subject,
+    annotation: &Annotation,
+    number: usize,
+    closest: Option<usize>,
+) -> Option<usize>
+    ensures { (all : List Annotation) → slice_get all number ≡ Some annotation.now
+        → texts_at all of (option_to_list result)
+        ≡ some_or (texts_of of annotation.now) (texts_at all of (option_to_list closest)) }
+{
+    if texts_of(of, annotation).is_empty() {
+        closest
+    } else {
+        Some(number)
+    }
+}
+
+// A file's own texts, or where it has none those of the nearest `closest` annotation, behind those
+// of others.
+fn with_own(
+    numbers: Vec<usize>,
+    own: Vec<SharedText>,
+    closest: Option<usize>,
+) -> Result<Sources, AllocError>
+    ensures { (all : List Annotation) (of : Subject) → IfOk result (λ g. all_texts all of g
+        ≡ texts_at all of numbers.items
+        ++ some_or own.items (texts_at all of (option_to_list closest))) }
 {
     if own.is_empty() {
-        return add(list, others);
+        let mut numbers = numbers;
+        add_some(&mut numbers, closest)?;
+        return Ok(Sources { numbers, own });
     }
-    add(list, own)
+    Ok(Sources { numbers, own })
 }
 
 /// The texts of a file: its own, and those of the annotations that count.
 pub(crate) fn given(
     alloc: Global,
     of: Subject,
-    own: &[SharedText],
-    counting: &[&Annotation],
-) -> Result<Vec<SharedText>, AllocError>
-    ensures { IfOk result (λ v. v.items ≡ given of own.now (annotations_of counting.now)) }
+    own: Vec<SharedText>,
+    all: &[Annotation],
+    counting: &[usize],
+) -> Result<Sources, AllocError>
+    ensures { IfOk result (λ g. all_texts all.now of g
+        ≡ given of own.items (annotations_at all.now counting.now)) }
 {
-    let mut list = Vec::new(alloc);
-    let mut closest: &[SharedText] = &[];
-    for annotation in counting {
-        let texts = texts_of(of, annotation);
+    let mut numbers = Vec::new(alloc);
+    let mut closest = None;
+    for number in counting {
+        let Some(annotation) = annotation_at(all, *number) else {
+            continue;
+        };
         match annotation.precedence {
             Precedence::Override => {
-                add(&mut list, texts)?;
-                return Ok(list);
+                numbers.push(*number)?;
+                let own = Vec::new(alloc);
+                return Ok(Sources { numbers, own });
             }
-            Precedence::Aggregate => add(&mut list, texts)?,
-            Precedence::Closest => closest = some_or(texts, closest),
+            Precedence::Aggregate => numbers.push(*number)?,
+            Precedence::Closest => closest = nearer(of, annotation, *number, closest),
         }
     }
-    add_own(&mut list, own, closest)?;
-    Ok(list)
+    with_own(numbers, own, closest)
 }

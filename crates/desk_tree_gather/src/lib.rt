@@ -8,9 +8,15 @@
 //!   count, one a folder at most (`specs/Information.antt`).
 //! - A file's information is given by cases: an override, or what the file states itself with the
 //!   aggregates and the nearest `closest` annotation. The code goes down the folders once.
-//! - Files share the texts of the annotations that count for them; `shared_set` sorts them.
-//! - Files come by path, and what is looked up and sorted for one serves the next: `Trail` keeps the
-//!   annotations of the folders on its way, and `LastSet` the texts that were sorted last.
+//! - What an annotation gives is kept once, however many files it counts for: each annotation has a
+//!   number (`folders.rt`), and a file has its own texts and the numbers of those that count
+//!   (`specs/Sharing.antt`). A contract sees `Infos` as the list of the files' information; the texts
+//!   of a file are joined only when it is asked for (`ToldFiles::file`).
+//! - `Infos::firsts` gives each text at the first file that has it (`specs/Firsts.antt`). It goes
+//!   through an annotation once, so that what is asked of all files takes time and memory in step with
+//!   the tree: their distinct texts, which licences they use, and which file names each first.
+//! - Files come by path, and what is looked up for one serves the next: `Trail` keeps the annotations
+//!   of the folders on its way.
 //! - `survey` goes on past faults: it gives all that is wrong in a tree, and the information of the
 //!   files by what can be read (`specs/Survey.antt`). `gathered` stops at the first of these flaws
 //!   (`gathered_is_surveyed`).
@@ -25,9 +31,12 @@
 mod counting;
 mod fault;
 mod files;
+mod firsts;
 mod flaw;
+mod folders;
 mod gathering;
 mod information;
+mod infos;
 mod laws;
 mod paths;
 mod sets;
@@ -38,9 +47,11 @@ mod trail;
 
 pub use fault::GatherFault;
 pub use files::{SourceFile, bytes_at, tree_of};
+pub use firsts::First;
 pub use flaw::Flaw;
 pub use gathering::{FileInfo, gather, gathered};
+pub use information::Subject;
+pub use infos::{Infos, Outline};
 pub use laws::{gathered_is_surveyed, one_reader};
-pub use sets::shared_set;
 pub use surveying::{Surveyed, survey};
-pub use telling::{ToldFile, told};
+pub use telling::{ToldFile, ToldFiles, told};

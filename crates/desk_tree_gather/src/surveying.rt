@@ -10,14 +10,18 @@ ghost use Rattle.desk_tree_gather.specs.Tomls.{TomlText};
 ghost use Rattle.desk_tree_gather.specs.Folders.{Holds};
 ghost use Rattle.desk_tree_gather.specs.Gathering.{holder};
 ghost use Rattle.desk_tree_gather.specs.Survey.{path_flaw, with_file, sifted, path_flaws, flaw_of, toml_flaws, toml_sifted, tag_flaws, stated_flaws, kept, tree_flaws, flaws_of, info_sifted, infos_sifted};
+ghost use Rattle.desk_tree_gather.specs.Sharing.{info_at, infos_at};
 ghost use Rattle.desk_tree_gather.specs.Shown.{file_of, files_of, tree_in, toml_in, tomls_in, stated_of};
 
 use crate::counting::counting;
 use crate::files::{File, SourceFile, bytes_at, files_of, is_covered, is_toml};
 use crate::flaw::Flaw;
-use crate::gathering::{Before, FileInfo, Known, holder, info_with};
+use crate::folders::by_folder;
+use crate::gathering::{Known, holder, info_with};
+use crate::infos::{Covered, Infos};
 use crate::paths::{folder_of, is_path};
-use crate::tomls::{Toml, by_folder};
+use crate::tomls::Toml;
+use crate::trail::Trail;
 use desk_base::{Items, Text, limits};
 use desk_tree_annotations::{
     Annotations, AnnotationsFault, Info, Sifted, Tagged, header, is_expression_beside,
@@ -36,7 +40,7 @@ pub struct Surveyed<'a> {
     pub flaws: Items<Flaw>,
     /// The information of the covered files by path, by the annotations that can be read. A tag
     /// that is no licence expression stands there as it is written.
-    pub infos: Vec<FileInfo>,
+    pub infos: Infos,
 }
 
 // What is wrong with the path of a file that is put to others.
@@ -260,52 +264,49 @@ fn own_sifted<'a>(
     Ok(info)
 }
 
-// The information of a covered file, whatever is wrong in it or elsewhere, by what is kept of the
-// one before.
+// The information of a covered file, whatever is wrong in it or elsewhere, by the way to the one
+// before.
 fn info_sifted<'a>(
     alloc: Global,
     tree: &BTreeMap<&'a str, &'a [u8]>,
-    before: &mut Before<'_>,
+    trail: &mut Trail<'_>,
     file: File<'a>,
     flaws: &mut Items<Flaw>,
-) -> Result<FileInfo, AllocError>
-    ensures same { OnOk result (before.new.trail.folders.now ≡ before.old.trail.folders.now) }
+) -> Result<Covered, AllocError>
+    ensures same { OnOk result (trail.new.folders.now ≡ trail.old.folders.now) }
     ensures info { (r : Reader) → IsRightReader r → (tomls : List TomlText)
-        → Holds tomls before.old.trail.folders.now → IfOk result (λ i.
-        i ≡ info_sifted r tomls (tree_in tree.now) (file_of file.entry)) }
+        → Holds tomls trail.old.folders.now → IfOk result (λ covered.
+        info_at trail.old.folders.now.all.items covered
+        ≡ info_sifted r tomls (tree_in tree.now) (file_of file.entry)) }
     ensures flaws { (r : Reader) → IsRightReader r
         → OnOk result (flaws.new ≡ flaws.old ++ stated_flaws r
         (holder (tree_in tree.now) (file_of file.entry))) }
 {
     let own = own_sifted(alloc, tree, file, flaws)?;
-    let counting = counting(alloc, &mut before.trail, file.path)?;
-    info_with(
-        alloc,
-        file.path,
-        counting.as_slice(),
-        &own,
-        &mut before.sets,
-    )
+    let counting = counting(alloc, trail, file.path)?;
+    let all = trail.folders.all.as_slice();
+    info_with(alloc, file.path, all, counting.as_slice(), &own)
 }
 
-// The information of covered files, in their order, by what is kept of the one before.
+// The information of covered files, in their order, by the way to the one before.
 fn each_sifted<'a>(
     alloc: Global,
     tree: &BTreeMap<&'a str, &'a [u8]>,
-    before: &mut Before<'_>,
+    trail: &mut Trail<'_>,
     files: &[File<'a>],
     flaws: &mut Items<Flaw>,
-) -> Result<Vec<FileInfo>, AllocError>
+) -> Result<Vec<Covered>, AllocError>
     ensures infos { (r : Reader) → IsRightReader r → (tomls : List TomlText)
-        → Holds tomls before.old.trail.folders.now → IfOk result (λ v.
-        v.items ≡ map (info_sifted r tomls (tree_in tree.now)) (files_of files.now)) }
+        → Holds tomls trail.old.folders.now → IfOk result (λ v.
+        infos_at trail.old.folders.now.all.items v.items
+        ≡ map (info_sifted r tomls (tree_in tree.now)) (files_of files.now)) }
     ensures flaws { (r : Reader) → IsRightReader r
         → OnOk result (flaws.new ≡ flaws.old ++ flat_map (λ f.
         stated_flaws r (holder (tree_in tree.now) f)) (files_of files.now)) }
 {
     let mut infos = Vec::new(alloc);
     for file in files {
-        let info = info_sifted(alloc, tree, before, *file, flaws)?;
+        let info = info_sifted(alloc, tree, trail, *file, flaws)?;
         infos.push(info)?;
     }
     Ok(infos)
@@ -317,16 +318,17 @@ fn all_sifted<'a>(
     known: &Known<'a>,
     files: &[File<'a>],
     flaws: &mut Items<Flaw>,
-) -> Result<Vec<FileInfo>, AllocError>
+) -> Result<Vec<Covered>, AllocError>
     ensures infos { (r : Reader) → IsRightReader r → (tomls : List TomlText)
         → Holds tomls known.now.folders → IfOk result (λ v.
-        v.items ≡ map (info_sifted r tomls (tree_in known.now.tree)) (files_of files.now)) }
+        infos_at known.now.folders.all.items v.items
+        ≡ map (info_sifted r tomls (tree_in known.now.tree)) (files_of files.now)) }
     ensures flaws { (r : Reader) → IsRightReader r
         → OnOk result (flaws.new ≡ flaws.old ++ flat_map (λ f.
         stated_flaws r (holder (tree_in known.now.tree) f)) (files_of files.now)) }
 {
-    let mut before = Before::of(alloc, &known.folders)?;
-    each_sifted(alloc, &known.tree, &mut before, files, flaws)
+    let mut trail = Trail::of(alloc, &known.folders)?;
+    each_sifted(alloc, &known.tree, &mut trail, files, flaws)
 }
 
 // All that is wrong in a tree of right paths, and what is gathered of the rest.
@@ -339,7 +341,7 @@ fn survey_of<'a>(
     ensures flaws { (r : Reader) → IsRightReader r
         → IfOk result (λ s. s.flaws ≡ flaws ++ tree_flaws r (tree_in tree.entry)) }
     ensures infos { (r : Reader) → IsRightReader r
-        → IfOk result (λ s. s.infos.items ≡ infos_sifted r (tree_in tree.entry)) }
+        → IfOk result (λ s. s.infos ≡ infos_sifted r (tree_in tree.entry)) }
 {
     let mut flaws = flaws;
     let files = files_of(alloc, &tree)?;
@@ -348,8 +350,9 @@ fn survey_of<'a>(
     let folders = by_folder(alloc, tomls)?;
     let covered = covered_files(alloc, files.as_slice())?;
     let known = Known { tree, folders };
-    let infos = all_sifted(alloc, &known, covered.as_slice(), &mut flaws)?;
-    let Known { tree, .. } = known;
+    let covered = all_sifted(alloc, &known, covered.as_slice(), &mut flaws)?;
+    let Known { tree, folders } = known;
+    let infos = Infos::of(folders.all, covered);
     Ok(Surveyed { tree, flaws, infos })
 }
 
@@ -363,7 +366,7 @@ pub fn survey<'a>(alloc: Global, files: &'a [SourceFile]) -> Result<Surveyed<'a>
     ensures flaws { (r : Reader) → IsRightReader r
         → IfOk result (λ s. s.flaws ≡ flaws_of r files.now) }
     ensures infos { (r : Reader) → IsRightReader r
-        → IfOk result (λ s. s.infos.items ≡ infos_sifted r (kept files.now)) }
+        → IfOk result (λ s. s.infos ≡ infos_sifted r (kept files.now)) }
 {
     let mut flaws = Items::new(alloc);
     if files.len() > limits::TREE_FILES {
@@ -371,7 +374,7 @@ pub fn survey<'a>(alloc: Global, files: &'a [SourceFile]) -> Result<Surveyed<'a>
         return Ok(Surveyed {
             tree: BTreeMap::new(alloc),
             flaws,
-            infos: Vec::new(alloc),
+            infos: Infos::of(Vec::new(alloc), Vec::new(alloc)),
         });
     }
     let tree = tree_kept(alloc, files, &mut flaws)?;

@@ -1,6 +1,8 @@
 //! What is told of the files of a tree. The bytes of a file are let go once it is told of.
 
-ghost use Rattle.std.specs.Prelude.{◌≡◌, [], List, IfOk, IfErr, OnOk, Ok, Err, option_map, filter};
+ghost use Rattle.std.specs.Prelude.{◌≡◌, ◌<◌, [], List, IfOk, IfErr, OnOk, Ok, Err, option_map, filter, length, map};
+ghost use Rattle.std.specs.List.{slice_get};
+ghost use Rattle.desk_tree_gather.specs.Digests.{told_at, all_told};
 ghost use Rattle.desk_tree_gather.specs.Readers.{Reader, IsRightReader};
 ghost use Rattle.desk_tree_gather.specs.Folders.{Holds};
 ghost use Rattle.desk_tree_gather.specs.Gathering.{holder};
@@ -13,14 +15,18 @@ ghost use Rattle.desk_tree_gather.specs.Trees.{bytes_at, placed, tree_of};
 use crate::counting::counting;
 use crate::fault::GatherFault;
 use crate::files::{File, SourceFile, is_covered, is_toml};
-use crate::gathering::{Before, FileInfo, Held, info_with, stated_in};
+use crate::folders::{Folders, by_folder};
+use crate::gathering::{FileInfo, Held, info_with, stated_in};
+use crate::infos::{Covered, Infos, info_at};
 use crate::paths::is_path;
-use crate::tomls::{by_folder, tomls_of};
+use crate::tomls::tomls_of;
+use crate::trail::Trail;
 use desk_base::{Items, Key, limits};
-use desk_tree_annotations::Annotations;
+use desk_tree_annotations::Annotation;
 use sha1::Sha1;
 use std::alloc::{AllocError, Global};
 use std::collections::BTreeMap;
+use std::marker::Model;
 
 /// What is told of a file.
 #[derive(Drop)]
@@ -29,6 +35,80 @@ pub struct ToldFile {
     pub info: FileInfo,
     /// The SHA1 digest of its bytes.
     pub digest: [u8; 20],
+}
+
+// A covered file, and the SHA1 digest of its bytes.
+#[derive(Drop)]
+pub(crate) struct Digested {
+    pub(crate) info: Covered,
+    pub(crate) digest: [u8; 20],
+}
+
+/// What is told of the covered files of a tree, by path: seen as what is told of each. What an
+/// annotation gives is kept once.
+#[derive(Drop)]
+pub struct ToldFiles {
+    annotations: Vec<Annotation>,
+    files: Vec<Digested>,
+}
+
+impl Model for ToldFiles {
+    ghost use Rattle.std.specs.Prelude.{List};
+    ghost use Rattle.desk_tree_gather.specs.declared.telling.ToldFile.{ToldFile};
+
+    ghost Value = { List ToldFile };
+
+    ghost use Rattle.desk_tree_gather.specs.Digests.{all_told};
+
+    ghost view = { λ t. all_told t.annotations.items t.files.items };
+}
+
+// The files without their digests.
+fn without_digests(alloc: Global, files: Vec<Digested>) -> Result<Vec<Covered>, AllocError>
+    ensures { IfOk result (λ v. v.items ≡ map (λ file. file.info) files.items) }
+{
+    let mut covered = Vec::new(alloc);
+    for file in files {
+        covered.push(file.info)?;
+    }
+    Ok(covered)
+}
+
+impl ToldFiles {
+    // Files under the annotations of these numbers.
+    fn of(annotations: Vec<Annotation>, files: Vec<Digested>) -> ToldFiles
+        ensures { result ≡ all_told annotations.items files.items }
+    {
+        ToldFiles { annotations, files }
+    }
+
+    /// How many files there are.
+    pub fn len(&self) -> usize
+        ensures { result ≡ length self.now }
+    {
+        self.files.len()
+    }
+
+    /// What is told of one of them, by its place. The only error is want of memory.
+    pub fn file(&self, alloc: Global, place: usize) -> Result<ToldFile, AllocError>
+        requires { place < length self.now }
+        ensures { IfOk result (λ file. slice_get self.now place ≡ Some file) }
+    {
+        let file = &self.files[place];
+        Ok(ToldFile {
+            info: info_at(alloc, self.annotations.as_slice(), &file.info)?,
+            digest: file.digest,
+        })
+    }
+
+    /// The information of the files. The only error is want of memory.
+    pub fn into_infos(self, alloc: Global) -> Result<Infos, AllocError>
+        ensures { IfOk result (λ infos. infos ≡ map (λ file. file.info) self) }
+    {
+        let ToldFiles { annotations, files } = self;
+        let covered = without_digests(alloc, files)?;
+        Ok(Infos::of(annotations, covered))
+    }
 }
 
 // The files by path, where each path can stand there.
@@ -91,7 +171,7 @@ fn toml_files<'a>(
 fn folders_of(
     alloc: Global,
     tree: &BTreeMap<Key, Items<u8>>,
-) -> Result<Result<BTreeMap<Vec<u8>, Annotations>, GatherFault>, AllocError>
+) -> Result<Result<Folders, GatherFault>, AllocError>
     ensures ok { (r : Reader) → IsRightReader r → IfOk result (λ x. IfOk x (λ folders.
         (tomls : List TomlText) × (tomls_of r (left_in tree.now) ≡ Ok tomls)
         × Holds tomls folders)) }
@@ -141,45 +221,42 @@ fn holder<'a>(
     }
 }
 
-// What is told of a file, by itself and by those that are left, and what is kept of the one before.
+// What is told of a file, by itself and by those that are left, and the way to the one before.
 fn told_beside(
     alloc: Global,
     left: &BTreeMap<Key, Items<u8>>,
-    before: &mut Before<'_>,
+    trail: &mut Trail<'_>,
     file: File<'_>,
-) -> Result<Result<ToldFile, GatherFault>, AllocError>
-    ensures same { OnOk result (before.new.trail.folders.now ≡ before.old.trail.folders.now) }
+) -> Result<Result<Digested, GatherFault>, AllocError>
+    ensures same { OnOk result (trail.new.folders.now ≡ trail.old.folders.now) }
     ensures told { (r : Reader) → IsRightReader r → (tomls : List TomlText)
-        → Holds tomls before.old.trail.folders.now
-        → IfOk result (λ t. t ≡ told_beside r tomls (left_in left.now) (file_of file.entry)) }
+        → Holds tomls trail.old.folders.now
+        → IfOk result (Gives (told_beside r tomls (left_in left.now) (file_of file.entry))
+        (told_at trail.old.folders.now.all.items)) }
 {
     let held = holder(alloc, left, file)?;
     let own = match stated_in(alloc, held.path.as_str(), held.bytes)? {
         Ok(own) => own,
         Err(fault) => return Ok(Err(fault)),
     };
-    let counting = counting(alloc, &mut before.trail, file.path)?;
-    let info = info_with(
-        alloc,
-        file.path,
-        counting.as_slice(),
-        &own,
-        &mut before.sets,
-    )?;
+    let counting = counting(alloc, trail, file.path)?;
+    let all = trail.folders.all.as_slice();
+    let info = info_with(alloc, file.path, all, counting.as_slice(), &own)?;
     let digest = Sha1::digest(file.bytes);
-    Ok(Ok(ToldFile { info, digest }))
+    Ok(Ok(Digested { info, digest }))
 }
 
-// What is told of the covered files of a tree, by what is kept of the one before. A file beside
-// another stands behind it, and so among those that are left.
+// What is told of the covered files of a tree, by the way to the one before. A file beside another
+// stands behind it, and so among those that are left.
 fn each_told(
     alloc: Global,
     tree: BTreeMap<Key, Items<u8>>,
-    before: &mut Before<'_>,
-) -> Result<Result<Vec<ToldFile>, GatherFault>, AllocError>
+    trail: &mut Trail<'_>,
+) -> Result<Result<Vec<Digested>, GatherFault>, AllocError>
     ensures { (r : Reader) → IsRightReader r → (tomls : List TomlText)
-        → Holds tomls before.old.trail.folders.now
-        → IfOk result (Gives (told_in r tomls (left_in tree)) (λ v. v.items)) }
+        → Holds tomls trail.old.folders.now
+        → IfOk result (Gives (told_in r tomls (left_in tree))
+        (λ v. all_told trail.old.folders.now.all.items v.items)) }
 {
     let mut left = tree;
     let mut list = Vec::new(alloc);
@@ -191,7 +268,7 @@ fn each_told(
         if !is_covered(file) {
             continue;
         }
-        match told_beside(alloc, &left, before, file)? {
+        match told_beside(alloc, &left, trail, file)? {
             Ok(told) => list.push(told)?,
             Err(fault) => return Ok(Err(fault)),
         }
@@ -199,17 +276,35 @@ fn each_told(
     Ok(Ok(list))
 }
 
+// What is told of the covered files of a tree, by the annotations' numbers.
+fn files_told(
+    alloc: Global,
+    tree: BTreeMap<Key, Items<u8>>,
+    folders: &Folders,
+) -> Result<Result<Vec<Digested>, GatherFault>, AllocError>
+    ensures { (r : Reader) → IsRightReader r → (tomls : List TomlText)
+        → Holds tomls folders.now
+        → IfOk result (Gives (told_in r tomls (left_in tree))
+        (λ v. all_told folders.now.all.items v.items)) }
+{
+    let mut trail = Trail::of(alloc, folders)?;
+    each_told(alloc, tree, &mut trail)
+}
+
 // What is told of the covered files of a tree.
 fn told_in(
     alloc: Global,
     tree: BTreeMap<Key, Items<u8>>,
-    folders: &BTreeMap<Vec<u8>, Annotations>,
-) -> Result<Result<Vec<ToldFile>, GatherFault>, AllocError>
-    ensures { (r : Reader) → IsRightReader r → (tomls : List TomlText) → Holds tomls folders.now
-        → IfOk result (Gives (told_in r tomls (left_in tree)) (λ v. v.items)) }
+    folders: Folders,
+) -> Result<Result<ToldFiles, GatherFault>, AllocError>
+    ensures { (r : Reader) → IsRightReader r → (tomls : List TomlText) → Holds tomls folders
+        → IfOk result (Gives (told_in r tomls (left_in tree)) (λ told. told)) }
 {
-    let mut before = Before::of(alloc, folders)?;
-    each_told(alloc, tree, &mut before)
+    let files = match files_told(alloc, tree, &folders)? {
+        Ok(files) => files,
+        Err(fault) => return Ok(Err(fault)),
+    };
+    Ok(Ok(ToldFiles::of(folders.all, files)))
 }
 
 /// What is told of each covered file by path, or the first fault, as `gathered` has it. The bytes
@@ -220,9 +315,9 @@ fn told_in(
 pub fn told(
     alloc: Global,
     files: Vec<SourceFile>,
-) -> Result<Result<Vec<ToldFile>, GatherFault>, AllocError>
+) -> Result<Result<ToldFiles, GatherFault>, AllocError>
     ensures { (r : Reader) → IsRightReader r
-        → IfOk result (Gives (told r files.items) (λ v. v.items)) }
+        → IfOk result (Gives (told r files.items) (λ told. told)) }
 {
     let tree = match tree_of(alloc, files)? {
         Ok(tree) => tree,
@@ -232,5 +327,5 @@ pub fn told(
         Ok(folders) => folders,
         Err(fault) => return Ok(Err(fault)),
     };
-    told_in(alloc, tree, &folders)
+    told_in(alloc, tree, folders)
 }

@@ -4,16 +4,14 @@ ghost use Rattle.std.specs.Prelude.{◌≡◌, ◌≢◌, IfOk, OnOk, ℕ, alloc
 ghost use Rattle.desk_tree_annotations.specs.declared.fault.AnnotationsFault.{AnnotationsFault};
 ghost use Rattle.desk_tree_gather.specs.Readers.{Reader, IsRightReader};
 ghost use Rattle.desk_tree_gather.specs.Tomls.{told_of, toml_of, tomls_of};
-ghost use Rattle.desk_tree_gather.specs.Folders.{kept_for, Holds};
 ghost use Rattle.desk_tree_gather.specs.Shown.{Gives, file_of, files_of, toml_in, tomls_in};
 
 use crate::fault::GatherFault;
 use crate::files::{File, is_toml};
 use crate::paths::folder_of;
 use desk_base::Text;
-use desk_tree_annotations::{Annotation, Annotations, AnnotationsFault};
+use desk_tree_annotations::{Annotations, AnnotationsFault};
 use std::alloc::{AllocError, Global};
-use std::collections::BTreeMap;
 
 /// A REUSE.toml.
 #[derive(Drop)]
@@ -75,36 +73,4 @@ pub(crate) fn tomls_of<'a>(
         }
     }
     Ok(Ok(tomls))
-}
-
-/// The annotations by folder.
-pub(crate) fn by_folder(
-    alloc: Global,
-    tomls: Vec<Toml<'_>>,
-) -> Result<BTreeMap<Vec<u8>, Annotations>, AllocError>
-    ensures { IfOk result (Holds (tomls_in tomls.entry.items)) }
-{
-    let mut tomls = tomls;
-    let mut folders = BTreeMap::new(alloc);
-    while let Some(toml) = tomls.pop() {
-        let Toml {
-            folder,
-            annotations,
-        } = toml;
-        folders.insert(Vec::from_slice(alloc, folder)?, annotations)?;
-    }
-    Ok(folders)
-}
-
-/// The annotations of a folder.
-pub(crate) fn annotations_in<'m>(
-    folders: &'m BTreeMap<Vec<u8>, Annotations>,
-    folder: &[u8],
-) -> &'m [Annotation]
-    ensures { result.now ≡ kept_for folders.now folder.now }
-{
-    match folders.get(folder) {
-        Some(annotations) => annotations.list.as_slice(),
-        None => &[],
-    }
 }

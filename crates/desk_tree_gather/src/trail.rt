@@ -1,4 +1,5 @@
-//! The way to a path, from the root to its folder, with the annotations of each folder on it.
+//! The way to a path, from the root to its folder, with the numbers of the annotations of each
+//! folder on it.
 //!
 //! Files come by path, so that the folders of one are mostly those of the file before: each is
 //! looked up once.
@@ -8,17 +9,15 @@ ghost use Rattle.desk_tree_gather.specs.Folders.{kept_for};
 ghost use Rattle.desk_tree_gather.specs.Information.{rests};
 ghost use Rattle.desk_tree_gather.specs.Ways.{way, ways, Shares, lists_of};
 
-use crate::tomls::annotations_in;
-use desk_tree_annotations::{Annotation, Annotations};
+use crate::folders::{Folders, numbers_in};
 use std::alloc::{AllocError, Global};
-use std::collections::BTreeMap;
 
-/// The folders on the way to a path, with the annotations of each.
+/// The folders on the way to a path, with the numbers of the annotations of each.
 #[derive(Drop)]
 pub(crate) struct Trail<'m> {
-    pub(crate) folders: &'m BTreeMap<Vec<u8>, Annotations>,
+    pub(crate) folders: &'m Folders,
     pub(crate) path: Vec<u8>,
-    pub(crate) lists: Vec<&'m [Annotation]>,
+    pub(crate) lists: Vec<&'m [usize]>,
     ghost along: { lists_of lists.items ≡ map (kept_for folders.now) (ways path.items) },
 }
 
@@ -58,12 +57,12 @@ fn shared<'a>(before: &[u8], path: &'a [u8]) -> (usize, &'a [u8])
     (folders, rest)
 }
 
-// Adds the annotations of the folders that are on the way in the rest of a path.
+// Adds the numbers of the annotations of the folders that are on the way in the rest of a path.
 fn add_behind<'m>(
-    folders: &'m BTreeMap<Vec<u8>, Annotations>,
+    folders: &'m Folders,
     path: &[u8],
     rest: &[u8],
-    lists: &mut Vec<&'m [Annotation]>,
+    lists: &mut Vec<&'m [usize]>,
 ) -> Result<(), AllocError>
     requires { length rest.now ≤ length path.now }
     ensures { OnOk result (lists_of lists.new.items ≡ lists_of lists.old.items
@@ -73,7 +72,7 @@ fn add_behind<'m>(
     while let Some((byte, after)) = rest.split_first() {
         if *byte == b'/' {
             let (folder, _) = path.split_at(path.len() - after.len());
-            lists.push(annotations_in(folders, folder))?;
+            lists.push(numbers_in(folders, folder))?;
         }
         rest = after;
     }
@@ -82,14 +81,11 @@ fn add_behind<'m>(
 
 impl<'m> Trail<'m> {
     /// The way to the root.
-    pub(crate) fn of(
-        alloc: Global,
-        folders: &'m BTreeMap<Vec<u8>, Annotations>,
-    ) -> Result<Trail<'m>, AllocError>
+    pub(crate) fn of(alloc: Global, folders: &'m Folders) -> Result<Trail<'m>, AllocError>
         ensures { IfOk result (λ t. t.folders.now ≡ folders.now) }
     {
         let mut lists = Vec::new(alloc);
-        lists.push(annotations_in(folders, b""))?;
+        lists.push(numbers_in(folders, b""))?;
         Ok(Trail {
             folders,
             path: Vec::new(alloc),
@@ -114,8 +110,8 @@ impl<'m> Trail<'m> {
         })
     }
 
-    /// The annotations of each folder, from the root.
-    pub(crate) fn lists(&self) -> &[&'m [Annotation]]
+    /// The numbers of the annotations of each folder, from the root.
+    pub(crate) fn lists(&self) -> &[&'m [usize]]
         ensures { lists_of result.now ≡ map (kept_for self.now.folders.now)
             (ways self.now.path.items) }
     {

@@ -1,10 +1,7 @@
 -- First mentions in a map.
 use Rattle.std.proofs.Common.{◌≡◌, ◌∙◌, ◌+◌, ◌<◌, inl, inr, subst, sym, ℕ, Bool, true, false, cond, List, [], ◌∷◌, ◌++◌, length, get_or, take, map, Option, Some, None, ap, refl, nat_cmp, is_eq, Ordering}
-use Rattle.std.specs.Prelude.{Vec, is_some, option_map, ◌||◌}
+use Rattle.std.specs.Prelude.{Vec, Result, OnOk, is_some, option_map, ◌⊎◌, ◌||◌, not, filter}
 use Rattle.std.specs.List.{flat_map}
-use Rattle.std.specs.BTreeSet.{UpdatesBy}
-use denote.Ref.{Bor}
-use Rattle.desk_base.specs.Borrowed.{borrowed_cmp}
 use Rattle.std.specs.Str.{bytes_eq}
 use Rattle.std.specs.declared.alloc.Global.{Global}
 use Rattle.std.specs.Cmp.Lexicographic.{slice_cmp}
@@ -12,17 +9,20 @@ use Rattle.std.specs.BTreeMap.{Updates, is_at}
 use Rattle.std.specs.Map.{lookup, IsKeyTest, AreApart, KeepsOthers}
 use Rattle.std.specs.Ordering.{eq_by_cmp}
 use Rattle.std.proofs.lemmas.Bool.{cases_Bool, false≢true}
-use Rattle.std.proofs.lemmas.List.{append_assoc, append-nil, flat_map_more, map-append, map_more, take_more}
+use Rattle.std.proofs.lemmas.List.{append_assoc, append-nil, flat_map_more, map_more, take_more}
 use Rattle.std.proofs.lemmas.Cmp.{eq_by_cmp_equiv, nat_list_cmp_total, nat_list_eq_equiv}
 use Rattle.std.proofs.lemmas.Slice.Eq.{bytes_eq-Decides}
 use Rattle.std.proofs.lemmas.Map.Text.{is_eq-slice_cmp}
 use Rattle.desk_tree_lint.specs.declared.naming.Mention.{Mention}
 use Rattle.desk_tree_gather.specs.declared.gathering.FileInfo.{FileInfo}
+use Rattle.desk_catalogue.specs.Values.{is_among}
+use Rattle.desk_tree_gather.specs.declared.firsts.First.{First}
+use Rattle.desk_tree_gather.specs.declared.information.Subject.TheVariants.{Licences}
+use Rattle.desk_tree_gather.specs.Firsts.{first_in, firsts_behind, firsts_of}
 use Rattle.desk_tree_gather.specs.Information.{or_else}
-use Rattle.desk_tree_lint.specs.Firsts.{Firsts, Licences, mention_in, mentions_shown, kept_for, Holds, BringNone, Keeps}
-use Rattle.desk_tree_lint.specs.Sets.{has_text}
-use Rattle.desk_tree_lint.proofs.SetLemmas.{one_more}
-use Rattle.desk_tree_lint.specs.Naming.{MentionText, mention, ids, mentions_by, mentions_in, mentions, first_with}
+use Rattle.desk_tree_gather.proofs.AmongLemmas.{among-append}
+use Rattle.desk_tree_lint.specs.Firsts.{Firsts, mention_in, mentions_shown, mentions_of, first_mentions, kept_for, Holds}
+use Rattle.desk_tree_lint.specs.Naming.{MentionText, mention, ids, mentions_by, mentions, first_with}
 use Rattle.desk_tree_lint.specs.Texts.{key_of}
 
 abbrev key_cmp : Vec ℕ Global → Vec ℕ Global → Ordering
@@ -105,13 +105,23 @@ shown_more before ms i d within =
     append_assoc before (mentions_shown (take i ms)) (mention_in (get_or ms i d) ∷ [])
     ∙ ap (λ l. before ++ l) (sym (map_more mention_in ms i d within))
 
+-- the same mentions are kept
+pub holds_along : {T E : Type 0} (result : Result T E) (old new : Firsts) (more same : List MentionText) → more ≡ same
+    → OnOk result ((ms : List MentionText) → Holds ms old → Holds (ms ++ more) new) → OnOk result ((ms : List MentionText) → Holds ms old → Holds (ms ++ same) new)
+holds_along result old new more same is kept = subst (λ (l : List MentionText). OnOk result ((ms : List MentionText) → Holds ms old → Holds (ms ++ l) new)) is kept
+
 -- those of one more file
-pub mentions_more : (infos : List FileInfo) (i : ℕ) (d : FileInfo) → i < length infos → mentions (take i infos) ++ mentions_in (get_or infos i d) ≡ mentions (take (i + 1) infos)
-mentions_more infos i d within =
-    flat_map_more mentions_in [] (take i infos) (get_or infos i d)
-    ∙ ap mentions (sym (take_more infos i d within))
+pub mentions_more : (ms : List MentionText) (firsts : List First) (i : ℕ) (d : First) → i < length firsts
+    → (ms ++ first_mentions (map first_in (take i firsts))) ++ mentions_of (first_in (get_or firsts i d)) ≡ ms ++ first_mentions (map first_in (take (i + 1) firsts))
+mentions_more ms firsts i d within =
+    flat_map_more mentions_of ms (map first_in (take i firsts)) (first_in (get_or firsts i d))
+    ∙ ap (λ fs. ms ++ first_mentions fs) (sym (map_more first_in firsts i d within))
 
 -- ---- what brings no first
+
+-- identifiers bring no first mention behind these, whichever file names them
+abbrev pub BringNone : List MentionText → List (List ℕ) → Type 0
+BringNone ms named = (path key : List ℕ) → first_with key (ms ++ map (mention path) named) ≡ first_with key ms
 
 first_app : (key : List ℕ) (ms ns : List MentionText) → first_with key (ms ++ ns) ≡ or_else (first_with key ms) (first_with key ns)
 first_app key [] ns = refl
@@ -159,39 +169,6 @@ none_behind ms more named none path key =
     ∙ still_none (first_with key ms) (first_with key more) (first_with key new) (sym (first_app key ms new) ∙ none path key)
     ∙ sym (first_app key ms more)
 
--- where nothing is named
-pub none_named : (ms : List MentionText) → BringNone ms []
-none_named ms path key = ap (first_with key) (append-nil ms)
-
--- the map stays as it is
-pub holds_behind : (ms : List MentionText) (path : List ℕ) (named : List (List ℕ)) (firsts : Firsts) → BringNone ms named → Holds ms firsts → Holds (ms ++ map (mention path) named) firsts
-holds_behind ms path named firsts none holds key = holds key ∙ sym (none path key)
-
-pub keeps_behind : (ms : List MentionText) (path : List ℕ) (named : List (List ℕ)) (firsts : Firsts) (known : Licences) → BringNone ms named → Keeps ms firsts known
-    → Keeps (ms ++ map (mention path) named) firsts known
-keeps_behind ms path named firsts known none keeps = (
-  holds_behind ms path named firsts none keeps.0,
-  (λ licence has. none_behind ms (map (mention path) named) (ids licence) (keeps.1 licence has)),
-)
-
--- a licence more is known
-pub keeps_more : (ms : List MentionText) (path : List ℕ) (v : Bor (List ℕ)) (old new : Licences) (was firsts : Firsts) → UpdatesBy borrowed_cmp (borrowed_cmp v) old new true
-    → Keeps ms was old → Holds (ms ++ mentions_by path v.now) firsts → Keeps (ms ++ mentions_by path v.now) firsts new
-keeps_more ms path v old new was firsts updates keeps holds = (
-  holds,
-  (λ licence has.
-      elim (cases_Bool (bytes_eq v.now licence)) [
-        | inl here ↦ subst (λ l. BringNone (ms ++ mentions_by path v.now) (ids l)) ((bytes_eq-Decides v.now licence).0 here) (named_again ms path (ids v.now))
-        | inr away ↦ none_behind ms (mentions_by path v.now) (ids licence)
-            (keeps.1 licence (sym (ap (λ b. b || has_text old licence) away) ∙ sym (one_more v old new updates licence) ∙ has))
-      ]),
-)
-
--- the identifiers in all licences of a file
-pub named_in : (path : List ℕ) (licences : List (List ℕ)) → map (mention path) (flat_map ids licences) ≡ flat_map (mentions_by path) licences
-named_in path [] = refl
-named_in path (licence ∷ more) = map-append (mention path) (ids licence) (flat_map ids more) ∙ ap (λ l. mentions_by path licence ++ l) (named_in path more)
-
 -- one licence more
 pub licences_more : (before : List MentionText) (path : List ℕ) (licences : List (List ℕ)) (i : ℕ) (d : List ℕ) → i < length licences
     → (before ++ flat_map (mentions_by path) (take i licences)) ++ mentions_by path (get_or licences i d) ≡ before ++ flat_map (mentions_by path) (take (i + 1) licences)
@@ -199,22 +176,74 @@ licences_more before path licences i d within =
     flat_map_more (mentions_by path) before (take i licences) (get_or licences i d)
     ∙ ap (λ l. before ++ flat_map (mentions_by path) l) (sym (take_more licences i d within))
 
--- ---- one file more
+-- ---- what was named before is left out
 
-module _ (infos : List FileInfo) (i : ℕ) (d : FileInfo) (within : i < length infos) (path : List ℕ) (licences : List (List ℕ)) (at : path ≡ (get_or infos i d).path) (has : licences ≡ (get_or infos i d).licences) where
-  abbrev so_far : List MentionText
-  so_far = mentions (take i infos)
+-- the first of each key is the same in both
+abbrev pub Alike : List MentionText → List MentionText → Type 0
+Alike ms ns = (key : List ℕ) → first_with key ms ≡ first_with key ns
 
-  pub file_more : so_far ++ flat_map (mentions_by path) licences ≡ mentions (take (i + 1) infos)
-  file_more = (λ j. so_far ++ flat_map (mentions_by (at j)) (has j)) ∙ mentions_more infos i d within
+behind_alike : (ms ns more : List MentionText) → Alike ms ns → Alike (ms ++ more) (ns ++ more)
+behind_alike ms ns more same key = first_app key ms more ∙ ap (λ o. or_else o (first_with key more)) (same key) ∙ sym (first_app key ns more)
 
-  named_more : so_far ++ map (mention path) (flat_map ids licences) ≡ mentions (take (i + 1) infos)
-  named_more = ap (λ l. so_far ++ l) (named_in path licences) ∙ file_more
+-- a licence that brings no first is left out of others
+left_out : (ms : List MentionText) (path licence : List ℕ) (more : List MentionText) → BringNone ms (ids licence) → Alike (ms ++ (mentions_by path licence ++ more)) (ms ++ more)
+left_out ms path licence more none key =
+    ap (first_with key) (sym (append_assoc ms (mentions_by path licence) more))
+    ∙ behind_alike (ms ++ mentions_by path licence) ms more (none path) key
 
-  -- its licences bring no first one behind it
-  pub named_there : BringNone (mentions (take (i + 1) infos)) (flat_map ids licences)
-  named_there = subst (λ l. BringNone l (flat_map ids licences)) named_more (named_again so_far path (flat_map ids licences))
+module _ (path : List ℕ) (keeps : List ℕ → Bool) where
+  -- of the licences of a file those that bring no first
+  pub filtered_alike : (licences : List (List ℕ)) (ms : List MentionText) → ((t : List ℕ) → keeps t ≡ false → BringNone ms (ids t))
+      → Alike (ms ++ flat_map (mentions_by path) licences) (ms ++ flat_map (mentions_by path) (filter keeps licences))
+  filtered_alike [] ms none key = refl
+  filtered_alike (t ∷ ts) ms none key = by_test (keeps t) refl
+    where
+      own : List MentionText
+      own = mentions_by path t
 
-  -- the same licences as before
-  pub same_again : (firsts : Firsts) (known : Licences) → BringNone so_far (flat_map ids licences) → Keeps so_far firsts known → Keeps (mentions (take (i + 1) infos)) firsts known
-  same_again firsts known none keeps = subst (λ l. Keeps l firsts known) named_more (keeps_behind so_far path (flat_map ids licences) firsts known none keeps)
+      by_test : (b : Bool) → keeps t ≡ b → first_with key (ms ++ (own ++ flat_map (mentions_by path) ts)) ≡ first_with key (ms ++ flat_map (mentions_by path) (cond b (t ∷ filter keeps ts) (filter keeps ts)))
+      by_test true is =
+          ap (first_with key) (sym (append_assoc ms (mentions_by path t) (flat_map (mentions_by path) ts)))
+          ∙ filtered_alike ts (ms ++ mentions_by path t) (λ u out. none_behind ms (mentions_by path t) (ids u) (none u out)) key
+          ∙ ap (first_with key) (append_assoc ms (mentions_by path t) (flat_map (mentions_by path) (filter keeps ts)))
+      by_test false is = left_out ms path t (flat_map (mentions_by path) ts) (none t is) key ∙ filtered_alike ts ms none key
+
+-- a licence brings no first behind the mentions of a file that has it
+named_there : (ms : List MentionText) (path : List ℕ) (licences : List (List ℕ)) (t : List ℕ) → is_among licences t ≡ true → BringNone (ms ++ flat_map (mentions_by path) licences) (ids t)
+named_there ms path [] t has = absurd (false≢true has)
+named_there ms path (u ∷ us) t has =
+    subst (λ l. BringNone l (ids t)) (append_assoc ms (mentions_by path u) (flat_map (mentions_by path) us))
+    (elim (cases_Bool (bytes_eq u t)) [
+      | inl here ↦ none_behind (ms ++ mentions_by path u) (flat_map (mentions_by path) us) (ids t)
+          (subst (λ x. BringNone (ms ++ mentions_by path u) (ids x)) ((bytes_eq-Decides u t).0 here) (named_again ms path (ids u)))
+      | inr away ↦ named_there (ms ++ mentions_by path u) path us t (ap (λ b. b || is_among us t) (sym away) ∙ has)
+    ])
+
+or_cases : (a b : Bool) → (a || b) ≡ true → (a ≡ true) ⊎ (b ≡ true)
+or_cases true b is = inl refl
+or_cases false b is = inr is
+
+kept_by : (b : Bool) → not b ≡ false → b ≡ true
+kept_by true is = refl
+kept_by false is = absurd (false≢true (sym is))
+
+-- of all files
+files_alike : (infos : List FileInfo) (known : List (List ℕ)) (ms ns : List MentionText) → Alike ms ns → ((t : List ℕ) → is_among known t ≡ true → BringNone ms (ids t))
+    → Alike (ms ++ mentions infos) (ns ++ first_mentions (firsts_behind Licences known infos))
+files_alike [] known ms ns same none key = ap (first_with key) (append-nil ms) ∙ same key ∙ ap (first_with key) (sym (append-nil ns))
+files_alike (info ∷ infos) known ms ns same none key =
+    let keeps : List ℕ → Bool = λ t. not (is_among known t) in
+    let all = flat_map (mentions_by info.path) info.licences in
+    let new = flat_map (mentions_by info.path) (filter keeps info.licences) in
+    ap (first_with key) (sym (append_assoc ms all (mentions infos)))
+    ∙ files_alike infos (known ++ info.licences) (ms ++ all) (ns ++ new)
+    (λ k. filtered_alike info.path keeps info.licences ms (λ t out. none t (kept_by (is_among known t) out)) k ∙ behind_alike ms ns new same k)
+    (λ t has. elim (or_cases (is_among known t) (is_among info.licences t) (sym (among-append known info.licences t) ∙ has)) [
+      | inl was ↦ none_behind ms all (ids t) (none t was)
+      | inr own ↦ named_there ms info.path info.licences t own
+    ]) key
+    ∙ ap (first_with key) (append_assoc ns new (first_mentions (firsts_behind Licences (known ++ info.licences) infos)))
+
+-- the first mention of a key is in the licences that files have first
+pub mentions_alike : (infos : List FileInfo) → Alike (mentions infos) (first_mentions (firsts_of Licences infos))
+mentions_alike infos = files_alike infos [] [] [] (λ key. refl) (λ t has. absurd (false≢true has))

@@ -1,23 +1,14 @@
 -- Sets of borrowed texts.
-use Rattle.std.proofs.Common.{◌≡◌, ◌∙◌, ℕ, ◌+◌, ◌<◌, Bool, true, false, cond, List, length, get_or, drop, sym, ap, refl}
+use Rattle.std.proofs.Common.{◌≡◌, ◌∙◌, ℕ, ◌+◌, ◌<◌, Bool, true, false, List, length, get_or, drop, sym, ap, refl}
 use Rattle.std.specs.Prelude.{◌||◌}
 use Rattle.std.specs.Str.{bytes_eq}
 use Rattle.std.specs.BTreeSet.{BTreeSet, UpdatesBy}
-use Rattle.std.proofs.lemmas.Map.Text.{is_eq-slice_cmp}
 use Rattle.std.proofs.lemmas.List.{drop_more}
 use denote.Ref.{Bor}
 use Rattle.desk_catalogue.specs.Values.{is_among}
-use Rattle.desk_tree_lint.specs.Sets.{has_text}
+use Rattle.desk_tree_gather.specs.Firsts.{has_text}
+use Rattle.desk_tree_gather.proofs.FirstsLemmas.{one_more}
 use Rattle.desk_base.specs.Borrowed.{texts, borrowed_cmp}
-
-either : (b c : Bool) → cond b true c ≡ (b || c)
-either true c = refl
-either false c = refl
-
--- one text more
-pub one_more : (v : Bor (List ℕ)) (old new : BTreeSet (Bor (List ℕ))) → UpdatesBy borrowed_cmp (borrowed_cmp v) old new true → (q : List ℕ) → has_text new q ≡ (bytes_eq v.now q || has_text old q)
-one_more v old new h q =
-    h.0 (record v { now = q }) ∙ ap (λ b. cond b true (has_text old q)) (is_eq-slice_cmp v.now q) ∙ either (bytes_eq v.now q) (has_text old q)
 
 or_moves : (a b c : Bool) → (b || (a || c)) ≡ ((a || b) || c)
 or_moves true true c = refl

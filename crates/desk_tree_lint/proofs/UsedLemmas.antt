@@ -1,6 +1,7 @@
 -- The keys that licences use.
-use Rattle.std.proofs.Common.{◌≡◌, ◌↔◌, ◌∙◌, ◌⊎◌, inl, inr, ℕ, zero, suc, Bool, true, false, cond, ◌+◌, ◌<◌, List, [], ◌∷◌, ◌++◌, length, get_or, drop, sym, subst, refl, arith}
-use Rattle.std.specs.Prelude.{Contains}
+use Rattle.std.proofs.Common.{◌≡◌, ◌↔◌, ◌∙◌, ◌⊎◌, inl, inr, ℕ, zero, suc, Bool, true, false, cond, ◌+◌, ◌<◌, List, [], ◌∷◌, ◌++◌, length, get_or, drop, sym, subst, ap, refl, arith}
+use Rattle.std.specs.Prelude.{Contains, ◌||◌, not, filter}
+use Rattle.std.proofs.lemmas.Bool.{cases_Bool, false≢true}
 use Rattle.std.proofs.lemmas.List.{drop_more}
 use Rattle.std.proofs.lemmas.List.Elements.{Contains-append_left, Contains-append_right, Contains-append_cases}
 use Rattle.desk_expr.specs.declared.term.Term.{Term}
@@ -16,8 +17,10 @@ use Rattle.desk_tree_gather.specs.Gathering.{gathered}
 use Rattle.desk_tree_lint.specs.declared.lists.Lint.{Lint}
 use Rattle.desk_tree_lint.specs.Texts.{text_files}
 use Rattle.desk_tree_lint.specs.Lists.{lists_of, IsLint}
-use Rattle.desk_tree_lint.specs.Used.{term_keys, keys_in, Uses, IsUsedIn, SomeOf, AreUsed}
-use Rattle.desk_model.specs.Texts.{text_below, put_new}
+use Rattle.desk_tree_lint.specs.Used.{term_keys, keys_in, Uses, IsUsed, IsUsedIn, IsFirstUsed, SomeOf, AreUsed}
+use Rattle.desk_catalogue.specs.Values.{is_among}
+use Rattle.desk_tree_gather.specs.declared.information.Subject.TheVariants.{Licences}
+use Rattle.desk_tree_gather.specs.Firsts.{firsts_behind, firsts_of}
 use Rattle.std.specs.Str.{bytes_eq}
 use Rattle.std.proofs.lemmas.Slice.Eq.{bytes_eq-Decides}
 use Rattle.desk_base.proofs.SortedOnce.{same_sorted}
@@ -129,43 +132,67 @@ some_first P x all rest N O cut step = (
   ]),
 )
 
--- where nothing is known
-pub none_yet : {A : Type 0} (P : A → Type 0) (known : List A) (N : Type 0) → known ≡ [] → (SomeOf P known ⊎ N) ↔ N
-none_yet P known N none = (
-  (λ h. elim h [ inl some ↦ absurd (subst (λ l. SomeOf P l) none some) | inr n ↦ n ]),
-  (λ n. inr n),
-)
+-- ---- by the texts that files have first
 
--- ---- licences, each once
+to_known : (key : List ℕ) (known : List (List ℕ)) (t : List ℕ) → is_among known t ≡ true → Uses t key → IsUsedIn known key
+to_known key [] t has uses = absurd (false≢true has)
+to_known key (u ∷ us) t has uses =
+    elim (cases_Bool (bytes_eq u t)) [
+      | inl here ↦ inl (subst (λ x. Uses x key) (sym ((bytes_eq-Decides u t).0 here)) uses)
+      | inr away ↦ inr (to_known key us t (ap (λ b. b || is_among us t) (sym away) ∙ has) uses)
+    ]
 
-by_place : (key x y : List ℕ) (ys rest : List (List ℕ)) (below same : Bool) → (same ≡ true → x ≡ y) → (IsUsedIn rest key ↔ (IsUsedIn ys key ⊎ Uses x key))
-    → IsUsedIn (cond below (x ∷ y ∷ ys) (cond same (y ∷ ys) (y ∷ rest))) key ↔ (IsUsedIn (y ∷ ys) key ⊎ Uses x key)
-by_place key x y ys rest true same is step = (
-  (λ h. elim h [ inl own ↦ inr own | inr others ↦ inl others ]),
-  (λ h. elim h [ inl others ↦ inr others | inr own ↦ inl own ]),
-)
-by_place key x y ys rest false true is step = (
-  (λ h. inl h),
-  (λ h. elim h [ inl others ↦ others | inr own ↦ inl (subst (λ t. Uses t key) (is refl) own) ]),
-)
-by_place key x y ys rest false false is step = (
-  (λ h. elim h [
-    | inl here ↦ inl (inl here)
-    | inr later ↦ elim (step.0 later) [ inl others ↦ inl (inr others) | inr own ↦ inr own ]
-  ]),
-  (λ h. elim h [
-    | inl others ↦ elim others [ inl here ↦ inl here | inr later ↦ inr (step.1 (inl later)) ]
-    | inr own ↦ inr (step.1 (inr own))
-  ]),
-)
+used_append : (key : List ℕ) (xs ys : List (List ℕ)) → IsUsedIn (xs ++ ys) key → IsUsedIn xs key ⊎ IsUsedIn ys key
+used_append key [] ys h = inr h
+used_append key (x ∷ xs) ys (inl here) = inl (inl here)
+used_append key (x ∷ xs) ys (inr later) = elim (used_append key xs ys later) [ inl own ↦ inl (inr own) | inr other ↦ inr other ]
 
--- a licence that is put to others is used beside them
-pub used-put_new : (key x : List ℕ) (ys : List (List ℕ)) → IsUsedIn (put_new x ys) key ↔ (IsUsedIn ys key ⊎ Uses x key)
-used-put_new key x [] = (
-  (λ h. elim h [ inl own ↦ inr own | inr no_more ↦ absurd no_more ]),
-  (λ h. elim h [ inl none ↦ absurd none | inr own ↦ inl own ]),
+module _ (key : List ℕ) (known : List (List ℕ)) where
+  abbrev keeps : List ℕ → Bool
+  keeps t = not (is_among known t)
+
+  to_filtered : (ts : List (List ℕ)) → IsUsedIn ts key → IsUsedIn known key ⊎ IsUsedIn (filter keeps ts) key
+  to_filtered [] h = absurd h
+  to_filtered (t ∷ ts) h = by_test (is_among known t) refl h
+    where
+      by_test : (b : Bool) → is_among known t ≡ b → Uses t key ⊎ IsUsedIn ts key → IsUsedIn known key ⊎ IsUsedIn (cond (not b) (t ∷ filter keeps ts) (filter keeps ts)) key
+      by_test true has (inl own) = inl (to_known key known t has own)
+      by_test true has (inr later) = to_filtered ts later
+      by_test false has (inl own) = inr (inl own)
+      by_test false has (inr later) = elim (to_filtered ts later) [ inl was ↦ inl was | inr new ↦ inr (inr new) ]
+
+  from_filtered : (ts : List (List ℕ)) → IsUsedIn (filter keeps ts) key → IsUsedIn ts key
+  from_filtered [] h = h
+  from_filtered (t ∷ ts) h = by_test (keeps t) h
+    where
+      by_test : (b : Bool) → IsUsedIn (cond b (t ∷ filter keeps ts) (filter keeps ts)) key → Uses t key ⊎ IsUsedIn ts key
+      by_test true (inl own) = inl own
+      by_test true (inr later) = inr (from_filtered ts later)
+      by_test false later = inr (from_filtered ts later)
+
+to_firsts : (key : List ℕ) (infos : List FileInfo) (known : List (List ℕ)) → IsUsed infos key → IsUsedIn known key ⊎ IsFirstUsed (firsts_behind Licences known infos) key
+to_firsts key [] known h = absurd h
+to_firsts key (info ∷ infos) known (inl own) = elim (to_filtered key known info.licences own) [ inl was ↦ inl was | inr new ↦ inr (inl new) ]
+to_firsts key (info ∷ infos) known (inr later) =
+    elim (to_firsts key infos (known ++ info.licences) later) [
+      | inl was ↦ elim (used_append key known info.licences was) [
+        | inl old ↦ inl old
+        | inr own ↦ elim (to_filtered key known info.licences own) [ inl old ↦ inl old | inr new ↦ inr (inl new) ]
+      ]
+      | inr new ↦ inr (inr new)
+    ]
+
+from_firsts : (key : List ℕ) (infos : List FileInfo) (known : List (List ℕ)) → IsFirstUsed (firsts_behind Licences known infos) key → IsUsed infos key
+from_firsts key [] known h = absurd h
+from_firsts key (info ∷ infos) known (inl new) = inl (from_filtered key known info.licences new)
+from_firsts key (info ∷ infos) known (inr later) = inr (from_firsts key infos (known ++ info.licences) later)
+
+-- what files use is what the texts use that they have first
+pub used_first : (infos : List FileInfo) (key : List ℕ) → IsFirstUsed (firsts_of Licences infos) key ↔ IsUsed infos key
+used_first infos key = (
+  from_firsts key infos [],
+  (λ h. elim (to_firsts key infos [] h) [ inl none ↦ absurd none | inr new ↦ new ]),
 )
-used-put_new key x (y ∷ ys) = by_place key x y ys (put_new x ys) (text_below x y) (bytes_eq x y) (bytes_eq-Decides x y).0 (used-put_new key x ys)
 
 -- what is used is one list
 pub used_once : (infos : List FileInfo) (a b : List (List ℕ)) → AreUsed infos a → AreUsed infos b → a ≡ b
@@ -186,10 +213,3 @@ lint_once r files a b h k =
 pub added_by : {T E : Type 0} {P Q : Type 0} (result : Result T E) → OnOk result P → (P → Q) → OnOk result Q
 added_by (Ok x) holds next = next holds
 added_by (Err e) holds next = tt
-
--- what is used is known already
-pub known_again : (N P : Type 0) → (P → N) → N ↔ (N ⊎ P)
-known_again N P known = (
-  (λ n. inl n),
-  (λ h. elim h [ inl n ↦ n | inr p ↦ known p ]),
-)

@@ -1,14 +1,13 @@
 -- The first mentions in a map.
-use Rattle.std.specs.Prelude.{◌≡◌, ◌++◌, ℕ, true, List, Option, map, option_map, Vec}
+use Rattle.std.specs.Prelude.{◌≡◌, ℕ, List, Option, map, option_map, Vec}
+use Rattle.std.specs.List.{flat_map}
 use Rattle.std.specs.Ordering.{nat_cmp}
 use Rattle.std.specs.Cmp.Lexicographic.{slice_cmp}
 use Rattle.std.specs.BTreeMap.{BTreeMap, get_by}
-use Rattle.std.specs.BTreeSet.{BTreeSet}
-use denote.Ref.{Bor}
 use Rattle.std.specs.declared.alloc.Global.{Global}
+use Rattle.desk_tree_gather.specs.Firsts.{FirstTexts}
 use Rattle.desk_tree_lint.specs.declared.naming.Mention.{Mention}
-use Rattle.desk_tree_lint.specs.Naming.{MentionText, mention, ids, first_with}
-use Rattle.desk_tree_lint.specs.Sets.{has_text}
+use Rattle.desk_tree_lint.specs.Naming.{MentionText, mentions_by, first_with}
 
 -- a mention without where it lies in memory
 abbrev pub mention_in : Mention → MentionText
@@ -28,13 +27,9 @@ kept_for m key = option_map mention_in (get_by (λ (k : Vec ℕ Global). slice_c
 abbrev pub Holds : List MentionText → Firsts → Type 0
 Holds ms m = (key : List ℕ) → kept_for m key ≡ first_with key ms
 
--- identifiers bring no first mention behind these, whichever file names them
-abbrev pub BringNone : List MentionText → List (List ℕ) → Type 0
-BringNone ms named = (path key : List ℕ) → first_with key (ms ++ map (mention path) named) ≡ first_with key ms
+-- the mentions in the texts that files have first
+abbrev pub mentions_of : FirstTexts → List MentionText
+mentions_of f = flat_map (mentions_by f.path) f.texts
 
-abbrev pub Licences : Type 0
-Licences = BTreeSet (Bor (List ℕ))
-
--- the map keeps the first of these for each key, and the licences in the set bring no other
-abbrev pub Keeps : List MentionText → Firsts → Licences → Type 0
-Keeps ms m known = Holds ms m × ((licence : List ℕ) → has_text known licence ≡ true → BringNone ms (ids licence))
+abbrev pub first_mentions : List FirstTexts → List MentionText
+first_mentions fs = flat_map mentions_of fs

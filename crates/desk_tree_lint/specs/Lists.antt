@@ -1,11 +1,12 @@
 -- What a tree lacks.
-use Rattle.std.specs.Prelude.{◌≡◌, ◌||◌, ℕ, Bool, true, false, not, List, [], ◌∷◌, map, filter, Ok}
+use Rattle.std.specs.Prelude.{◌≡◌, ◌||◌, ℕ, Bool, not, List, map, filter, Ok}
 use Rattle.desk_catalogue.specs.Values.{is_among}
 use Rattle.desk_tree_gather.specs.declared.files.SourceFile.{SourceFile}
 use Rattle.desk_tree_gather.specs.declared.gathering.FileInfo.{FileInfo}
 use Rattle.desk_tree_gather.specs.Readers.{Reader}
 use Rattle.desk_tree_gather.specs.Trees.{tree_of}
 use Rattle.desk_tree_gather.specs.Gathering.{gathered}
+use Rattle.desk_tree_gather.specs.Sharing.{OutlineText, is_none}
 use Rattle.desk_tree_lint.specs.declared.lists.Lint.{Lint}
 use Rattle.desk_tree_lint.specs.Texts.{TextFile, text_files}
 use Rattle.desk_tree_lint.specs.Used.{AreUsed}
@@ -18,16 +19,16 @@ missing used texts = filter (λ key. not (is_among (map (λ (t : TextFile). t.ke
 abbrev pub unused : List (List ℕ) → List TextFile → List (List ℕ)
 unused used texts = map (λ (t : TextFile). t.path) (filter (λ (t : TextFile). not (is_among used t.key)) texts)
 
-abbrev pub is_none : List (List ℕ) → Bool
-is_none [] = true
-is_none (t ∷ ts) = false
-
 -- the files without a notice or without a licence
 abbrev pub is_bare : FileInfo → Bool
 is_bare info = is_none info.notices || is_none info.licences
 
 abbrev pub bare : List FileInfo → List (List ℕ)
 bare infos = map (λ (i : FileInfo). i.path) (filter is_bare infos)
+
+-- the same by their outlines
+abbrev pub bare_in : List OutlineText → List (List ℕ)
+bare_in outlines = map (λ (o : OutlineText). o.path) (filter (λ (o : OutlineText). o.no_notice || o.no_licence) outlines)
 
 abbrev pub lists_of : List FileInfo → List (List ℕ) → List TextFile → Lint
 lists_of infos used texts = record { missing = missing used texts; unused = unused used texts; bare = bare infos }

@@ -1,14 +1,9 @@
 -- Sets of borrowed texts.
-use Rattle.std.specs.Prelude.{◌≡◌, ℕ, Bool, List}
-use Rattle.std.specs.Ordering.{nat_cmp}
-use Rattle.std.specs.BTreeSet.{BTreeSet, contains_by}
-use Rattle.std.specs.Cmp.Lexicographic.{slice_cmp}
+use Rattle.std.specs.Prelude.{◌≡◌, ℕ, List}
+use Rattle.std.specs.BTreeSet.{BTreeSet}
 use denote.Ref.{Bor}
 use Rattle.desk_catalogue.specs.Values.{is_among}
-
--- whether a text is in a set
-abbrev pub has_text : BTreeSet (Bor (List ℕ)) → List ℕ → Bool
-has_text set text = contains_by (λ (k : Bor (List ℕ)). slice_cmp nat_cmp text k.now) set
+use Rattle.desk_tree_gather.specs.Firsts.{has_text}
 
 -- the set has these texts and no others
 abbrev pub IsSetOf : List (List ℕ) → BTreeSet (Bor (List ℕ)) → Type 0

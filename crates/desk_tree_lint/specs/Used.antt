@@ -9,6 +9,7 @@ use Rattle.desk_expr.specs.Tree.{Tree}
 use Rattle.desk_expr.specs.Occurring.{leaves}
 use Rattle.desk_expr.specs.Spelling.{SpellsWithin}
 use Rattle.desk_tree_gather.specs.declared.gathering.FileInfo.{FileInfo}
+use Rattle.desk_tree_gather.specs.Firsts.{FirstTexts}
 
 -- the licence or reference of a term, and its exception
 abbrev pub term_keys : Term → List (List ℕ)
@@ -32,6 +33,10 @@ IsUsedIn licences key = SomeOf (λ text. Uses text key) licences
 
 abbrev pub IsUsed : List FileInfo → List ℕ → Type 0
 IsUsed infos key = SomeOf (λ (i : FileInfo). IsUsedIn i.licences key) infos
+
+-- the same by the texts that files have first
+abbrev pub IsFirstUsed : List FirstTexts → List ℕ → Type 0
+IsFirstUsed firsts key = SomeOf (λ (f : FirstTexts). IsUsedIn f.texts key) firsts
 
 -- the keys that are used, each once, in byte order
 pub record AreUsed (infos : List FileInfo) (keys : List (List ℕ)) : Type 0 where

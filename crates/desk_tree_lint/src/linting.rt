@@ -12,7 +12,7 @@ ghost use Rattle.desk_tree_lint.specs.Lists.{lists_of, IsLint};
 use crate::lists::{Lint, bare, missing, unused};
 use crate::texts::text_files;
 use crate::used::used;
-use desk_tree_gather::{FileInfo, GatherFault, SourceFile, gathered, tree_of};
+use desk_tree_gather::{GatherFault, Infos, SourceFile, gathered, tree_of};
 use std::alloc::{AllocError, Global};
 use std::collections::BTreeMap;
 
@@ -21,7 +21,7 @@ use std::collections::BTreeMap;
 pub fn lists_of<'a>(
     alloc: Global,
     tree: &BTreeMap<&'a str, &'a [u8]>,
-    infos: &[FileInfo],
+    infos: &Infos,
 ) -> Result<Lint, AllocError>
     ensures { IfOk result (λ l. (keys : List (List ℕ)) × AreUsed infos.now keys
         × (l ≡ lists_of infos.now keys (text_files (tree_in tree.now)))) }
@@ -46,7 +46,7 @@ fn linted(alloc: Global, files: &[SourceFile]) -> Result<Result<Lint, GatherFaul
         Err(fault) => return Ok(Err(fault)),
     };
     match tree_of(alloc, files)? {
-        Ok(tree) => Ok(Ok(lists_of(alloc, &tree, infos.as_slice())?)),
+        Ok(tree) => Ok(Ok(lists_of(alloc, &tree, &infos)?)),
         Err(fault) => Ok(Err(fault)),
     }
 }

@@ -1,15 +1,16 @@
 //! The lists of what a tree lacks.
 
-ghost use Rattle.std.specs.Prelude.{◌≡◌, ◌++◌, IfOk, OnOk, map};
+ghost use Rattle.std.specs.Prelude.{◌≡◌, ◌++◌, ◌||◌, IfOk, OnOk, map};
+ghost use Rattle.desk_tree_gather.specs.Sharing.{outline_in};
 ghost use Rattle.desk_tree_lint.specs.Sets.{IsSetOf};
 ghost use Rattle.desk_tree_lint.specs.Texts.{TextFile};
-ghost use Rattle.desk_tree_lint.specs.Lists.{missing, unused, is_bare, bare};
+ghost use Rattle.desk_tree_lint.specs.Lists.{missing, unused, bare, bare_in};
 ghost use Rattle.desk_tree_lint.specs.Shown.{bytes_in, only, texts_in};
 ghost use Rattle.desk_base.specs.Borrowed.{texts};
 
 use crate::texts::LicenceText;
 use desk_base::{Items, Key, Text};
-use desk_tree_gather::FileInfo;
+use desk_tree_gather::{Infos, Outline};
 use std::alloc::{AllocError, Global};
 use std::collections::BTreeSet;
 
@@ -127,21 +128,27 @@ pub(crate) fn unused(
 }
 
 // Whether a file has no notice or no licence.
-fn is_bare(info: &FileInfo) -> bool
-    ensures { result ≡ is_bare info.now }
+fn is_bare(file: Outline<'_>) -> bool
+    ensures { result ≡ (file.entry.no_notice || file.entry.no_licence) }
 {
-    info.notices.as_slice().is_empty() || info.licences.as_slice().is_empty()
+    file.no_notice || file.no_licence
+}
+
+// The paths of files without a notice or without a licence.
+fn bare_in(alloc: Global, outlines: &[Outline<'_>]) -> Result<Items<Text>, AllocError>
+    ensures { IfOk result (λ paths. paths ≡ bare_in (map outline_in outlines.now)) }
+{
+    let mut paths = Items::new(alloc);
+    for file in outlines {
+        add_if(alloc, &mut paths, is_bare(*file), file.path)?;
+    }
+    Ok(paths)
 }
 
 /// The paths of the files without a notice or without a licence.
-pub(crate) fn bare(alloc: Global, infos: &[FileInfo]) -> Result<Items<Text>, AllocError>
+pub(crate) fn bare(alloc: Global, infos: &Infos) -> Result<Items<Text>, AllocError>
     ensures { IfOk result (λ paths. paths ≡ bare infos.now) }
 {
-    let mut paths = Items::new(alloc);
-    for info in infos {
-        if is_bare(info) {
-            paths.push(info.path.clone()?)?;
-        }
-    }
-    Ok(paths)
+    let outlines = infos.outlines(alloc)?;
+    bare_in(alloc, outlines.as_slice())
 }

@@ -3,15 +3,16 @@
 ghost use Rattle.std.specs.Prelude.{◌≡◌, ◌++◌, ◌∷◌, [], ◌<◌, ◌==◌, List, IfOk, OnOk, map, option_map};
 ghost use Rattle.std.specs.List.{flat_map, slice_split};
 ghost use Rattle.desk_base.specs.Borrowed.{texts, texts_in};
-ghost use Rattle.desk_tree_lint.specs.Naming.{cut_at, runs, is_operator, without_plus, ids_in, mention, MentionText, mentions_by, mentions, first_with, name_by, name_of};
-ghost use Rattle.desk_tree_lint.specs.Firsts.{mention_in, mentions_shown, Holds, Keeps};
+ghost use Rattle.desk_tree_gather.specs.Firsts.{first_in};
+ghost use Rattle.desk_tree_lint.specs.Naming.{cut_at, runs, is_operator, without_plus, ids_in, mention, MentionText, mentions_by, first_with, name_by, name_of};
+ghost use Rattle.desk_tree_lint.specs.Firsts.{mention_in, mentions_shown, Holds, first_mentions};
 
 use crate::texts::key_of;
 use desk_base::{Items, Text};
 use desk_tree_annotations::SharedText;
-use desk_tree_gather::FileInfo;
+use desk_tree_gather::{First, Infos, Subject};
 use std::alloc::{AllocError, Global};
-use std::collections::{BTreeMap, BTreeSet};
+use std::collections::BTreeMap;
 
 /// How a licence, an exception or a reference is shown.
 #[derive(Drop)]
@@ -143,61 +144,46 @@ fn keep_each<'a>(
     Ok(())
 }
 
-// Keeps the mentions of a licence of a file behind others. Those of a known one bring no first.
+// Keeps the mentions of a licence of a file behind others.
 fn keep_licence<'a>(
     alloc: Global,
     firsts: &mut BTreeMap<Vec<u8>, Mention<'a>>,
-    known: &mut BTreeSet<&'a str>,
     path: &'a str,
     licence: &'a str,
 ) -> Result<(), AllocError>
-    ensures { OnOk result ((ms : List MentionText) → Keeps ms firsts.old known.old
-        → Keeps (ms ++ mentions_by path.now licence.now) firsts.new known.new) }
+    ensures { OnOk result ((ms : List MentionText) → Holds ms firsts.old
+        → Holds (ms ++ mentions_by path.now licence.now) firsts.new) }
 {
-    if known.contains(licence) {
-        return Ok(());
-    }
     let found = mentions_by(alloc, path, licence)?;
-    keep_each(alloc, firsts, found.as_slice())?;
-    known.insert(licence)?;
-    Ok(())
+    keep_each(alloc, firsts, found.as_slice())
 }
 
 // Keeps the mentions of a file's licences behind others.
 fn keep_licences<'a>(
     alloc: Global,
     firsts: &mut BTreeMap<Vec<u8>, Mention<'a>>,
-    known: &mut BTreeSet<&'a str>,
     path: &'a str,
     licences: &'a [SharedText],
 ) -> Result<(), AllocError>
-    ensures { OnOk result ((ms : List MentionText) → Keeps ms firsts.old known.old
-        → Keeps (ms ++ flat_map (mentions_by path.now) licences.now) firsts.new known.new) }
+    ensures { OnOk result ((ms : List MentionText) → Holds ms firsts.old
+        → Holds (ms ++ flat_map (mentions_by path.now) licences.now) firsts.new) }
 {
     for licence in licences {
-        keep_licence(alloc, firsts, known, path, licence.as_str())?;
+        keep_licence(alloc, firsts, path, licence.as_str())?;
     }
     Ok(())
 }
 
-// The first mention of each key in the licences of files. Many files have the same licences as the
-// one before, which bring no first.
+// The first mention of each key in the licences that files have first.
 fn firsts_in<'a>(
     alloc: Global,
-    infos: &'a [FileInfo],
+    listed: &'a [First<'a>],
 ) -> Result<BTreeMap<Vec<u8>, Mention<'a>>, AllocError>
-    ensures { IfOk result (Holds (mentions infos.now)) }
+    ensures { IfOk result (Holds (first_mentions (map first_in listed.now))) }
 {
     let mut firsts = BTreeMap::new(alloc);
-    let mut known = BTreeSet::new(alloc);
-    let mut before: &[SharedText] = &[];
-    for info in infos {
-        let licences = info.licences.as_slice();
-        if licences == before {
-            continue;
-        }
-        keep_licences(alloc, &mut firsts, &mut known, info.path.as_str(), licences)?;
-        before = licences;
+    for first in listed {
+        keep_licences(alloc, &mut firsts, first.path, first.texts.as_slice())?;
     }
     Ok(firsts)
 }
@@ -249,9 +235,10 @@ fn each_name(
 
 /// How keys are written where files first name them, each with the first file. The only error is
 /// want of memory.
-pub fn names_of(alloc: Global, infos: &[FileInfo], keys: &[Text]) -> Result<Items<Name>, AllocError>
+pub fn names_of(alloc: Global, infos: &Infos, keys: &[Text]) -> Result<Items<Name>, AllocError>
     ensures { IfOk result (λ names. names ≡ map (name_of infos.now) keys.now) }
 {
-    let firsts = firsts_in(alloc, infos)?;
+    let listed = infos.firsts(alloc, Subject::Licences)?;
+    let firsts = firsts_in(alloc, listed.as_slice())?;
     each_name(alloc, &firsts, keys)
 }

@@ -1,7 +1,8 @@
 -- What a bare file lacks.
-use Rattle.std.specs.Prelude.{Bool, true, false, List, map, filter}
+use Rattle.std.specs.Prelude.{Bool, true, false, ◌||◌, List, map, filter}
 use Rattle.desk_tree_gather.specs.declared.gathering.FileInfo.{FileInfo}
-use Rattle.desk_tree_lint.specs.Lists.{is_none, is_bare}
+use Rattle.desk_tree_gather.specs.Sharing.{OutlineText, is_none}
+use Rattle.desk_tree_lint.specs.Lists.{is_bare}
 use Rattle.desk_tree_problems.specs.declared.bare.Bare.{Bare}
 use Rattle.desk_tree_problems.specs.declared.bare.Lacking.{Lacking}
 use Rattle.desk_tree_problems.specs.declared.bare.Lacking.TheVariants.{Notice, Licence, Both}
@@ -18,3 +19,10 @@ bare_file info = record { path = info.path; lacking = lacking (is_none info.noti
 -- the files without a notice or without a licence
 abbrev pub bare_files : List FileInfo → List Bare
 bare_files infos = map bare_file (filter is_bare infos)
+
+-- the same by their outlines
+abbrev pub bare_outline : OutlineText → Bare
+bare_outline o = record { path = o.path; lacking = lacking o.no_notice o.no_licence }
+
+abbrev pub bare_in : List OutlineText → List Bare
+bare_in outlines = map bare_outline (filter (λ (o : OutlineText). o.no_notice || o.no_licence) outlines)

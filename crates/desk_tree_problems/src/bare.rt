@@ -1,12 +1,11 @@
 //! Files that have no copyright notice or no licence.
 
-ghost use Rattle.std.specs.Prelude.{◌≡◌, IfOk};
-ghost use Rattle.desk_tree_lint.specs.Lists.{is_none, is_bare};
-ghost use Rattle.desk_tree_problems.specs.Bare.{lacking, bare_file, bare_files};
+ghost use Rattle.std.specs.Prelude.{◌≡◌, ◌||◌, IfOk, map};
+ghost use Rattle.desk_tree_gather.specs.Sharing.{outline_in};
+ghost use Rattle.desk_tree_problems.specs.Bare.{lacking, bare_outline, bare_in, bare_files};
 
 use desk_base::{Items, Text};
-use desk_tree_annotations::SharedText;
-use desk_tree_gather::FileInfo;
+use desk_tree_gather::{Infos, Outline};
 use std::alloc::{AllocError, Global};
 
 /// What a file lacks.
@@ -29,12 +28,6 @@ pub struct Bare {
     pub lacking: Lacking,
 }
 
-fn is_none(texts: &[SharedText]) -> bool
-    ensures { result ≡ is_none texts.now }
-{
-    texts.is_empty()
-}
-
 fn what_lacks(no_notice: bool, no_licence: bool) -> Lacking
     ensures { result ≡ lacking no_notice no_licence }
 {
@@ -49,33 +42,39 @@ fn what_lacks(no_notice: bool, no_licence: bool) -> Lacking
 }
 
 // What is told of a file.
-fn bare_file(info: &FileInfo) -> Result<Bare, AllocError>
-    ensures { IfOk result (λ bare. bare ≡ bare_file info.now) }
+fn bare_file(alloc: Global, file: Outline<'_>) -> Result<Bare, AllocError>
+    ensures { IfOk result (λ bare. bare ≡ bare_outline (outline_in file.entry)) }
 {
-    let no_notice = is_none(info.notices.as_slice());
-    let no_licence = is_none(info.licences.as_slice());
     Ok(Bare {
-        path: info.path.clone()?,
-        lacking: what_lacks(no_notice, no_licence),
+        path: Text::of(alloc, file.path)?,
+        lacking: what_lacks(file.no_notice, file.no_licence),
     })
 }
 
 // Whether a file has no notice or no licence.
-fn is_bare(info: &FileInfo) -> bool
-    ensures { result ≡ is_bare info.now }
+fn is_bare(file: Outline<'_>) -> bool
+    ensures { result ≡ (file.entry.no_notice || file.entry.no_licence) }
 {
-    is_none(info.notices.as_slice()) || is_none(info.licences.as_slice())
+    file.no_notice || file.no_licence
 }
 
-/// The files without a notice or without a licence, in their order.
-pub(crate) fn bare_files(alloc: Global, infos: &[FileInfo]) -> Result<Items<Bare>, AllocError>
-    ensures { IfOk result (λ bare. bare ≡ bare_files infos.now) }
+// The files without a notice or without a licence, by their outlines.
+fn bare_in(alloc: Global, outlines: &[Outline<'_>]) -> Result<Items<Bare>, AllocError>
+    ensures { IfOk result (λ bare. bare ≡ bare_in (map outline_in outlines.now)) }
 {
     let mut bare = Items::new(alloc);
-    for info in infos {
-        if is_bare(info) {
-            bare.push(bare_file(info)?)?;
+    for file in outlines {
+        if is_bare(*file) {
+            bare.push(bare_file(alloc, *file)?)?;
         }
     }
     Ok(bare)
+}
+
+/// The files without a notice or without a licence, in their order.
+pub(crate) fn bare_files(alloc: Global, infos: &Infos) -> Result<Items<Bare>, AllocError>
+    ensures { IfOk result (λ bare. bare ≡ bare_files infos.now) }
+{
+    let outlines = infos.outlines(alloc)?;
+    bare_in(alloc, outlines.as_slice())
 }

@@ -71,9 +71,9 @@ fn surveyed(alloc: Global, files: &[SourceFile]) -> Result<Problems, AllocError>
         missing,
         unused,
         ..
-    } = lists_of(alloc, &tree, infos.as_slice())?;
+    } = lists_of(alloc, &tree, &infos)?;
     let dep5 = has_dep5(&tree);
-    let names = names_of(alloc, infos.as_slice(), missing.as_slice())?;
+    let names = names_of(alloc, &infos, missing.as_slice())?;
     let unsure = dep5 || are_some(flaws.as_slice());
     Ok(Problems {
         dep5,
@@ -82,7 +82,7 @@ fn surveyed(alloc: Global, files: &[SourceFile]) -> Result<Problems, AllocError>
         missing,
         names,
         unused: unused_unless(alloc, unsure, unused),
-        bare: bare_files(alloc, infos.as_slice())?,
+        bare: bare_files(alloc, &infos)?,
         covered: infos.len(),
     })
 }

@@ -1,7 +1,7 @@
-use Rattle.std.proofs.Common.{◌≡◌, drop}
+use Rattle.std.proofs.Common.{◌≡◌, drop, map}
 use Rattle.std.specs.List.{list_any}
-use Rattle.desk_tree_document.specs.Drafts.{is_bare}
+use Rattle.desk_tree_gather.specs.Sharing.{OutlineText, outline_in}
 use Rattle.desk_tree_document.proofs.files.is_bare.Given as goal
 
-abbrev pub invariant-loop-info : goal.invariant-loop-info
-invariant-loop-info l = list_any is_bare (drop l.info-index l.infos) ≡ list_any is_bare l.infos
+abbrev pub invariant-loop-file : goal.invariant-loop-file
+invariant-loop-file l = list_any (λ (o : OutlineText). o.no_licence) (map outline_in (drop l.file-index l.outlines)) ≡ list_any (λ (o : OutlineText). o.no_licence) (map outline_in l.outlines)

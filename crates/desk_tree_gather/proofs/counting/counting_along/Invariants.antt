@@ -1,14 +1,15 @@
-use Rattle.std.proofs.Common.{◌≡◌, ◌++◌, drop, IsUtf8}
+use Rattle.std.proofs.Common.{◌≡◌, ◌++◌, drop, map, IsUtf8}
 use Rattle.desk_tree_gather.specs.Readers.{Reader, IsRightReader}
-use Rattle.desk_tree_gather.specs.Shown.{annotations_of}
+use Rattle.desk_tree_gather.specs.Sharing.{annotations_at}
 use Rattle.desk_tree_gather.specs.Ways.{lists_of}
 use Rattle.desk_tree_gather.proofs.WayLemmas.{along}
 use Rattle.desk_tree_gather.proofs.counting.counting_along.Given as goal
 
 -- what counts so far, and what counts in the folders that follow, is all that counts
-abbrev pub invariant-loop-annotations : goal.invariant-loop-annotations
-invariant-loop-annotations l = record {
+abbrev pub invariant-loop-numbers : goal.invariant-loop-numbers
+invariant-loop-numbers l = record {
   utf8 : IsUtf8 l.rest;
   so_far : (r : Reader) → IsRightReader r
-      → annotations_of l.list.items ++ along r (lists_of (drop l.annotations-index l.lists)) l.rest ≡ along r (lists_of l.lists) l.path;
+      → annotations_at l.all l.list.items ++ along r (map (annotations_at l.all) (lists_of (drop l.numbers-index l.lists))) l.rest
+      ≡ along r (map (annotations_at l.all) (lists_of l.lists)) l.path;
 }

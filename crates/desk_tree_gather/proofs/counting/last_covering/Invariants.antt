@@ -1,10 +1,12 @@
-use Rattle.std.proofs.Common.{◌≡◌, drop, option_map, Bor}
-use Rattle.desk_tree_annotations.specs.declared.annotation.Annotation.{Annotation}
+use Rattle.std.proofs.Common.{◌≡◌, drop}
+use Rattle.std.specs.Prelude.{option_and_then}
+use Rattle.std.specs.List.{slice_get}
 use Rattle.desk_tree_gather.specs.Readers.{Reader, IsRightReader}
 use Rattle.desk_tree_gather.specs.Information.{last_covering, or_else}
+use Rattle.desk_tree_gather.specs.Sharing.{annotations_at}
 use Rattle.desk_tree_gather.proofs.counting.last_covering.Given as goal
 
 -- the last of the rest, or the last so far
-abbrev pub invariant-loop-annotation : goal.invariant-loop-annotation
-invariant-loop-annotation l = (r : Reader) → IsRightReader r
-    → or_else (last_covering r l.path (drop l.annotation-index l.annotations)) (option_map (λ (a : Bor Annotation). a.now) l.last) ≡ last_covering r l.path l.annotations
+abbrev pub invariant-loop-number : goal.invariant-loop-number
+invariant-loop-number l = (r : Reader) → IsRightReader r
+    → or_else (last_covering r l.path (annotations_at l.all (drop l.number-index l.numbers))) (option_and_then (slice_get l.all) l.last) ≡ last_covering r l.path (annotations_at l.all l.numbers)

@@ -5,14 +5,15 @@ use Rattle.desk_tree_gather.specs.Trees.{each}
 use Rattle.desk_tree_gather.specs.Tomls.{TomlText}
 use Rattle.desk_tree_gather.specs.Folders.{Holds}
 use Rattle.desk_tree_gather.specs.Gathering.{info_of}
+use Rattle.desk_tree_gather.specs.Sharing.{infos_at}
 use Rattle.desk_tree_gather.specs.Shown.{files_of, tree_in}
 use Rattle.desk_tree_gather.proofs.gathering.each_info.Given as goal
 use Rattle.desk_base.proofs.Results.{onto}
 
--- what is kept of the file before is by the same annotations; what is gathered so far, and what the rest gives, is that of all
+-- the way is by the same annotations; what is gathered so far, and what the rest gives, is that of all
 abbrev pub invariant-loop-file : goal.invariant-loop-file
 invariant-loop-file l = record {
-  same : l.before.trail.folders.now ≡ l.initial.before.trail.folders.now;
-  infos : (r : Reader) → IsRightReader r → (tomls : List TomlText) → Holds tomls l.initial.before.trail.folders.now
-      → onto l.infos.items (each is_covered (info_of r tomls (tree_in l.tree)) (files_of (drop l.file-index l.files))) ≡ each is_covered (info_of r tomls (tree_in l.tree)) (files_of l.files);
+  same : l.trail.folders.now ≡ l.initial.trail.folders.now;
+  infos : (r : Reader) → IsRightReader r → (tomls : List TomlText) → Holds tomls l.initial.trail.folders.now
+      → onto (infos_at l.initial.trail.folders.now.all.items l.infos.items) (each is_covered (info_of r tomls (tree_in l.tree)) (files_of (drop l.file-index l.files))) ≡ each is_covered (info_of r tomls (tree_in l.tree)) (files_of l.files);
 }

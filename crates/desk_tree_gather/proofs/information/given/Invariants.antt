@@ -1,10 +1,12 @@
 use Rattle.std.proofs.Common.{◌≡◌, drop}
+use Rattle.std.specs.Prelude.{option_to_list}
 use Rattle.desk_tree_gather.specs.Information.{given}
-use Rattle.desk_tree_gather.specs.Shown.{annotations_of}
+use Rattle.desk_tree_gather.specs.Sharing.{annotations_at, texts_at}
 use Rattle.desk_tree_gather.proofs.Running.{running}
 use Rattle.desk_tree_gather.proofs.information.given.Given as goal
 
 -- the texts so far, and what the rest gives to them, are those of all
-abbrev pub invariant-loop-annotation : goal.invariant-loop-annotation
-invariant-loop-annotation l =
-    running l.of l.own l.list.items l.closest (annotations_of (drop l.annotation-index l.counting)) ≡ given l.of l.own (annotations_of l.counting)
+abbrev pub invariant-loop-number : goal.invariant-loop-number
+invariant-loop-number l =
+    running l.of l.own.items (texts_at l.all l.of l.numbers.items) (texts_at l.all l.of (option_to_list l.closest)) (annotations_at l.all (drop l.number-index l.counting))
+    ≡ given l.of l.own.items (annotations_at l.all l.counting)

@@ -3,17 +3,18 @@ use Rattle.std.specs.BTreeMap.{btree_map_len}
 use Rattle.desk_tree_gather.specs.Readers.{Reader, IsRightReader}
 use Rattle.desk_tree_gather.specs.Tomls.{TomlText}
 use Rattle.desk_tree_gather.specs.Folders.{Holds}
+use Rattle.desk_tree_gather.specs.Digests.{all_told}
 use Rattle.desk_tree_gather.specs.Telling.{told_in}
 use Rattle.desk_tree_gather.specs.Shown.{left_in}
 use Rattle.desk_tree_gather.proofs.telling.each_told.Given as goal
 use Rattle.desk_base.proofs.Results.{onto}
 
--- what is kept of the file before is by the same annotations; what is told so far, and what is told of those that are left, is that of all
+-- the way is by the same annotations; what is told so far, and what is told of those that are left, is that of all
 abbrev pub invariant-loop-path : goal.invariant-loop-path
 invariant-loop-path l = record {
-  same : l.before.trail.folders.now ≡ l.initial.before.trail.folders.now;
-  told : (r : Reader) → IsRightReader r → (tomls : List TomlText) → Holds tomls l.initial.before.trail.folders.now
-      → onto l.list.items (told_in r tomls (left_in l.left)) ≡ told_in r tomls (left_in l.fn.tree);
+  same : l.trail.folders.now ≡ l.initial.trail.folders.now;
+  told : (r : Reader) → IsRightReader r → (tomls : List TomlText) → Holds tomls l.initial.trail.folders.now
+      → onto (all_told l.initial.trail.folders.now.all.items l.list.items) (told_in r tomls (left_in l.left)) ≡ told_in r tomls (left_in l.fn.tree);
 }
 
 abbrev pub decreases-loop-path : goal.decreases-loop-path

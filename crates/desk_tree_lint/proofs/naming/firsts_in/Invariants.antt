@@ -1,12 +1,8 @@
-use Rattle.std.proofs.Common.{take}
-use Rattle.std.specs.List.{flat_map}
-use Rattle.desk_tree_lint.specs.Firsts.{BringNone, Keeps}
-use Rattle.desk_tree_lint.specs.Naming.{ids, mentions}
+use Rattle.std.proofs.Common.{take, map}
+use Rattle.desk_tree_gather.specs.Firsts.{first_in}
+use Rattle.desk_tree_lint.specs.Firsts.{Holds, first_mentions}
 use Rattle.desk_tree_lint.proofs.naming.firsts_in.Given as goal
 
--- the map keeps the first of each key in the files so far, and the licences of the last of these bring no other
-abbrev pub invariant-loop-info : goal.invariant-loop-info
-invariant-loop-info l = record {
-  keeps : Keeps (mentions (take l.info-index l.infos)) l.firsts l.known;
-  before : BringNone (mentions (take l.info-index l.infos)) (flat_map ids l.before);
-}
+-- the map keeps the first of each key in the files so far
+abbrev pub invariant-loop-first : goal.invariant-loop-first
+invariant-loop-first l = Holds (first_mentions (map first_in (take l.first-index l.listed))) l.firsts

@@ -1,0 +1,203 @@
+//! The information of files, which share what annotations give.
+
+ghost use Rattle.std.specs.Prelude.{◌≡◌, ◌++◌, IfOk, OnOk, length, map};
+ghost use Rattle.std.specs.List.{flat_map};
+ghost use Rattle.desk_model.specs.Texts.{sorted_set};
+ghost use Rattle.desk_tree_gather.specs.Firsts.{first_in, first_texts, firsts_of, texts_in};
+ghost use Rattle.desk_tree_gather.specs.Sharing.{all_texts, sources_in, info_at, infos_at, is_none, outline_of, outline_in};
+
+use crate::firsts::{First, firsts_of};
+use crate::gathering::FileInfo;
+use crate::information::{Sources, Subject, texts_at};
+use crate::sets::shared_set;
+use desk_base::{Items, Text};
+use desk_tree_annotations::{Annotation, SharedText};
+use std::alloc::{AllocError, Global};
+use std::marker::Model;
+
+/// A covered file: its path, and what gives its texts.
+#[derive(Drop)]
+pub(crate) struct Covered {
+    pub(crate) path: Text,
+    pub(crate) notices: Sources,
+    pub(crate) licences: Sources,
+}
+
+impl Covered {
+    /// What gives its texts.
+    pub(crate) fn sources(&self, of: Subject) -> &Sources
+        ensures { result.now ≡ sources_in of self.now }
+    {
+        match of {
+            Subject::Notices => &self.notices,
+            Subject::Licences => &self.licences,
+        }
+    }
+}
+
+/// What the covered files of a tree are under, by path: seen as the information of each. What an
+/// annotation gives is kept once, however many files it counts for.
+#[derive(Drop)]
+pub struct Infos {
+    annotations: Vec<Annotation>,
+    files: Vec<Covered>,
+}
+
+impl Model for Infos {
+    ghost use Rattle.std.specs.Prelude.{List};
+    ghost use Rattle.desk_tree_gather.specs.declared.gathering.FileInfo.{FileInfo};
+
+    ghost Value = { List FileInfo };
+
+    ghost use Rattle.desk_tree_gather.specs.Sharing.{infos_at};
+
+    ghost view = { λ i. infos_at i.annotations.items i.files.items };
+}
+
+/// A file's path, and what it has none of.
+#[derive(Clone, Copy)]
+pub struct Outline<'a> {
+    /// Its path.
+    pub path: &'a str,
+    /// Whether it has no copyright notice.
+    pub no_notice: bool,
+    /// Whether it has no licence.
+    pub no_licence: bool,
+}
+
+// Adds texts to others.
+fn add(list: &mut Vec<SharedText>, more: &[SharedText]) -> Result<(), AllocError>
+    ensures { OnOk result (list.new.items ≡ list.old.items ++ more.now) }
+{
+    for text in more {
+        list.push(text.clone()?)?;
+    }
+    Ok(())
+}
+
+// The texts of a file, each once, in byte order.
+fn set_of(
+    alloc: Global,
+    of: Subject,
+    all: &[Annotation],
+    sources: &Sources,
+) -> Result<Items<SharedText>, AllocError>
+    ensures { IfOk result (λ set. set ≡ sorted_set (all_texts all.now of sources.now)) }
+{
+    let mut list = Vec::new(alloc);
+    for number in sources.numbers.as_slice() {
+        add(&mut list, texts_at(of, all, *number))?;
+    }
+    add(&mut list, sources.own.as_slice())?;
+    shared_set(alloc, list)
+}
+
+/// The information of a file.
+pub(crate) fn info_at(
+    alloc: Global,
+    all: &[Annotation],
+    file: &Covered,
+) -> Result<FileInfo, AllocError>
+    ensures { IfOk result (λ i. i ≡ info_at all.now file.now) }
+{
+    Ok(FileInfo {
+        path: file.path.clone()?,
+        notices: set_of(alloc, Subject::Notices, all, &file.notices)?,
+        licences: set_of(alloc, Subject::Licences, all, &file.licences)?,
+    })
+}
+
+// Whether a file has no texts.
+fn has_none(of: Subject, all: &[Annotation], sources: &Sources) -> bool
+    ensures { result ≡ is_none (all_texts all.now of sources.now) }
+{
+    for number in sources.numbers.as_slice() {
+        if !texts_at(of, all, *number).is_empty() {
+            return false;
+        }
+    }
+    sources.own.is_empty()
+}
+
+// A file in outline.
+fn outline_of<'a>(all: &[Annotation], file: &'a Covered) -> Outline<'a>
+    ensures { outline_in result ≡ outline_of (info_at all.now file.now) }
+{
+    Outline {
+        path: file.path.as_str(),
+        no_notice: has_none(Subject::Notices, all, &file.notices),
+        no_licence: has_none(Subject::Licences, all, &file.licences),
+    }
+}
+
+// Files in outline.
+fn outlines_of<'a>(
+    alloc: Global,
+    all: &[Annotation],
+    files: &'a [Covered],
+) -> Result<Vec<Outline<'a>>, AllocError>
+    ensures { IfOk result (λ v. map outline_in v.items
+        ≡ map outline_of (infos_at all.now files.now)) }
+{
+    let mut outlines = Vec::new(alloc);
+    for file in files {
+        outlines.push(outline_of(all, file))?;
+    }
+    Ok(outlines)
+}
+
+// The texts that files have first, in byte order.
+fn distinct_in(alloc: Global, firsts: &[First<'_>]) -> Result<Items<SharedText>, AllocError>
+    ensures { IfOk result (λ set. set ≡ sorted_set (first_texts (map first_in firsts.now))) }
+{
+    let mut list = Vec::new(alloc);
+    for first in firsts {
+        add(&mut list, first.texts.as_slice())?;
+    }
+    shared_set(alloc, list)
+}
+
+impl Infos {
+    /// The information of files under the annotations of these numbers.
+    pub(crate) fn of(annotations: Vec<Annotation>, files: Vec<Covered>) -> Infos
+        ensures { result ≡ infos_at annotations.items files.items }
+    {
+        Infos { annotations, files }
+    }
+
+    /// How many files there are.
+    pub fn len(&self) -> usize
+        ensures { result ≡ length self.now }
+    {
+        self.files.len()
+    }
+
+    /// Each file in outline. The only error is want of memory.
+    pub fn outlines(&self, alloc: Global) -> Result<Vec<Outline<'_>>, AllocError>
+        ensures { IfOk result (λ v. map outline_in v.items ≡ map outline_of self.now) }
+    {
+        outlines_of(alloc, self.annotations.as_slice(), self.files.as_slice())
+    }
+
+    /// Of each file the texts that no file before it has. Each annotation is gone through once. The
+    /// only error is want of memory.
+    pub fn firsts(&self, alloc: Global, of: Subject) -> Result<Vec<First<'_>>, AllocError>
+        ensures { IfOk result (λ v. map first_in v.items ≡ firsts_of of self.now) }
+    {
+        firsts_of(
+            alloc,
+            of,
+            self.annotations.as_slice(),
+            self.files.as_slice(),
+        )
+    }
+
+    /// The distinct texts of all files, in byte order. Each annotation is gone through once. The only
+    /// error is want of memory.
+    pub fn distinct(&self, alloc: Global, of: Subject) -> Result<Items<SharedText>, AllocError>
+        ensures { IfOk result (λ set. set ≡ sorted_set (flat_map (texts_in of) self.now)) }
+    {
+        let firsts = self.firsts(alloc, of)?;
+        distinct_in(alloc, firsts.as_slice())
+    }
+}
