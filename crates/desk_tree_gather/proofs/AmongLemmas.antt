@@ -1,6 +1,6 @@
 -- What is among some texts, and in the set of them.
 use Rattle.std.proofs.Common.{◌≡◌, ◌∙◌, inl, inr, ℕ, Bool, true, false, cond, List, [], ◌∷◌, ◌++◌, arith, sym, ap, refl, subst, filter, Ordering, Less, Equal, Greater, nat_cmp}
-use Rattle.std.specs.Prelude.{Contains, ◌||◌, ◌&&◌}
+use Rattle.std.specs.Prelude.{Contains, Option, Some, None, ◌||◌, ◌&&◌}
 use Rattle.std.specs.List.Sorted.{IsStrictlySortedBy}
 use Rattle.std.specs.Str.{bytes_eq}
 use Rattle.std.specs.Cmp.Lexicographic.{slice_cmp}
@@ -17,6 +17,9 @@ use Rattle.std.proofs.lemmas.Slice.Eq.{bytes_eq-Decides}
 use Rattle.desk_base.proofs.SortedOnce.{head_or_later, is_head, is_later, sorted_onto, head_first, same_sorted}
 use Rattle.desk_catalogue.specs.Values.{is_among}
 use Rattle.desk_model.specs.Texts.{text_below, put_new, sorted_set}
+use Rattle.desk_tree_annotations.specs.declared.annotation.Annotation.{Annotation}
+use Rattle.desk_tree_gather.specs.declared.information.Subject.{Subject}
+use Rattle.desk_tree_gather.specs.Information.{aggregated, some_or, nearest, topmost, given, given_by}
 use Rattle.desk_tree_gather.specs.Sharing.{is_none}
 use Rattle.desk_tree_gather.proofs.SetLemmas.{insert_key-is}
 
@@ -159,3 +162,26 @@ put_some x (y ∷ ys) = by_tests (text_below x y) (bytes_eq x y)
 pub none-set : (xs : Texts) → is_none (sorted_set xs) ≡ is_none xs
 none-set [] = refl
 none-set (x ∷ xs) = put_some x (sorted_set xs)
+
+-- ---- a file's own texts may be kept as a set
+
+some_or_some : (a b : Texts) → is_none a ≡ false → some_or a b ≡ a
+some_or_some [] b is = absurd (false≢true (sym is))
+some_or_some (x ∷ xs) b is = refl
+
+own_set : (own near : Texts) (t : List ℕ) → is_among (some_or (sorted_set own) near) t ≡ is_among (some_or own near) t
+own_set [] near t = refl
+own_set (x ∷ xs) near t =
+    ap (λ l. is_among l t) (some_or_some (sorted_set (x ∷ xs)) near (put_some x (sorted_set xs))) ∙ among-set (x ∷ xs) t
+
+pub given_set : (of : Subject) (own : Texts) (found : List Annotation) → sorted_set (given of (sorted_set own) found) ≡ sorted_set (given of own found)
+given_set of own found = by_top (topmost found)
+  where
+    by_top : (top : Option (List Annotation × Annotation)) → sorted_set (given_by of (sorted_set own) found top) ≡ sorted_set (given_by of own found top)
+    by_top (Some top) = refl
+    by_top None =
+        set_once (aggregated of found ++ some_or (sorted_set own) (nearest of found)) (aggregated of found ++ some_or own (nearest of found))
+        (λ t.
+        among-append (aggregated of found) (some_or (sorted_set own) (nearest of found)) t
+        ∙ ap (λ b. is_among (aggregated of found) t || b) (own_set own (nearest of found) t)
+        ∙ sym (among-append (aggregated of found) (some_or own (nearest of found)) t))

@@ -5,6 +5,7 @@ ghost use Rattle.desk_tree_annotations.specs.Tags.{tag_text};
 ghost use Rattle.desk_tree_gather.specs.Readers.{Reader, IsRightReader, Stated};
 ghost use Rattle.desk_tree_gather.specs.Tomls.{TomlText};
 ghost use Rattle.desk_tree_gather.specs.Folders.{Holds};
+ghost use Rattle.desk_model.specs.Texts.{sorted_set};
 ghost use Rattle.desk_tree_gather.specs.Information.{given};
 ghost use Rattle.desk_tree_gather.specs.Gathering.{holder, bad_line, stated_in, values, info_with, info_of, infos_of, gathered};
 ghost use Rattle.desk_tree_gather.specs.Trees.{each};
@@ -18,6 +19,7 @@ use crate::files::{File, SourceFile, bytes_at, files_of, is_covered, tree_of};
 use crate::folders::{Folders, by_folder};
 use crate::information::{Sources, Subject, given};
 use crate::infos::{Covered, Infos};
+use crate::sets::shared_set;
 use crate::tomls::tomls_of;
 use crate::trail::Trail;
 use desk_base::{Items, Text};
@@ -120,14 +122,14 @@ fn own_of<'a>(
 fn values(alloc: Global, tags: &[Tagged<'_>]) -> Result<Vec<SharedText>, AllocError>
     ensures { IfOk result (λ v. v.items ≡ values (map tag_text tags.now)) }
 {
-    let mut values = Vec::new(alloc);
+    let mut values = Vec::with_capacity(alloc, tags.len())?;
     for tag in tags {
         values.push(SharedText::of(alloc, tag.value)?)?;
     }
     Ok(values)
 }
 
-// The texts of a file, by its tags and the annotations that count.
+// The texts of a file, by its tags and the annotations that count. Its own are kept once each.
 fn given_of(
     alloc: Global,
     of: Subject,
@@ -135,11 +137,12 @@ fn given_of(
     all: &[Annotation],
     counting: &[usize],
 ) -> Result<Sources, AllocError>
-    ensures { IfOk result (λ g. all_texts all.now of g ≡ given of
-        (values (map tag_text own.now)) (annotations_at all.now counting.now)) }
+    ensures { IfOk result (λ g. sorted_set (all_texts all.now of g) ≡ sorted_set
+        (given of (values (map tag_text own.now)) (annotations_at all.now counting.now))) }
 {
-    let own = values(alloc, own)?;
-    given(alloc, of, own, all, counting)
+    let listed = values(alloc, own)?;
+    let own = shared_set(alloc, listed)?;
+    given(alloc, of, own.into_vec(), all, counting)
 }
 
 /// The information of a file, from its own and the annotations that count.

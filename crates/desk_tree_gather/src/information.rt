@@ -98,7 +98,8 @@ fn with_own(
     Ok(Sources { numbers, own })
 }
 
-/// The texts of a file: its own, and those of the annotations that count.
+/// The texts of a file: its own, and those of the annotations that count. The numbers take no more
+/// room than those of all of these need, since a deep tree has many for each file.
 pub(crate) fn given(
     alloc: Global,
     of: Subject,
@@ -109,7 +110,7 @@ pub(crate) fn given(
     ensures { IfOk result (λ g. all_texts all.now of g
         ≡ given of own.items (annotations_at all.now counting.now)) }
 {
-    let mut numbers = Vec::new(alloc);
+    let mut numbers = Vec::with_capacity(alloc, counting.len())?;
     let mut closest = None;
     for number in counting {
         let Some(annotation) = annotation_at(all, *number) else {

@@ -192,21 +192,23 @@ left_out ms path licence more none key =
     ∙ behind_alike (ms ++ mentions_by path licence) ms more (none path) key
 
 module _ (path : List ℕ) (keeps : List ℕ → Bool) where
-  -- of the licences of a file those that bring no first
+  abbrev named : List (List ℕ) → List MentionText
+  named licences = flat_map (mentions_by path) licences
+
+  one_tested : (t : List ℕ) (ts : List (List ℕ)) (ms : List MentionText) → ((u : List ℕ) → keeps u ≡ false → BringNone ms (ids u))
+      → ((ns : List MentionText) → ((u : List ℕ) → keeps u ≡ false → BringNone ns (ids u)) → Alike (ns ++ named ts) (ns ++ named (filter keeps ts)))
+      → (b : Bool) → keeps t ≡ b → Alike (ms ++ (mentions_by path t ++ named ts)) (ms ++ named (cond b (t ∷ filter keeps ts) (filter keeps ts)))
+  one_tested t ts ms none more true is key =
+      ap (first_with key) (sym (append_assoc ms (mentions_by path t) (named ts)))
+      ∙ more (ms ++ mentions_by path t) (λ u out. none_behind ms (mentions_by path t) (ids u) (none u out)) key
+      ∙ ap (first_with key) (append_assoc ms (mentions_by path t) (named (filter keeps ts)))
+  one_tested t ts ms none more false is key = left_out ms path t (named ts) (none t is) key ∙ more ms none key
+
+  -- the licences of a file without some that bring no first
   pub filtered_alike : (licences : List (List ℕ)) (ms : List MentionText) → ((t : List ℕ) → keeps t ≡ false → BringNone ms (ids t))
       → Alike (ms ++ flat_map (mentions_by path) licences) (ms ++ flat_map (mentions_by path) (filter keeps licences))
-  filtered_alike [] ms none key = refl
-  filtered_alike (t ∷ ts) ms none key = by_test (keeps t) refl
-    where
-      own : List MentionText
-      own = mentions_by path t
-
-      by_test : (b : Bool) → keeps t ≡ b → first_with key (ms ++ (own ++ flat_map (mentions_by path) ts)) ≡ first_with key (ms ++ flat_map (mentions_by path) (cond b (t ∷ filter keeps ts) (filter keeps ts)))
-      by_test true is =
-          ap (first_with key) (sym (append_assoc ms (mentions_by path t) (flat_map (mentions_by path) ts)))
-          ∙ filtered_alike ts (ms ++ mentions_by path t) (λ u out. none_behind ms (mentions_by path t) (ids u) (none u out)) key
-          ∙ ap (first_with key) (append_assoc ms (mentions_by path t) (flat_map (mentions_by path) (filter keeps ts)))
-      by_test false is = left_out ms path t (flat_map (mentions_by path) ts) (none t is) key ∙ filtered_alike ts ms none key
+  filtered_alike [] ms none = λ key. refl
+  filtered_alike (t ∷ ts) ms none = one_tested t ts ms none (filtered_alike ts) (keeps t) refl
 
 -- a licence brings no first behind the mentions of a file that has it
 named_there : (ms : List MentionText) (path : List ℕ) (licences : List (List ℕ)) (t : List ℕ) → is_among licences t ≡ true → BringNone (ms ++ flat_map (mentions_by path) licences) (ids t)

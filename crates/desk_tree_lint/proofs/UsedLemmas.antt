@@ -151,24 +151,26 @@ module _ (key : List ℕ) (known : List (List ℕ)) where
   abbrev keeps : List ℕ → Bool
   keeps t = not (is_among known t)
 
+  to_one : (t : List ℕ) (ts : List (List ℕ)) → (IsUsedIn ts key → IsUsedIn known key ⊎ IsUsedIn (filter keeps ts) key)
+      → (b : Bool) → is_among known t ≡ b → Uses t key ⊎ IsUsedIn ts key → IsUsedIn known key ⊎ IsUsedIn (cond (not b) (t ∷ filter keeps ts) (filter keeps ts)) key
+  to_one t ts more true has (inl own) = inl (to_known key known t has own)
+  to_one t ts more true has (inr later) = more later
+  to_one t ts more false has (inl own) = inr (inl own)
+  to_one t ts more false has (inr later) = elim (more later) [ inl was ↦ inl was | inr new ↦ inr (inr new) ]
+
   to_filtered : (ts : List (List ℕ)) → IsUsedIn ts key → IsUsedIn known key ⊎ IsUsedIn (filter keeps ts) key
   to_filtered [] h = absurd h
-  to_filtered (t ∷ ts) h = by_test (is_among known t) refl h
-    where
-      by_test : (b : Bool) → is_among known t ≡ b → Uses t key ⊎ IsUsedIn ts key → IsUsedIn known key ⊎ IsUsedIn (cond (not b) (t ∷ filter keeps ts) (filter keeps ts)) key
-      by_test true has (inl own) = inl (to_known key known t has own)
-      by_test true has (inr later) = to_filtered ts later
-      by_test false has (inl own) = inr (inl own)
-      by_test false has (inr later) = elim (to_filtered ts later) [ inl was ↦ inl was | inr new ↦ inr (inr new) ]
+  to_filtered (t ∷ ts) h = to_one t ts (to_filtered ts) (is_among known t) refl h
+
+  from_one : (t : List ℕ) (ts : List (List ℕ)) → (IsUsedIn (filter keeps ts) key → IsUsedIn ts key)
+      → (b : Bool) → IsUsedIn (cond b (t ∷ filter keeps ts) (filter keeps ts)) key → Uses t key ⊎ IsUsedIn ts key
+  from_one t ts more true (inl own) = inl own
+  from_one t ts more true (inr later) = inr (more later)
+  from_one t ts more false later = inr (more later)
 
   from_filtered : (ts : List (List ℕ)) → IsUsedIn (filter keeps ts) key → IsUsedIn ts key
   from_filtered [] h = h
-  from_filtered (t ∷ ts) h = by_test (keeps t) h
-    where
-      by_test : (b : Bool) → IsUsedIn (cond b (t ∷ filter keeps ts) (filter keeps ts)) key → Uses t key ⊎ IsUsedIn ts key
-      by_test true (inl own) = inl own
-      by_test true (inr later) = inr (from_filtered ts later)
-      by_test false later = inr (from_filtered ts later)
+  from_filtered (t ∷ ts) h = from_one t ts (from_filtered ts) (keeps t) h
 
 to_firsts : (key : List ℕ) (infos : List FileInfo) (known : List (List ℕ)) → IsUsed infos key → IsUsedIn known key ⊎ IsFirstUsed (firsts_behind Licences known infos) key
 to_firsts key [] known h = absurd h

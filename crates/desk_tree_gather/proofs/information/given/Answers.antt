@@ -7,7 +7,7 @@ use Rattle.desk_tree_gather.proofs.information.given.Goals.{in-Aggregate+in_ok-p
 
 pub loop-number-init : goal.loop-number-init
 loop-number-init c =
-    ap (λ ns. running c.args.of c.args.own.items (texts_at c.args.all.now c.args.of ns) [] (annotations_at c.args.all.now c.args.counting.now)) c.new-numbers.ensures.items
+    ap (λ ns. running c.args.of c.args.own.items (texts_at c.args.all.now c.args.of ns) [] (annotations_at c.args.all.now c.args.counting.now)) c.in_ok-numbers.ensures.items
     ∙ running_gives c.args.of c.args.own.items (annotations_at c.args.all.now c.args.counting.now)
 
 pub returns-in-Override : goal.returns-in-Override
