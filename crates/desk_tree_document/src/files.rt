@@ -89,10 +89,7 @@ pub(crate) fn package_licences(
 }
 
 /// The distinct notices of all files.
-pub(crate) fn package_notices(
-    alloc: Global,
-    infos: &Infos,
-) -> Result<Items<SharedText>, AllocError>
+pub(crate) fn package_notices(alloc: Global, infos: &Infos) -> Result<Items<SharedText>, AllocError>
     ensures { IfOk result (λ t. t ≡ package_notices infos.now) }
 {
     infos.distinct(alloc, Subject::Notices)
