@@ -1,5 +1,5 @@
 -- Blanks of a REUSE.toml that can be read, and of another file.
-use Rattle.std.proofs.Common.{◌≡◌, ◌∙◌, ℕ, Bool, true, false, List, [], ◌∷◌, ap, refl, sym, inl, inr}
+use Rattle.std.proofs.Common.{◌≡◌, ◌∙◌, ℕ, Bool, true, false, List, [], ap, refl, sym, inl, inr}
 use Rattle.std.specs.Prelude.{◌&&◌, if◌then◌else◌, Ok}
 use Rattle.std.specs.Str.{IsUtf8, is_utf8}
 use Rattle.std.proofs.lemmas.Bool.{cases_Bool}

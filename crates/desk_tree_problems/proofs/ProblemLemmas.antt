@@ -11,7 +11,7 @@ use Rattle.desk_tree_gather.specs.Gathering.{gathered}
 use Rattle.desk_tree_gather.specs.Survey.{kept, flaws_of, infos_sifted, Agrees}
 use Rattle.desk_tree_gather.proofs.SurveyLaws.{gathered_agrees, kept_is}
 use Rattle.desk_tree_lint.specs.declared.lists.Lint.{Lint}
-use Rattle.desk_tree_lint.specs.Lists.{is_bare, bare, unused, lists_of, IsLint}
+use Rattle.desk_tree_lint.specs.Lists.{is_bare, bare, lists_of, IsLint}
 use Rattle.desk_tree_lint.specs.Texts.{text_files}
 use Rattle.desk_tree_lint.specs.Used.{AreUsed}
 use Rattle.desk_tree_lint.proofs.UsedLemmas.{used_once}

@@ -1,4 +1,4 @@
-use Rattle.std.proofs.Common.{◌≡◌, ◌∙◌, ℕ, List, ap, sym, subst}
+use Rattle.std.proofs.Common.{◌≡◌, ℕ, List, subst}
 use Rattle.std.specs.Prelude.{IfOk, IfErr, Ok, Err}
 use Rattle.desk_tree_gather.specs.Shown as gathering
 use Rattle.desk_tree_gather.specs.Telling.{told}

@@ -1,6 +1,5 @@
-use Rattle.std.proofs.Common.{◌∙◌, ◌++◌, List, ap}
-use Rattle.desk_tree_lint.specs.Firsts.{mentions_shown, Holds}
-use Rattle.desk_tree_lint.specs.Naming.{MentionText}
+use Rattle.std.proofs.Common.{◌∙◌, ap}
+use Rattle.desk_tree_lint.specs.Firsts.{mentions_shown}
 use Rattle.desk_tree_lint.proofs.FirstLemmas.{holds_along}
 use Rattle.desk_tree_lint.proofs.naming.keep_licence.Goals as goal
 

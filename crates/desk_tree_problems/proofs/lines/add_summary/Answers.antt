@@ -1,4 +1,4 @@
-use Rattle.std.proofs.Common.{◌≡◌, ◌∙◌, ◌++◌, ◌∷◌, [], ap, codes, length}
+use Rattle.std.proofs.Common.{◌∙◌, ◌++◌, ◌∷◌, [], ap, codes, length}
 use Rattle.std.specs.Prelude.{decimal}
 use Rattle.desk_tree_problems.specs.Reports.{counts}
 use Rattle.desk_tree_problems.proofs.LineLemmas.{summary_added}
