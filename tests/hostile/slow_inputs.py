@@ -262,6 +262,15 @@ def many_terms():
     return line(do="choose", release="r", document=1, package="p", terms=["a"] * 2_000_000).rstrip()
 
 
+def many_terms_chosen(room):
+    """The same list for a package that has a conclusion, in a release that is open."""
+    document = HEAD + "PackageName: p\nSPDXID: SPDXRef-p\nPackageLicenseConcluded: a\n"
+    chosen = line(do="choose", release="r", document=1, package="SPDXRef-p", terms=["a"] * 2_000_000)
+    before = [line(do="catalogue", text='forms = ["f"]\n'), line(do="import", text=document), line(do="open", release="r", form="f"),
+              line(do="attach", release="r", document=1)]
+    return of_script(room, *before, chosen)
+
+
 def many_keys():
     return '{"do":"close"' + "".join(f',"{n:06}":1' for n in range(760_000)) + "}"
 
@@ -360,6 +369,7 @@ SLOW = {
     "tree: 100,000 licences in 1,000 files": other_tags,
     "tree: 1,000 annotations, 1,000 files": many_annotations,
     "JSON: a list of two million terms": json_line(many_terms),
+    "JSON: two million terms that are chosen": many_terms_chosen,
     "JSON: 760,000 keys": json_line(many_keys),
     "JSON: a key a million times": json_line(one_key_again),
     "JSON: 1.4 million escapes": json_line(escapes),
