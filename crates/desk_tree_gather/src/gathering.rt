@@ -269,19 +269,36 @@ pub fn gathered(
     infos_of(alloc, known, files.as_slice())
 }
 
+// The same, each with all its texts.
+fn listed(
+    alloc: Global,
+    files: &[SourceFile],
+) -> Result<Result<Vec<FileInfo>, GatherFault>, AllocError>
+    ensures { (r : Reader) → IsRightReader r
+        → IfOk result (Gives (gathered r files.now) (λ v. v.items)) }
+{
+    match gathered(alloc, files)? {
+        Ok(infos) => {
+            let listed = infos.to_vec(alloc)?;
+            Ok(Ok(listed))
+        }
+        Err(fault) => Ok(Err(fault)),
+    }
+}
+
 /// The information of each covered file by path, or the first fault: too many files; of the paths
 /// in turn; of the REUSE.toml files by path; of what the covered files state, by path.
 ///
 /// For each right reader the answer is that of `gathered`; `Memory` is want of memory and nothing
 /// else.
-pub fn gather(alloc: Global, files: &[SourceFile]) -> Result<Infos, GatherFault>
+pub fn gather(alloc: Global, files: &[SourceFile]) -> Result<Vec<FileInfo>, GatherFault>
     ensures ok { (r : Reader) → IsRightReader r
-        → IfOk result (λ infos. gathered r files.now ≡ Ok infos) }
+        → IfOk result (λ v. gathered r files.now ≡ Ok v.items) }
     ensures err { (r : Reader) → IsRightReader r
         → IfErr result (λ f. (f ≡ GatherFault.Memory alloc_error)
         ⊎ (gathered r files.now ≡ Err f)) }
 {
-    match gathered(alloc, files) {
+    match listed(alloc, files) {
         Ok(Ok(infos)) => Ok(infos),
         Ok(Err(fault)) => Err(fault),
         Err(error) => Err(GatherFault::Memory(error)),

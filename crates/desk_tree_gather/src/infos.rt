@@ -146,6 +146,21 @@ fn outlines_of<'a>(
     Ok(outlines)
 }
 
+// The information of each file.
+fn all_infos(
+    alloc: Global,
+    all: &[Annotation],
+    files: &[Covered],
+) -> Result<Vec<FileInfo>, AllocError>
+    ensures { IfOk result (λ v. v.items ≡ infos_at all.now files.now) }
+{
+    let mut infos = Vec::new(alloc);
+    for file in files {
+        infos.push(info_at(alloc, all, file)?)?;
+    }
+    Ok(infos)
+}
+
 // The texts that files have first, in byte order.
 fn distinct_in(alloc: Global, firsts: &[First<'_>]) -> Result<Items<SharedText>, AllocError>
     ensures { IfOk result (λ set. set ≡ sorted_set (first_texts (map first_in firsts.now))) }
@@ -170,6 +185,13 @@ impl Infos {
         ensures { result ≡ length self.now }
     {
         self.files.len()
+    }
+
+    /// The information of each file, with all its texts. The only error is want of memory.
+    pub fn to_vec(&self, alloc: Global) -> Result<Vec<FileInfo>, AllocError>
+        ensures { IfOk result (λ v. v.items ≡ self.now) }
+    {
+        all_infos(alloc, self.annotations.as_slice(), self.files.as_slice())
     }
 
     /// Each file in outline. The only error is want of memory.
