@@ -227,7 +227,8 @@ def gathered(files):
         if len(licences) > 1 and expression_faults.fault_of(together.encode()):
             return "fault: ExpressionTooLong"
         is_shown = notices and not any("</text>" in notice for notice in notices)
-        told[path] = f"{'; '.join(notices) if is_shown else '-'} / {together}"
+        shown = "; ".join(notices).replace("\n", "; ") if is_shown else "-"
+        told[path] = f"{shown} / {together}"
     return told
 
 
