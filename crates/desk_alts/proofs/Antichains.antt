@@ -44,7 +44,7 @@ contains_after_remove xs i x within at =
 
 -- ---- antichains in a preorder
 
--- what is listed at two places, read with either default
+-- what is listed at a place, read with either default
 at_default : {X : Type 0} (xs : List X) (k : ℕ) (x d : X) → k < length xs → get_or xs k x ≡ x → get_or xs k d ≡ x
 at_default xs k x d within read = get_or_default xs k d x within ∙ read
 
@@ -57,7 +57,7 @@ picked : (n : ℕ) (R : ℕ → ℕ → Type 0) (has : (j : ℕ) → j < n → (
 picked n R has j (inl p) within = (has j p).1
 picked n R has j (inr q) within = absurd (omega arith)
 
--- where each of n has one of m, and no two have the same, n is at most m
+-- if each of n has one of m, and no two have the same, n is at most m
 pub at_most : (n m : ℕ) (R : ℕ → ℕ → Type 0) → ((j : ℕ) → j < n → (i : ℕ) × R j i) → ((j i : ℕ) → R j i → i < m) → ((j k i : ℕ) → j < n → k < n → R j i → R k i → j ≡ k) → n ≤ m
 at_most n m R has within one =
     let f = λ (j : ℕ). pick n R has j (order j n) in
@@ -74,16 +74,16 @@ module _ (X : Type 0) (Le : X → X → Type 0) where
   abbrev pub Apart : List X → Type 0
   Apart xs = AllPairs AreTwo xs
 
-  -- the item has the fact, and no item below it that is not above it too
+  -- the fact holds for the item, and for no item below it that is not above it too
   abbrev pub IsLeast : (X → Type 0) → X → Type 0
   IsLeast P m = P m × ((n : X) → Le n m → P n → Le m n)
 
-  -- the fact holds just from the listed items upwards, and they are incomparable
+  -- the fact holds for the items above some listed one, and no others, and the listed ones are incomparable
   pub record Generates (P : X → Type 0) (xs : List X) : Type 0 where
     pub exact : (m : X) → P m ↔ Above xs m
     pub apart : Apart xs
 
-  -- two listed items in order stand at one place
+  -- two listed items in order are at one place
   same_place : (xs : List X) → Apart xs → (j k : ℕ) (d : X) → j < length xs → k < length xs → Le (get_or xs j d) (get_or xs k d) → j ≡ k
   same_place xs apart j k d within within' le =
       ⊎_elim
@@ -105,7 +105,7 @@ module _ (X : Type 0) (Le : X → X → Type 0) where
         subst (λ w. Le w n) is below.4,
   )
 
-  -- inserting with absorption: the new one is pushed where none is below it, and none that it is below is left
+  -- inserting with absorption: the new one is pushed if none is below it and none that it is below is left
   pub apart_pushed : (xs : List X) (z : X) → Apart xs → (Above xs z → ⊥) → ((j : ℕ) (d : X) → j < length xs → Le z (get_or xs j d) → ⊥) → Apart (xs ++ z ∷ [])
   apart_pushed xs z apart none passed =
       all_pairs_push AreTwo xs z apart (λ k d within. ((λ le. none (any_of (λ x. Le x z) xs (get_or xs k d) (Contains-get_or xs k d within) le)), passed k d within))

@@ -1,4 +1,4 @@
--- Each list of symbols begins one that spells a tree, or begins none: what may follow a place is followed symbol by symbol.
+-- Each list of symbols begins one that spells a tree, or begins none: what may follow a place is examined symbol by symbol.
 use Rattle.std.proofs.Common.{◌≡◌, inl, inr, ℕ, zero, suc, ◌≤◌, List, [], ◌∷◌, ◌++◌, length, Some, subst, ap, refl, arith}
 use Rattle.desk_expr.specs.declared.term.Term.{Term}
 use Rattle.desk_expr.specs.Tree.{Tree, one}
@@ -11,18 +11,18 @@ use Rattle.desk_expr.proofs.Steps.{start_rest}
 use Rattle.desk_alts.proofs.Decide.{Decided, SomeOrNone, some_by}
 use Rattle.desk_alts.proofs.Trees.{after_all, after_exception, after_group}
 
--- some list goes on from these symbols to one that spells a tree, or none does
+-- some list continues these symbols to one that spells a tree, or none does
 abbrev Begun : (List Symbol → Tree → Type 0) → List Symbol → Type 0
 Begun P r = SomeOrNone {A = List Symbol × Tree} (λ q. P (r ++ q.0) q.1)
 
--- behind a whole list of at most so many symbols that is known
+-- this is known after a whole list, for at most so many symbols
 abbrev Known : Goal → ℕ → Type 0
 Known K n = (x : Tree) (r : List Symbol) → length r ≤ n → Begun (K x) r
 
 fewer : (K : Goal) (n : ℕ) → Known K (suc n) → Known K n
 fewer K n known x r few = known x r (omega (arith, few))
 
--- behind a word stands what follows an operand, or WITH and an exception
+-- after a word comes what follows an operand, or WITH and an exception
 behind_word : (K : Goal) → Lives K → (ors ands : List Tree) (t : Term) (r : List Symbol) → Begun (After K ors ands (one t)) r
     → ((q : List Symbol) → r ≡ with_word ∷ q → Begun (WantException K ors ands t) q) → Begun (AfterWord K ors ands t) r
 behind_word K lives ors ands t [] begun except = let a = word_lives K lives ors ands t in inl ((a.0, a.1), a.2)

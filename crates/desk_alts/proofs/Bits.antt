@@ -1,4 +1,4 @@
--- When no bit of a number is outside another one.
+-- When a number has no bit outside another.
 use Rattle.std.proofs.Common.{◌≡◌, ◌↔◌, ◌∙◌, ⊎_elim, ℕ, zero, suc, ◌-◌, ◌<◌, ◌≤◌, ◌^◌, ◌≢◌, min, max, ◌*◌, ◌%◌, inl, inr, sym, ap, refl, arith, bit_and, bit_or}
 use Rattle.std.specs.Int.{bit_at, bit_not, w64}
 use Rattle.std.proofs.lemmas.Nat.Bits.{bit_at_and, bit_at_or, bit_at-lt, bit_at-zero, bit_at_not, bit_at_above, same_from_bits, bit_at_set_same, bit_at_set_other}
@@ -6,7 +6,7 @@ use Rattle.std.proofs.lemmas.Bool.{cases_eq}
 use Rattle.std.proofs.str.Laws.{order}
 use Rattle.desk_alts.specs.Masks.{IsWithin}
 
--- a bit that is set where another one is
+-- a bit that is set only if another one is
 bit_le : (x y : ℕ) → x < 2 → y < 2 → (x ≡ 1 → y ≡ 1) → x ≤ y
 bit_le zero y low low' h = omega arith
 bit_le (suc zero) y low low' h = let e = h refl in omega (arith, e)
@@ -78,7 +78,7 @@ or_none x y = (
   max_none : (a b z : ℕ) → a ≡ z → b ≡ z → max a b ≡ z
   max_none a b z p q = omega arith
 
--- a union is within a set just where both are
+-- a union is within a set if and only if both parts are
 pub or_within : (x y m : ℕ) → IsWithin (bit_or x y) m ↔ (IsWithin x m × IsWithin y m)
 or_within x y m = (
   (λ h. (

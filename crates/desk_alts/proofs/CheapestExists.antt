@@ -20,7 +20,7 @@ use Rattle.desk_alts.proofs.ListingExists.{as_set, holds_or_not, alternatives_ex
 
 -- ---- each set that satisfies a tree has a minimal subset
 
--- a subset that satisfies the tree, and from which none of some terms can go
+-- a subset that satisfies the tree, and from which none of these terms can go
 record IsReduced (e : Tree) (terms s few : List Term) : Type 0 where
   subset : IsSubset few s
   holds : Holds (Contains few) e

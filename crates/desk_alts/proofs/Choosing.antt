@@ -1,4 +1,4 @@
--- Sets of places and lists of terms: what is minimal among the ones is minimal among the others.
+-- Sets of places and lists of terms: what is minimal among the former is minimal among the latter.
 use Rattle.std.proofs.Common.{◌≡◌, ◌↔◌, ◌∙◌, ◌⊎◌, inl, inr, ⊎_elim, ℕ, zero, suc, ◌+◌, ◌-◌, ◌*◌, ◌%◌, ◌^◌, ◌<◌, ◌≤◌, ◌≢◌, List, [], ◌∷◌, ◌++◌, length, length-append, sym, ap, ap₂, subst, refl, arith, Some, None, Option, bit_or}
 use Rattle.std.specs.Prelude.{slice_get, Contains}
 use Rattle.std.specs.Int.{bit_at, w64}
@@ -60,7 +60,7 @@ is_listed (x ∷ xs) t =
       ]
     ]
 
--- a number whose bits tell a fact of the numbers below a bound
+-- a number whose bits say for which numbers below a bound a fact holds
 bits_of : (P : ℕ → Type 0) → ((k : ℕ) → P k ⊎ (P k → ⊥)) → (n : ℕ) → n ≤ 64 → (a : ℕ) × ((k : ℕ) → (bit_at a k ≡ 1) ↔ ((k < n) × P k))
 bits_of P dec zero small = (0, λ k. ((λ set. absurd (let none = bit_at-zero k in omega (arith, none, set))), (λ h. absurd (omega (arith, h.0)))))
 bits_of P dec (suc n) small =
@@ -84,7 +84,7 @@ bits_of P dec (suc n) small =
       )
     ]
 
--- the set of the places below 128 that have a fact
+-- the set of the places below 128 for which a fact holds
 pub record HasJust (P : ℕ → Type 0) (m : Mask) : Type 0 where
   pub only : (k : ℕ) → HasPlace m k → P k
   pub each : (k : ℕ) → k < 128 → P k → HasPlace m k
@@ -257,7 +257,7 @@ minimal_choice table e m chosen few minimal same =
     let sub = subset_from_places (λ j. HasPlace m j × (j ≢ k)) n m rest.1 (λ j p. p.0) in
     (rest.1.only k (subset_place m n k (minimal.1 n sub holds) there.2)).1 refl)
 
--- the place is in the set, and some term of the table stands there
+-- the place is in the set, and some term of the table is there
 abbrev InTable : List Term → Mask → ℕ → Type 0
 InTable table m k = ((t : Term) × (slice_get table k ≡ Some t)) × HasPlace m k
 
@@ -272,7 +272,7 @@ in_table table m k =
       | inl has ↦ elim (term_at (slice_get table k)) [ inl t ↦ inl (t, has) | inr none ↦ inr (λ h. none h.0) ]
     ]
 
--- a minimal set of places has places of the table alone, so it is a subset where its terms are
+-- a minimal set of places has only places of the table, so it is a subset if its terms are
 pub subset_from_chosen : (table : List Term) (e : Tree) (x y : Mask) → IsTermSet table → length table ≤ 128 → IsMinimalMask table e x → ((t : Term) → Chosen table x t → Chosen table y t) → IsSubset x y
 subset_from_chosen table e x y up few minimal sub =
     let inside = mask_of (InTable table x) (in_table table x) in
@@ -291,7 +291,7 @@ subset_from_chosen table e x y up few minimal sub =
 
 -- ---- the terms at the places of a set
 
--- the set has the terms that stand at the places below one
+-- the set has the terms that are at its places below this one
 pub record AreBelow (table : List Term) (m : Mask) (xs : List Term) (place : ℕ) : Type 0 where
   pub ordered : IsTermSet xs
   pub few : length xs ≤ place

@@ -7,7 +7,7 @@ use Rattle.desk_expr.specs.Meaning.{IsFirst}
 abbrev pub Decided : Type 0 → Type 0
 Decided P = P ⊎ (P → ⊥)
 
--- it holds of something, or of nothing
+-- it holds for something, or for nothing
 abbrev pub SomeOrNone : {A : Type 0} → (A → Type 0) → Type 0
 SomeOrNone {A} P = ((a : A) × P a) ⊎ ((a : A) → P a → ⊥)
 
@@ -40,7 +40,7 @@ first_below P known (suc n) = next (first_below P known n) (known n)
       | inr above ↦ let is : k ≡ n = omega (arith, low, above) in fails (subst P is h)
     ])
 
--- a fact holds everywhere if it holds at each place up to a bound, and at each later one where it does at the bound
+-- whether a fact holds everywhere can be decided if it can at each place, and if it holds at each place after a bound provided that it holds at the bound
 pub decided_all : (P : ℕ → Type 0) → ((k : ℕ) → Decided (P k)) → (n : ℕ) → ((k : ℕ) → n ≤ k → P n → P k) → Decided ((k : ℕ) → P k)
 decided_all P known n later = elim (first_below (λ k. P k → ⊥) (λ k. decided_not (P k) (known k)) (suc n)) [
   | inl found ↦ inr (λ holds. found.1.0 (holds found.0))

@@ -8,7 +8,7 @@ use Rattle.desk_alts.specs.declared.fault.AltFault.TheVariants.{TooManyTerms, To
 use Rattle.desk_alts.specs.Sets.{HasMoreTerms, HasWideFront}
 use Rattle.desk_alts.specs.Faults.{IsFaultOf, IsWidthFaultOf}
 
--- want of memory is a fault of each expression
+-- lack of memory is a fault of each expression
 pub memory_only : {T : Type 0} (P : AltFault → Type 0) → ((error : AllocError) → P (Memory error)) → (r : Result T AltFault) (error : AllocError) → IsErrAnd r (λ f. f ≡ Memory error) → IfErr r P
 memory_only P holds (Ok x) error h = tt
 memory_only P holds (Err f) error h = subst P (sym h) (holds error)
@@ -27,7 +27,7 @@ pub width_told : {T : Type 0} (e : Tree) (r : Result T AltFault) (g : AltFault) 
 width_told e (Ok x) g h is wide = tt
 width_told e (Err f) g h is wide = subst (IsWidthFaultOf e) (sym (h ∙ is)) wide
 
--- where there are few terms, the width alone counts
+-- if there are few terms, only the width counts
 pub few_terms_fault : (e : Tree) → (HasMoreTerms 128 e → ⊥) → (f : AltFault) → IsWidthFaultOf e f → IsFaultOf e f
 few_terms_fault e few TooManyTerms h = absurd h
 few_terms_fault e few TooMany h = (few, h)

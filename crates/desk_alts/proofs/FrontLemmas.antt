@@ -16,7 +16,7 @@ use Rattle.desk_alts.proofs.SetLemmas.{distinct_table}
 use Rattle.desk_alts.proofs.Antichains.{Generates, listed_is_least}
 use Rattle.desk_alts.proofs.Inserting.{reflexive, transitive, above_none, from_nothing}
 
--- ---- one part more
+-- ---- one more part
 
 pub all_hold_pushed : (set : Term → Type 0) (ts : List Tree) (t : Tree) → AllHold set (parts_of (ts ++ t ∷ [])) ↔ (AllHold set (parts_of ts) × Holds set t)
 all_hold_pushed set [] t = ((λ h. (tt, h.0)), (λ h. (h.1, tt)))
@@ -75,7 +75,7 @@ any_start table xs is =
     subst (AreMinimal table (any no_more)) (sym is)
     record { exact = λ m. ((λ h. absurd h), (λ h. above_none m h)); apart = λ i j d below within. absurd (omega arith) }
 
--- the set of no place is a subset of each
+-- the empty set is a subset of each
 pub all_start : (table : List Term) (first xs : List Mask) → first ≡ [] → AreApart xs → Adds first xs (IsSubset (record { low = 0; high = 0 })) → AreMinimal table (all no_more) xs
 all_start table first xs empty apart adds = record {
   exact = λ m. (

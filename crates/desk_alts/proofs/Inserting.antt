@@ -80,7 +80,7 @@ cleared_exact first xs ys z at s is m =
       (λ h. subst (λ (l : List Mask). IsAbove l m) (sym is) (pushed.1 ((s.exact m).1 h))),
     )
 
--- one that is covered already adds nothing
+-- a set that is covered already adds nothing
 pub covered_exact : (xs : List Mask) (z : Mask) → IsAbove xs z → Adds xs xs (IsSubset z)
 covered_exact xs z a m = (
   (λ h. inl h),
@@ -165,7 +165,7 @@ product_more xs other at got within is m =
       (λ h. elim h [ inl a ↦ (more.1 (inl a.0), a.1) | inr b ↦ (more.1 (inr b.0), b.1) ]),
     )
 
--- what holds of all that were taken
+-- what holds for all that were taken
 pub taken_all : (P : List Mask → Type 0) (xs : List Mask) (at : ℕ) → length xs ≤ at → P (take at xs) → P xs
 taken_all P xs at whole p = subst P (take_all at xs whole) p
 

@@ -1,4 +1,4 @@
--- What eight lanes of two columns tell.
+-- What eight lanes of two columns show.
 use Rattle.std.proofs.Common.{◌≡◌, ◌↔◌, ◌∙◌, ℕ, zero, suc, ◌+◌, ◌-◌, ◌*◌, ◌%◌, ◌<◌, ◌≤◌, ◌^◌, eqb, cond, Bool, true, false, not, IsTrue, List, [], ◌∷◌, map, length, get_or, replicate, sym, ap, ap₂, refl, arith, bit_and, bit_or}
 use Rattle.std.specs.Int.{bit_at, bit_not, w64}
 use Rattle.std.proofs.lemmas.Bool.{eqb-true, eq-eqb, ne_eqb}

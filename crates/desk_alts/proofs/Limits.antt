@@ -1,4 +1,4 @@
--- Whether each front of some tokens keeps the limits: no front is longer than the tokens.
+-- Whether each front of some tokens is within the limits: no front is longer than the tokens.
 use Rattle.std.proofs.Common.{◌∙◌, inl, inr, List, length, take, sym, subst}
 use Rattle.std.proofs.lemmas.List.{take_all}
 use Rattle.std.proofs.Math.Seq.{take-length}

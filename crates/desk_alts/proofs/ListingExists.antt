@@ -37,7 +37,7 @@ terms_exist e = let own = as_set (leaves e) in (own.0, record { members = own.2;
 pub one_list_of_terms : (e : Tree) (a b : List Term) → AreTermsOf e a → AreTermsOf e b → a ≡ b
 one_list_of_terms e a b x y = same_sets a b x.ordered y.ordered (λ t. ((λ at. (y.members t).1 ((x.members t).0 at)), (λ at. (x.members t).1 ((y.members t).0 at))))
 
--- ---- what a set is worth
+-- ---- which terms a minimal set has
 
 pub holds_or_not : (e : Tree) (s : List Term) → Decided (Holds (Contains s) e)
 holds_or_not e s =
@@ -53,7 +53,7 @@ minimal_or_not e s =
       | inr holds ↦ elim holds [ inl spare ↦ inr (not_minimal_if_can_go s e spare.1 spare.2.0) | inr least ↦ inl least ]
     ]
 
--- a term that doesn't stand in the tree can go
+-- a term that doesn't occur in the tree can go
 minimal_has_own : (e : Tree) (s : List Term) → IsMinimal s e → (t : Term) → Contains s t → Contains (leaves e) t
 minimal_has_own e s least t at =
     elim (is_listed (leaves e) t) [

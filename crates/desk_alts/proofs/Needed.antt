@@ -1,4 +1,4 @@
--- No spelled tree is true under no terms.
+-- No spelled tree holds without any term.
 use Rattle.std.proofs.Common.{ℕ, List, [], ◌∷◌, inl, inr, subst, sym}
 use Rattle.desk_base.specs.declared.profile.Profile.{Profile}
 use Rattle.desk_expr.specs.declared.term.Term.{Term}
@@ -11,7 +11,7 @@ use Rattle.desk_expr.specs.Spelling.{SpellsWithinBy}
 abbrev none : Term → Type 0
 none t = ⊥
 
--- an All is true only where its first part is, an Any only where some part is
+-- an All holds only if its first part does, an Any only if some part does
 all_first : (e : Tree) (es : List Tree) → Holds none (all_of (e ∷ es)) → Holds none e
 all_first e [] h = h
 all_first e (f ∷ es) h = h.0

@@ -1,4 +1,4 @@
--- A text has one stop, whatever language of symbols is looked for in it.
+-- A text has only one stop, whatever language of symbols is looked for in it.
 use Rattle.std.proofs.Common.{◌≡◌, ◌∙◌, ◌⊎◌, inl, inr, ℕ, suc, ◌<◌, ◌≤◌, List, [], ◌∷◌, ◌++◌, length, take, unwrap_or, sym, subst, ap, refl, arith}
 use Rattle.desk_base.specs.Limits as limit
 use Rattle.desk_expr.specs.declared.fault.ParseFault.{ParseFault}
@@ -19,7 +19,7 @@ front_and_one [] t behind = refl
 front_and_one (u ∷ front) t behind = ap (λ l. u ∷ l) (front_and_one front t behind)
 
 module _ {A : Type 0} (Language : List Symbol → A → Type 0) (no_bad_begins : (front : List Lexeme) (t : Lexeme) → t.kind ≡ kind.Bad → Begins Language (symbols (front ++ t ∷ [])) → ⊥) where
-  -- a token that may stand has no reason against it
+  -- for a token that is allowed there is no reason against it
   stands_or_stops : (front : List Lexeme) (t : Lexeme) (f : ParseFault) → Stands Language (front ++ t ∷ []) → Reason Language front t f → ⊥
   stands_or_stops front t (Empty p) stands reason = reason
   stands_or_stops front t (BadToken p) stands reason = no_bad_begins front t reason.0 stands.begins
@@ -120,7 +120,7 @@ module _ {A : Type 0} (Language : List Symbol → A → Type 0) (no_bad_begins :
 
   -- ---- the whole text
 
-  -- where a text stops that is not too long
+  -- where a text stops that isn't too long
   abbrev Stops : Profile → List ℕ → ParseFault → Type 0
   Stops profile text f = (AreTokensBy profile 0 text [] × (f ≡ Empty 0)) ⊎ (StopsAtToken Language profile text f ⊎ StopsAtEnd Language profile text f)
 
@@ -186,6 +186,6 @@ module _ {A : Type 0} (Language : List Symbol → A → Type 0) (no_bad_begins :
   one_of profile text f g (inr a) (inl b) = absurd (omega (arith, a.0, b.0))
   one_of profile text f g (inr a) (inr b) = one_place profile text f g a.1 b.1
 
-  -- by each profile a text has one stop, want of memory aside
+  -- by each profile a text has only one stop, apart from lack of memory
   pub one_stop : (profile : Profile) (text : List ℕ) (f g : ParseFault) → 0 < fault_number f → 0 < fault_number g → IsStopBy Language profile text f → IsStopBy Language profile text g → f ≡ g
   one_stop profile text f g told told' h k = one_of profile text f g (stopped profile text f told h) (stopped profile text g told' k)

@@ -1,4 +1,4 @@
--- The texts of terms sort as the terms do: each byte of a key is behind the plus and the blank that may follow a key.
+-- The texts of terms sort as the terms do: each byte of a key comes after the plus and the blank that may follow a key.
 use Rattle.std.proofs.Common.{◌≡◌, ◌∙◌, ℕ, suc, ◌+◌, ◌≤◌, List, [], ◌∷◌, ◌++◌, length, take, drop, Bool, true, false, cond, refl, sym, ap, subst, arith, append_assoc, Option, Some, None, codes, nat_eq}
 use Rattle.std.specs.Prelude.{IsTrue, ◌&&◌, ◌||◌, not, if◌then◌else◌, nat_lt, ◌==◌}
 use Rattle.std.specs.List.{list_all, starts_with, before_first, after_first, position_or_len}
@@ -23,7 +23,7 @@ use Rattle.desk_expr.specs.Printing.{printed_term, printed_exception}
 
 -- ---- the bytes of a key
 
--- a byte behind the plus
+-- a byte that comes after the plus
 abbrev is_late : ℕ → Bool
 is_late b = nat_lt 43 b
 

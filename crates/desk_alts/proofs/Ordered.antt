@@ -1,4 +1,4 @@
--- The items of a list in an order, each once; those of them that have a fact.
+-- The items of a list in an order, each once; and those for which a fact holds.
 use Rattle.std.proofs.Common.{◌≡◌, ◌↔◌, ◌∙◌, inl, inr, List, [], ◌∷◌, sym, ap, subst, refl, arith}
 use Rattle.std.specs.Prelude.{Contains}
 use Rattle.std.specs.Cmp.{IsTotalOrder}
@@ -90,7 +90,7 @@ module _ {K : Type 0} (R : K → K → Ordering) (total : IsTotalOrder R) (same 
         ),
       )
 
--- the items of a list that have a fact
+-- the items of a list for which a fact holds
 pub having : {K : Type 0} (P : K → Type 0) → ((q : K) → Decided (P q)) → (xs : List K) → (ys : List K) × ((q : K) → Contains ys q ↔ (Contains xs q × P q))
 having P known [] = ([], λ q. ((λ at. absurd (none_listed q at)), (λ h. h.0)))
 having P known (x ∷ xs) =

@@ -24,7 +24,7 @@ both_below = not_both term_order total-law
 pub head_below : (x y : Term) (xs : List Term) → IsTermSet (x ∷ xs) → Contains xs y → term_order x y ≡ Less
 head_below = head_first term_order total-law
 
--- two sets of the same terms are one list
+-- two sets of the same terms are equal lists
 pub same_sets : (a b : List Term) → IsTermSet a → IsTermSet b → ((t : Term) → Contains a t ↔ Contains b t) → a ≡ b
 same_sets = same_sorted term_order total-law
 
@@ -43,7 +43,7 @@ sorted_pushed (x ∷ xs) y up below = (
   sorted_pushed xs y up.1 (λ z at. below z (contains_there x xs z at)),
 )
 
--- no term stands at two places
+-- no term is at two places
 pub distinct_table : (table : List Term) → IsTermSet table → (i j : ℕ) (t : Term) → slice_get table i ≡ Some t → slice_get table j ≡ Some t → i ≡ j
 distinct_table table sorted i j t a b =
     let at_i = get_or_from_slice_get table i t t a in

@@ -1,7 +1,7 @@
 -- Two ways to cut one list at an element.
 use Rattle.std.proofs.Common.{◌≡◌, ◌⊎◌, inl, inr, List, [], ◌∷◌, ◌++◌, drop, get_or, refl, sym, ap}
 
--- the cuts are the same, or one lies within the other's front
+-- the cuts are the same, or one is within the other's front
 abbrev pub Cuts : {X : Type 0} → List X → X → List X → X → Type 0
 Cuts {X = X} front x other y =
     ((front ≡ other) × (x ≡ y))

@@ -27,7 +27,7 @@ place_at (p ∷ places) (suc k) within = place_at places k (omega arith)
 
 module _ {A : Type 0} (Language : List Symbol → A → Type 0) (begins_or_not : (ss : List Symbol) → Decided (Begins Language ss)) (spelled_or_not : (ss : List Symbol) → SomeOrNone (Language ss))
     (few_close : (ts : List Lexeme) (n : ℕ) (a : A) → Language (symbols ts ++ closings n) a → n ≤ length (still_open ts)) (nothing_begins : Begins Language []) where
-  -- a token stands behind a front, or there is a reason against it
+  -- a token is allowed after a front, or there is a reason against it
   stands_or_stops : (front : List Lexeme) (t : Lexeme) → Stands Language (front ++ t ∷ []) ⊎ ((f : ParseFault) × Reason Language front t f × (0 < fault_number f))
   stands_or_stops front t =
       elim (bad_or_not t.kind) [
@@ -44,7 +44,7 @@ module _ {A : Type 0} (Language : List Symbol → A → Type 0) (begins_or_not :
         ]
       ]
 
-  -- the first token that can't stand
+  -- the first token that can't be there
   pub record FirstStop (ts : List Lexeme) : Type 0 where
     pub fault : ParseFault
     pub front : List Lexeme
@@ -107,7 +107,7 @@ module _ {A : Type 0} (Language : List Symbol → A → Type 0) (begins_or_not :
     ends [] are stands none = (Empty 0, (short, are, refl), omega arith)
     ends (t ∷ behind) are stands none = at_end t behind are stands none
 
-    -- what the tokens spell keeps the limits, or the text stops
+    -- the tokens spell something within the limits, or the text stops
     pub spelled_or_stops : ((ts : List Lexeme) × AreTokensBy profile 0 text ts × AllFronts (Stands Language) ts × (a : A) × Language (symbols ts) a) ⊎ Stop
     spelled_or_stops =
         let tokens = tokens_exist profile 0 text in

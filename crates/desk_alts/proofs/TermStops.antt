@@ -39,7 +39,7 @@ spelled_or_not (word t o ∷ []) = inl (t, bare t o)
 spelled_or_not (word t o ∷ with_word ∷ word u (Some x) ∷ []) = inl (with_exception t x, excepted t u o x)
 spelled_or_not ss = inr (λ a h. elim (term_inv ss a h) [ inl (o, e) ↦ cc | inr (v, u, o, x, e, k) ↦ cc ])
 
--- no parenthesis closes in a term
+-- a term has no closing parenthesis
 no_closing : (ss : List Symbol) (t : Term) → SpellsTerm ss t → (front behind : List Symbol) → ss ≡ front ++ closing ∷ behind → ⊥
 no_closing ss t h [] behind is = elim (term_inv ss t h) [ inl (o, e) ↦ let same = sym e ∙ is in cc | inr (v, u, o, x, e, k) ↦ let same = sym e ∙ is in cc ]
 no_closing ss t h (a ∷ []) behind is = elim (term_inv ss t h) [ inl (o, e) ↦ let same = sym e ∙ is in cc | inr (v, u, o, x, e, k) ↦ let same = sym e ∙ is in cc ]

@@ -10,7 +10,7 @@ use Rattle.desk_expr.proofs.ParseLemmas.{stop_spells_nothing}
 use Rattle.desk_alts.proofs.Texts.{tree_of_text}
 use Rattle.desk_alts.proofs.TreeStops.{some_stop}
 
--- a stop that isn't want of memory
+-- a stop that isn't lack of memory
 abbrev pub Stop : Profile → List ℕ → Type 0
 Stop profile text = (f : ParseFault) × IsStopBy SpellsTree profile text f × (0 < fault_number f)
 

@@ -1,4 +1,4 @@
--- Each list of symbols spells a tree or none: what may follow a place is followed symbol by symbol.
+-- Each list of symbols spells a tree or none: what may follow a place is examined symbol by symbol.
 use Rattle.std.proofs.Common.{◌≡◌, ◌↔◌, inl, inr, ℕ, zero, suc, ◌≤◌, List, [], ◌∷◌, ◌++◌, length, Some, subst, ap, refl, arith}
 use Rattle.std.specs.Prelude.{◌≢◌}
 use Rattle.desk_expr.specs.declared.term.Term.{Term}
@@ -10,14 +10,14 @@ use Rattle.desk_expr.proofs.Residual.{OnlyCloses, ended_closes, closed_closes, a
 use Rattle.desk_expr.proofs.Steps.{start_rest}
 use Rattle.desk_alts.proofs.Decide.{SomeOrNone, some_by}
 
--- behind a whole list of at most so many symbols some tree is known to be spelled, or none
+-- after a whole list, at most so many symbols are known to spell some tree, or none
 abbrev Known : Goal → ℕ → Type 0
 Known K n = (x : Tree) (r : List Symbol) → length r ≤ n → SomeOrNone (K x r)
 
 fewer : (K : Goal) (n : ℕ) → Known K (suc n) → Known K n
 fewer K n known x r few = known x r (omega (arith, few))
 
--- where neither AND nor OR follows an operand, the whole list has ended
+-- if neither AND nor OR follows an operand, the whole list has ended
 pub after_all : (K : Goal) (ors ands : List Tree) (op : Tree) (r : List Symbol) → ((q : List Symbol) → r ≢ and_word ∷ q) → ((q : List Symbol) → r ≢ or_word ∷ q)
     → (e : Tree) → After K ors ands op r e ↔ K (any_of (ors ++ all_of (ands ++ op ∷ []) ∷ [])) r e
 after_all K ors ands op r no_and no_or e = (
@@ -45,7 +45,7 @@ after_group K ors ands op r e = (
   (λ k. (r, refl, k)),
 )
 
--- behind a word stands what follows an operand, or WITH and an exception
+-- after a word comes what follows an operand, or WITH and an exception
 behind_word : (K : Goal) (ors ands : List Tree) (t : Term) (r : List Symbol) → SomeOrNone (After K ors ands (one t) r)
     → ((q : List Symbol) → r ≡ with_word ∷ q → SomeOrNone (WantException K ors ands t q)) → SomeOrNone (AfterWord K ors ands t r)
 behind_word K ors ands t r (inl (e, h)) except = inl (e, inl h)

@@ -1,4 +1,4 @@
--- What a choice of terms is worth: whether it satisfies a tree, and whether one of its terms can go.
+-- The verdict of a choice of terms: whether it satisfies a tree, and whether one of its terms can go.
 use Rattle.std.proofs.Common.{◌≡◌, ◌⊎◌, inl, inr, ℕ, List, [], ◌∷◌, length, Option, Some, None, subst, refl, arith}
 use Rattle.std.specs.Prelude.{slice_get, Contains}
 use Rattle.desk_expr.specs.declared.term.Term.{Term}

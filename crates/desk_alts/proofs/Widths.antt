@@ -54,11 +54,11 @@ more_sets table e xs n fit minimal many =
       omega (arith, many, long),
     )
 
--- the set at the one place is that of the set of places at the other
+-- the set at the one place is that of the set of places at the other place
 abbrev AreOne : List Term → List (List Term) → List Mask → ℕ → ℕ → Type 0
 AreOne table sets xs j i = (i < length xs) × ((t : Term) → Contains (get_or sets j []) t ↔ Chosen table (get_or xs i nothing) t)
 
--- sets that differ stand at one place each
+-- sets that all differ are at one place each
 pub one_place : (sets : List (List Term)) → AllPairs (λ s r. s ≡ r → ⊥) sets → (j k : ℕ) → j < length sets → k < length sets → get_or sets j [] ≡ get_or sets k [] → j ≡ k
 one_place sets apart j k in_j in_k same =
     ⊎_elim

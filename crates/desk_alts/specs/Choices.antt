@@ -13,20 +13,20 @@ use Rattle.desk_alts.specs.Masks.{IsSubset, IsAbove, AreApart}
 abbrev pub HasPlace : Mask → ℕ → Type 0
 HasPlace m k = ((k < 64) × (bit_at m.low k ≡ 1)) ⊎ ((64 ≤ k) × (bit_at m.high (k - 64) ≡ 1))
 
--- the term stands in the table at a place of the set
+-- the term is in the table at a place of the set
 abbrev pub Chosen : List Term → Mask → Term → Type 0
 Chosen table m t = (k : ℕ) × (slice_get table k ≡ Some t) × HasPlace m k
 
--- the set of places satisfies the tree, and none of its subsets does but itself
+-- the set of places satisfies the tree, and no other subset of it does
 abbrev pub IsMinimalMask : List Term → Tree → Mask → Type 0
 IsMinimalMask table e m = Holds (Chosen table m) e × ((n : Mask) → IsSubset n m → Holds (Chosen table n) e → IsSubset m n)
 
--- the listed sets are the minimal ones: a set satisfies the tree just where some listed set is a subset, and none is a subset of another
+-- the listed sets are the minimal ones: a set satisfies the tree if and only if some listed set is a subset of it, and none is a subset of another
 pub record AreMinimal (table : List Term) (e : Tree) (xs : List Mask) : Type 0 where
   pub exact : (m : Mask) → Holds (Chosen table m) e ↔ IsAbove xs m
   pub apart : AreApart xs
 
--- the table has each term of the tree, its terms are in order, and a place fits a set
+-- the table has each term of the tree, its terms are in order, and its places fit in a set
 pub record IsTableFor (table : List Term) (e : Tree) : Type 0 where
   pub listed : (t : Term) → Contains (leaves e) t → Contains table t
   pub ordered : IsStrictlySortedBy term_order table

@@ -15,11 +15,11 @@ HasCosts cost s = All (λ t. IsSome (cost t)) s
 abbrev pub set_cost : (Term → Option ℕ) → List Term → ℕ
 set_cost cost s = sum_by (λ t. unwrap_or (cost t) 0) s
 
--- the one set is the other, or comes before it in the order of sets
+-- the first set is the second, or comes before it in the order of sets
 abbrev pub IsUpTo : List Term → List Term → Type 0
 IsUpTo s r = (s ≡ r) ⊎ (set_order s r ≡ Less)
 
--- of all sets that satisfy the tree and whose terms have costs the set has the least cost, and of those of this cost it is the first
+-- of all sets that satisfy the tree and whose terms have costs, the set has the least cost, and of those with this cost it is the first
 pub record IsCheapest (cost : Term → Option ℕ) (e : Tree) (price : ℕ) (set : List Term) : Type 0 where
   pub ordered : IsTermSet set
   pub holds : Holds (Contains set) e
@@ -27,11 +27,11 @@ pub record IsCheapest (cost : Term → Option ℕ) (e : Tree) (price : ℕ) (set
   pub is_price : price ≡ set_cost cost set
   pub least : (s : List Term) → IsTermSet s → Holds (Contains s) e → HasCosts cost s → (price < set_cost cost s) ⊎ ((price ≡ set_cost cost s) × IsUpTo set s)
 
--- no set that satisfies the tree has costs for all its terms
+-- each set that satisfies the tree has a term without a cost
 abbrev pub HasNoCosts : (Term → Option ℕ) → Tree → Type 0
 HasNoCosts cost e = (s : List Term) → Holds (Contains s) e → HasCosts cost s → ⊥
 
--- the place and the cost of the first set of least cost among the first so many, if any of them has one
+-- the place and the cost of the first set of least cost among the first n sets, if any of these has a cost
 abbrev pub IsLeastOf : (Term → Option ℕ) → List (List Term) → ℕ → Option (ℕ × ℕ) → Type 0
 IsLeastOf cost sets n None = (j : ℕ) → j < n → HasCosts cost (slice_index_or sets j []) → ⊥
 IsLeastOf cost sets n (Some best) =

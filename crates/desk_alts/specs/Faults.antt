@@ -1,4 +1,4 @@
--- Which fault is told of an expression.
+-- Which fault is reported for an expression.
 use Rattle.desk_base.specs.Limits.{listed_terms}
 use Rattle.desk_expr.specs.Tree.{Tree}
 use Rattle.desk_alts.specs.declared.fault.AltFault.{AltFault}
@@ -9,13 +9,13 @@ use Rattle.desk_alts.specs.Sets.{HasMoreTerms, HasWideFront}
 abbrev pub IsListable : Tree → Type 0
 IsListable e = (HasMoreTerms listed_terms e → ⊥) × (HasWideFront e → ⊥)
 
--- the fault is the expression's, that of too many terms first; want of memory says nothing of it
+-- the fault is the expression's, that of too many terms first; lack of memory says nothing about it
 abbrev pub IsFaultOf : Tree → AltFault → Type 0
 IsFaultOf e TooManyTerms = HasMoreTerms listed_terms e
 IsFaultOf e TooMany = (HasMoreTerms listed_terms e → ⊥) × HasWideFront e
 IsFaultOf e (Memory error) = Unit {0}
 
--- the same where there are few terms
+-- the same if there are few terms
 abbrev pub IsWidthFaultOf : Tree → AltFault → Type 0
 IsWidthFaultOf e TooManyTerms = ⊥
 IsWidthFaultOf e TooMany = HasWideFront e

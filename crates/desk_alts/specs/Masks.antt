@@ -5,7 +5,7 @@ use Rattle.std.specs.List.{Any, AllPairs}
 use Rattle.desk_alts.specs.declared.masks.Mask.{Mask}
 use Rattle.desk_alts.specs.declared.masks.Union.{Union}
 
--- no bit of the one is outside the other
+-- no bit of the first is outside the second
 abbrev pub IsWithin : ℕ → ℕ → Type 0
 IsWithin a b = (k : ℕ) → bit_at a k ≡ 1 → bit_at b k ≡ 1
 
@@ -30,15 +30,15 @@ masks (low ∷ lows) (high ∷ highs) = record { low = low; high = high } ∷ ma
 abbrev pub united : Mask → Mask → Mask
 united x y = record { low = bit_or x.low y.low; high = bit_or x.high y.high }
 
--- no listed set is a subset of another one
+-- no listed set is a subset of another
 abbrev pub AreApart : List Mask → Type 0
 AreApart xs = AllPairs (λ x y. (IsSubset x y → ⊥) × (IsSubset y x → ⊥)) xs
 
--- above the new list stand those above the old one, and those that have the fact
+-- above the new list are the sets above the old one, and those for which the fact holds
 abbrev pub Adds : List Mask → List Mask → (Mask → Type 0) → Type 0
 Adds old new Q = (m : Mask) → IsAbove new m ↔ (IsAbove old m ⊎ Q m)
 
--- the same of the kept masks from a place up to another
+-- the same for the kept masks from a place up to another
 abbrev pub IsCoveredBetween : ℕ → ℕ → List ℕ → List ℕ → ℕ → ℕ → Type 0
 IsCoveredBetween low high lows highs from to = (i : ℕ) × (from ≤ i) × (i < to) × IsWithin (slice_index lows i) low × IsWithin (slice_index highs i) high
 

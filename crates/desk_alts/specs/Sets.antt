@@ -25,12 +25,12 @@ pub record AreAlternatives (e : Tree) (sets : List (List Term)) : Type 0 where
   pub every : (s : List Term) → IsTermSet s → IsMinimal s e → Contains sets s
   pub ordered : IsStrictlySortedBy set_order sets
 
--- the tree has more minimal sets than so many
+-- the tree has more than this many minimal sets
 abbrev pub HasMoreSets : ℕ → Tree → Type 0
 HasMoreSets n e =
     (sets : List (List Term)) × All (λ s. IsTermSet s × IsMinimal s e) sets × AllPairs (λ s r. s ≡ r → ⊥) sets × (n < length sets)
 
--- the tree has more distinct terms than so many
+-- the tree has more than this many distinct terms
 abbrev pub HasMoreTerms : ℕ → Tree → Type 0
 HasMoreTerms n e = (ts : List Term) × AreTermsOf e ts × (n < length ts)
 
@@ -43,7 +43,7 @@ first_parts zero ts = no_more
 first_parts (suc k) no_more = no_more
 first_parts (suc k) (more t ts) = more t (first_parts k ts)
 
--- the parts under their operator; of one part, the part itself
+-- the parts under their operator, or the part itself if there is only one
 abbrev pub joined : (Trees → Tree) → Trees → Tree
 joined node no_more = node no_more
 joined node (more t no_more) = t

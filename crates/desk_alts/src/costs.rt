@@ -15,7 +15,7 @@ use std::alloc::Global;
 pub trait Cost {
     ghost cost_of: { Self → Term → Option ℕ };
 
-    /// The cost of a term, at most 1,000,000, if it has one. It takes no memory.
+    /// The cost of a term, at most 1,000,000, if it has one. The call allocates nothing.
     fn cost(&self, term: &Term) -> Option<u64>
         ensures value { result ≡ cost_of self.now term.now }
         ensures bound { IfSome result (λ cost. cost ≤ 1000000) };
@@ -60,9 +60,9 @@ fn least<C: Cost>(sets: &[TermSet], cost: &C) -> Option<(usize, u64)>
     best
 }
 
-/// The cheapest set of terms that satisfies an expression, of those whose terms all have a cost:
-/// minimal or not, none of them costs less, and of those that cost as much it is the first in the
-/// order of sets. `None` says that there is no such set.
+/// The cheapest set of terms that satisfies an expression, of those whose terms all have a cost: no
+/// other, minimal or not, costs less, and of those with the same cost it is the first in the order
+/// of sets. `None` means that there is no such set.
 ///
 /// An expression is refused as `alternatives` refuses it.
 pub fn cheapest<C: Cost>(alloc: Global, expr: &Expr, cost: &C) -> Result<Option<Choice>, AltFault>

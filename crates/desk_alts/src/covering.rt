@@ -13,7 +13,7 @@ pub(crate) fn is_within(a: u64, b: u64) -> bool
     a & b == a
 }
 
-// Eight kept masks at once.
+// Compares eight kept masks at once.
 fn covers_eight(low: u64, high: u64, lows: &[u64], highs: &[u64], at: usize) -> bool
     requires in_lows { at + LANES ≤ length lows.now }
     requires in_highs { at + LANES ≤ length highs.now }

@@ -9,7 +9,7 @@ pub enum AltFault {
     /// The expression has more distinct terms than the limit allows.
     #[error("too many terms")]
     TooManyTerms,
-    /// At some node some front has more minimal sets than the limit allows.
+    /// Some front of some node has more minimal sets than the limit allows.
     #[error("too many alternatives")]
     TooMany,
     /// No memory was left.

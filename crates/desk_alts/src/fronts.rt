@@ -32,7 +32,7 @@ fn leaf_sets(alloc: Global, table: &TermTable, term: &Term) -> Result<Kept, Allo
     Ok(kept)
 }
 
-// Refuses a front of too many minimal sets.
+// Refuses a front with too many minimal sets.
 fn check_width(kept: &Kept) -> Result<(), AltFault>
     ensures narrow { OnOk result (length kept.now ≤ 64) }
     ensures wide { IfErr result (λ f. (f ≡ AltFault.TooMany) × (64 < length kept.now)) }

@@ -85,7 +85,7 @@ impl Kept {
         self.highs.remove(at);
     }
 
-    /// Keeps the set, unless a subset of it is kept, in place of the kept sets that it is a subset
+    /// Keeps the set, unless a subset of it is kept, and drops the kept sets that it is a subset
     /// of.
     pub(crate) fn insert(&mut self, mask: Mask) -> Result<(), AllocError>
         requires { AreApart self.old }
@@ -154,10 +154,10 @@ impl Kept {
         Ok(())
     }
 
-    /// The minimal ones of the unions of one of these sets and one of the others.
+    /// The minimal ones among the unions of one of these sets and one of the others.
     ///
-    /// The small unions come first, so none is kept that a later one is a subset of: there are
-    /// never more kept than in the end.
+    /// The small unions come first, so no union is kept that a later one is a subset of: there are
+    /// never more kept than at the end.
     pub(crate) fn product(&self, alloc: Global, other: &Kept) -> Result<Kept, AllocError>
         ensures apart { IfOk result (λ k. AreApart k) }
         ensures exact { IfOk result (λ k. (m : Mask) → IsAbove k m

@@ -1,23 +1,23 @@
-//! Laws of licence expressions that hold of the definitions alone, each the contract of a function
+//! Laws of licence expressions that hold by the definitions alone, each the contract of a function
 //! with an empty body.
 //!
-//! What a text spells (`SpellsWithinBy`) and what a choice of terms is worth (`Holds`, `CanGo`,
-//! `IsMinimal`) are relations of `desk_expr`, and a relation may hold of nothing. A contract that
-//! speaks of whatever tree a text spells says something only where each text is known to spell a
-//! tree or to spell none. `tree_or_none` says that, and `verdict_exists` says that each choice is
-//! worth something. Both are constructive: each is a function that decides, so there is a reader of
-//! texts and a judge of choices that fit the definitions, whatever memory is at hand.
+//! What a text spells (`SpellsWithinBy`) and how well a choice of terms does (`Holds`, `CanGo`,
+//! `IsMinimal`) are relations of `desk_expr`, and a relation may hold for nothing. A contract about
+//! whatever tree a text spells says something only if each text is known to spell a tree or to
+//! spell none. `tree_or_none` says that, and `verdict_exists` says that each choice has a verdict.
+//! Both are constructive: each is a function that decides, so there is a reader of texts and a
+//! judge of choices that fit the definitions, however much memory is left.
 //!
-//! Where a text spells nothing, `some_stop` and `some_term_stop` say that it stops at some place
-//! for some reason, and `one_stop` and `one_term_stop` that it has only one such stop.
+//! If a text spells nothing, `some_stop` and `some_term_stop` say that it stops at some place for
+//! some reason, and `one_stop` and `one_term_stop` that it has only one such stop.
 //!
 //! Each term that a text spells is well formed (`spelled_terms_are_well_formed`), and well-formed
 //! terms sort as their texts (`terms_sort_as_their_texts`).
 //!
-//! A tree has one listing of its minimal sets, and one cheapest or none (`minimal_sets`).
+//! A tree has one listing of its minimal sets, and one cheapest set or none (`minimal_sets`).
 //!
-//! A tree and a verdict have no second answer: that a text spells one tree at most is the clause
-//! `only` of `desk_expr::parse_in`, and that a choice has one verdict is `one_verdict`.
+//! That a text spells at most one tree is the clause `only` of `desk_expr::parse_in`, and that a
+//! choice has only one verdict is `one_verdict`.
 
 pub mod minimal_sets;
 
@@ -36,7 +36,7 @@ ghost use Rattle.desk_expr.specs.Tree.{Tree};
 ghost use Rattle.desk_expr.specs.Spelling.{SpellsWithinBy, SpellsTermWithinBy, IsStopBy};
 ghost use Rattle.desk_base.specs.declared.profile.Profile.{Profile};
 
-/// Each text spells a tree within the limits, or spells none, by each profile of operators.
+/// Each text either spells a tree within the limits or spells none, by each profile of operators.
 pub fn tree_or_none()
     ensures { (profile : Profile) (text : List ℕ) → ((e : Tree) × SpellsWithinBy profile text e)
         ⊎ ((e : Tree) → SpellsWithinBy profile text e → ⊥) }
@@ -50,8 +50,8 @@ pub fn verdict_exists()
         ⊎ IsMinimal chosen e) }
 {}
 
-/// It has one such verdict: where a term can go, the list satisfies the tree and isn't minimal, and
-/// there is one first place.
+/// It has only one such verdict: if a term can go, the list satisfies the tree and isn't minimal,
+/// and there is only one first place.
 pub fn one_verdict()
     ensures enough { (e : Tree) (chosen : List Term) (i : ℕ) → CanGo chosen e i
         → Holds (Contains chosen) e }
@@ -61,13 +61,13 @@ pub fn one_verdict()
         → IsFirst (CanGo chosen e) j → i ≡ j }
 {}
 
-/// No tree that a text spells is true under no terms.
+/// No tree that a text spells holds without any term.
 pub fn some_term_is_needed()
     ensures { (profile : Profile) (text : List ℕ) (e : Tree) → SpellsWithinBy profile text e
         → Holds (λ _. ⊥) e → ⊥ }
 {}
 
-/// A text that spells no tree within the limits has a stop other than want of memory, which has the
+/// A text that spells no tree within the limits has a stop other than lack of memory, which has the
 /// number 0.
 pub fn some_stop()
     ensures { (profile : Profile) (text : List ℕ) → ((e : Tree) → SpellsWithinBy profile text e → ⊥)
@@ -81,7 +81,7 @@ pub fn one_stop()
         → IsStopBy SpellsTree profile text g → f ≡ g }
 {}
 
-/// A text that spells no term has such a stop, too.
+/// A text that spells no term has such a stop too.
 pub fn some_term_stop()
     ensures { (profile : Profile) (text : List ℕ)
         → ((t : Term) → SpellsTermWithinBy profile text t → ⊥) → (f : ParseFault)
@@ -103,7 +103,7 @@ pub fn spelled_terms_are_well_formed()
 {}
 
 /// Well-formed terms sort as their printed texts do, byte by byte: what follows a key is a plus or
-/// a blank, and both go before each byte of a key.
+/// a blank, and both come before each byte of a key.
 pub fn terms_sort_as_their_texts()
     ensures { (a b : Term) → IsTrue (is_term a) → IsTrue (is_term b)
         → slice_cmp nat_cmp (printed_term a) (printed_term b) ≡ term_order a b }

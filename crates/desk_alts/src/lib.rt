@@ -1,5 +1,5 @@
 //! The minimal sets of terms that satisfy a licence expression (SPDX 2.3, Annex D.4), and the
-//! cheapest set of all that satisfy it.
+//! cheapest of all sets that satisfy it.
 //!
 //! A contract sees a `TermSet` as the list of its terms in the order of terms, each once.
 //! `alternatives` lists each set that is minimal by `IsMinimal` of `desk_expr`, the definition that
@@ -9,12 +9,12 @@
 //! expression, minimal or not, by costs that a caller gives for terms (`IsCheapest`,
 //! specs/Costs.antt).
 //!
-//! Within, a set is a mask over the expression's terms: bit `k` stands for the term at place `k`.
-//! The masks of a front are kept in two columns of words, none a subset of another (`kept.rt`), and
-//! `covers` looks for a subset of a mask among eight of them at once. What a list of masks stands
-//! for is the sets that contain one of them (`AreMinimal`, specs/Choices.antt).
+//! Internally, a set is a mask over the expression's terms: bit `k` stands for the term at place
+//! `k`. The masks of a front are kept in two columns of words, none a subset of another
+//! (`kept.rt`), and `covers` looks for a subset of a mask among eight of them at once. A list of
+//! masks stands for all sets that contain one of them (`AreMinimal`, specs/Choices.antt).
 //!
-//! `laws` has what holds of expressions and of their minimal sets by the definitions alone.
+//! `laws` has what holds for expressions and their minimal sets by the definitions alone.
 #![tactic(auto)]
 
 mod costs;

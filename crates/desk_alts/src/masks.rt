@@ -14,7 +14,7 @@ pub(crate) struct Mask {
     pub(crate) high: u64,
 }
 
-/// A union of two sets, behind how many places it has, so that small ones come first.
+/// A union of two sets, after the number of its places, so that small ones come first.
 #[derive(Clone, Copy, PartialEq, Eq, PartialOrd, Ord)]
 pub(crate) struct Union {
     size: u32,

@@ -15,7 +15,7 @@ both : (a b : Bool) → (a && b) ≡ true → (a ≡ true) × (b ≡ true)
 both true b is = (refl, is)
 both false b is = absurd (let wrong : false ≡ true = is in cc)
 
--- the test of a choice asks for nothing but its release, document and package
+-- the test of a choice depends only on its release, document and package
 pub alike : (w : Readings) (s : Snapshot) (before row : StoredChoice) → is_choice_of before.release before.document before.package_id row ≡ true → is_choice w s row ≡ is_choice w s before
 alike w s before row is =
     let parts = both (bytes_eq row.release before.release) (int_eq row.document before.document && bytes_eq row.package_id before.package_id) is in
@@ -25,7 +25,7 @@ alike w s before row is =
     let id : row.package_id ≡ before.package_id = texts_equal row.package_id before.package_id more.1 in
     λ i. is_choice w s (record { release = release i; document = document i; package_id = id i; term = row.term })
 
--- a choice is such as can be held where one for the same package, told before it, is
+-- a choice is one that can be held if the one judged before it, for the same package, is
 pub told_alike : (w : Readings) (s : Snapshot) (told : Option (Bor StoredChoice)) (before : Bor StoredChoice) (row : StoredChoice) (is : Bool) → told ≡ Some before
     → is ≡ is_choice_of before.now.release before.now.document before.now.package_id row → is ≡ true → IfSome told (λ other. is_choice w s other.now ≡ true) → true ≡ is_choice w s row
 told_alike w s told before row is at same holds given =

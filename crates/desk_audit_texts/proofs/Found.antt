@@ -15,7 +15,7 @@ some_copied : {X : Type 0} (found : Option (Bor X)) → is_some (option_copied f
 some_copied None = refl
 some_copied (Some x) = refl
 
--- something was found exactly where something passes
+-- something was found if and only if something passes
 pub found_is_any : {X : Type 0} (p : X → Bool) (xs : List X) (found : Option (Bor X)) → option_copied found ≡ find p xs → is_some found ≡ list_any p xs
 found_is_any p xs found is = sym (some_copied found) ∙ (ap is_some is ∙ found_any p xs)
 
@@ -29,7 +29,7 @@ none_from p [] i x within is = absurd (omega arith)
 none_from p (y ∷ ys) zero x within is = rw is refl
 none_from p (y ∷ ys) (suc i) x within is = none_from p ys i x (omega arith) is
 
--- An item at a place was tested. Where it passes, what is told of all from it on is told of all behind it; where it doesn't, not all do.
+-- An item at a place was tested. If it passes, what holds for all from it on holds for all after it; if it doesn't, not all pass.
 pub all_behind : {X : Type 0} (p : X → Bool) (xs : List X) (i : ℕ) (x : X) (tested all : Bool) → i < length xs → x ≡ get_or xs i x → tested ≡ p x → tested ≡ true → list_all p (drop i xs) ≡ all
     → list_all p (drop (i + 1) xs) ≡ all
 all_behind p xs i x tested all within at told is from = all_from p xs i x within (ap p (sym at) ∙ (sym told ∙ is)) ∙ from

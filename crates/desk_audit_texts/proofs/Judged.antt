@@ -1,4 +1,4 @@
--- What stays of the tables behind all that was read decides the second condition of each pair.
+-- What is left of the tables after all that was read decides the second condition of each pair.
 use Rattle.std.proofs.Common.{◌≡◌, ◌≢◌, List, [], ◌∷◌, map, Some, refl, sym, ap, ◌∙◌, subst, inl, inr}
 use Rattle.std.specs.Prelude.{Option, is_some, true}
 use Rattle.std.specs.List.{flat_map, list_all}
@@ -40,7 +40,7 @@ documents_read : (w : Readings) (s : Snapshot) (rows : List StoredDocument) → 
 documents_read w s rows e listed read =
     record { numbered = listed.numbered; read = rw e at read; profiled = listed.profiled; profiles = listed.profiles }
 
--- what stays of a table of documents' parts
+-- what is left of a table of documents' parts
 part_left : {X : Type 0} (w : Readings) (s : Snapshot) (rows : List StoredDocument) (kept : List X)
     (by : StoredDocument → List X) (left : Option (List X)) → (ArePackages w s → kept ≡ flat_map by s.document)
     → rows ≡ s.document

@@ -1,4 +1,4 @@
--- The numbers from 1 on, in order.
+-- The numbers from 1, in order.
 use Rattle.std.proofs.Common.{◌≡◌, ◌∙◌, ℕ, zero, suc, ◌+◌, ◌<◌, ℤ, pos, Bool, List, [], ◌∷◌, map, length, get_or, ap, ap₂, refl, sym, subst, arith}
 use Rattle.std.specs.List.{range_with_len}
 use Rattle.std.specs.Bool.{Decides}
@@ -12,7 +12,7 @@ use Rattle.std.proofs.lemmas.List.FromFn.{get_or-map-range_with_len, length-map-
 use Rattle.desk_snapshot.specs.Conditions.{numbers_to}
 use Rattle.desk_audit_texts.proofs.Sorted.{sorted_once}
 
--- each number from some one on is at its place
+-- each number from a first one is at its place
 counted_from : (a : ℕ) (xs : List ℤ) → ((k : ℕ) (d : ℤ) → k < length xs → get_or xs k d ≡ pos (k + a)) → xs ≡ map pos (range_with_len a (length xs))
 counted_from a [] at = refl
 counted_from a (x ∷ xs) at =
@@ -32,7 +32,7 @@ numbers_sorted n = λ k d low within.
     let next : get_or (numbers_to n) (k + 1) d ≡ pos (k + 1 + 1) = number_at n (k + 1) d inside in
     rw (here, next) (sym (ap is_lt (int_cmp_is (pos (k + 1 + 1)) (pos (k + 1)) Greater (omega (arith, ints)))))
 
--- numbers are some from 1 on in any order exactly where they are these once they are sorted
+-- numbers are 1 to n in any order if and only if, once sorted, they are 1 to n in order
 pub sorted_to : (numbers sorted : List ℤ) (n : ℕ) → length numbers ≡ n → IsPermutation numbers sorted → IsSorted int_cmp sorted
     → (is : Bool) → Decides is (sorted ≡ numbers_to (length sorted)) → Decides is (IsPermutation (numbers_to n) numbers)
 sorted_to numbers sorted n len same up is told =

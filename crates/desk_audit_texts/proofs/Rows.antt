@@ -24,7 +24,7 @@ given_on f rows i row within is =
     ∙ ap (λ r. flat_map f (take i rows ++ r ∷ [])) is
     ∙ ap (flat_map f) (sym (take_more rows i row within))
 
--- What is left behind the rows that items of one more text give, which has a number, is left behind those of all texts so far.
+-- What is left after the rows for the items of one more text, which has a number, is left after those of all texts so far.
 pub left_given : {A B C : Type 0} (f : A → List B) (stored : ℤ → C → B) (rows : List A) (i : ℕ) (row : A) (number told : ℤ)
     (items read : List C) (all : List B) (left : Option (List B)) → i < length rows → row ≡ get_or rows i row
     → FitsSigned w64 told → told ≡ number → items ≡ read → f row ≡ map (stored number) read

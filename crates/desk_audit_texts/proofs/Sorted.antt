@@ -1,4 +1,4 @@
--- Numbers in order: two such lists of the same numbers are one list.
+-- Numbers in order: two such lists of the same numbers are equal.
 use Rattle.std.proofs.Common.{◌≡◌, ℤ, List}
 use Rattle.std.specs.FinMap.{int_cmp-IsAntisymmetric}
 use Rattle.std.specs.List.Sorted.{IsPermutation, IsSorted}
@@ -8,7 +8,7 @@ use Rattle.std.proofs.lemmas.List.Sorted.{ranks_by}
 use Rattle.desk_model.specs.Keys.{below_by}
 use Rattle.desk_sorted.proofs.Sorting as sorting
 
--- the one order in which numbers are sorted
+-- there is only one order in which numbers are sorted
 pub sorted_once : (a b : List ℤ) → IsSorted int_cmp a → IsSorted int_cmp b → IsPermutation a b → a ≡ b
 sorted_once a b up up' same =
     let order = ranks_by int_cmp_total (λ (x : ℤ). x) in

@@ -11,10 +11,10 @@ chosen_as row = record { document = row.document; package_id = row.package_id; t
 abbrev pub frozen_as : StoredFrozen → Held
 frozen_as row = record { document = row.document; package_id = row.package_id; term = row.term }
 
--- what is frozen in a release, of some rows
+-- what is frozen in a release, among these rows
 abbrev pub held_in : List ℕ → List StoredFrozen → List Held
 held_in release rows = map frozen_as (filter (is_frozen_in release) rows)
 
--- some don't start with one
+-- the list doesn't start with this one
 abbrev pub StartsOtherwise : Held → List Held → Type 0
 StartsOtherwise one all = (others : List Held) → all ≡ one ∷ others → ⊥

@@ -1,4 +1,4 @@
-//! Whether adoptions go from references alone to licences alone.
+//! Checks that adoptions go from references alone to licences alone.
 
 ghost use Rattle.std.specs.Prelude.{◌≡◌, ◌&&◌, IfOk};
 ghost use Rattle.std.specs.List.{list_all};

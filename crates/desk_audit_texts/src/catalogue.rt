@@ -1,4 +1,4 @@
-//! Whether the revisions of the catalogue and their rules are such as a desk holds.
+//! Checks the revisions of the catalogue and their rules.
 
 ghost use Rattle.std.specs.Prelude.{◌≡◌, ◌∷◌, [], IfOk};
 ghost use Rattle.desk_model.specs.Readings.{Readings};
@@ -11,8 +11,8 @@ use desk_access::texts::Texts;
 use desk_snapshot::{AuditFault, Snapshot};
 use std::alloc::{AllocError, Global};
 
-/// The first of `BadRevision` and `BadRule` whose condition isn't met. Each body is read once.
-/// `AllocError` tells want of memory.
+/// The first of `BadRevision` and `BadRule` whose condition isn't met. Each body is read once. The
+/// only error is lack of memory.
 pub fn catalogue_fault<T: Texts>(
     alloc: Global,
     texts: &T,

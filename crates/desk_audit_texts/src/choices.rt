@@ -1,4 +1,4 @@
-//! Whether what the office made is such as it can have made.
+//! Checks what the office decided.
 
 ghost use Rattle.std.specs.Prelude.{◌≡◌, IfOk, [], ◌∷◌};
 ghost use Rattle.std.specs.Bool.{Decides};
@@ -15,7 +15,7 @@ use desk_access::texts::Texts;
 use desk_snapshot::{AuditFault, Snapshot};
 use std::alloc::{AllocError, Global};
 
-/// Whether conclusions, adoptions, places and choices are such as the office can have made.
+/// Whether conclusions, adoptions, places and choices are ones that the office can have made.
 fn is_met<T: Texts>(alloc: Global, texts: &T, snapshot: &Snapshot) -> Result<bool, AllocError>
     ensures { (w : Readings) → T.are_right w
         → IfOk result (λ is. Decides is (AreChoices w snapshot.now)) }
@@ -29,8 +29,8 @@ fn is_met<T: Texts>(alloc: Global, texts: &T, snapshot: &Snapshot) -> Result<boo
     )
 }
 
-/// The fault where conclusions, adoptions, places and choices aren't such as the office can have
-/// made, `BadChoice`; none where they are. An error only where an allocation was refused.
+/// The fault `BadChoice` if conclusions, adoptions, places and choices aren't ones that the office
+/// can have made, or none if they are. The only error is lack of memory.
 pub fn choice_fault<T: Texts>(
     alloc: Global,
     texts: &T,

@@ -1,4 +1,4 @@
-//! Whether the office's conclusions are expressions.
+//! Checks that the office's conclusions are expressions.
 
 ghost use Rattle.std.specs.Prelude.{◌≡◌, IfOk};
 ghost use Rattle.std.specs.List.{list_all};

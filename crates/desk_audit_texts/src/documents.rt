@@ -1,4 +1,4 @@
-//! Whether the documents, their packages and their extracted licences are such as a desk holds.
+//! Checks the documents, their packages and their extracted licences.
 
 ghost use Rattle.std.specs.Prelude.{◌≡◌, ◌∷◌, [], IfOk, map, true, false};
 ghost use Rattle.std.specs.Bool.{Decides};
@@ -44,7 +44,7 @@ fn are_profiles(readings: &[StoredReading]) -> bool
         .all(|row| row.profile == 1 || row.profile == 2)
 }
 
-/// Whether the documents are numbered from 1 on, and each has a profile.
+/// Whether the documents are numbered from 1, and each has a profile.
 fn are_listed(snapshot: &Snapshot) -> bool
     ensures { Decides result (AreListed snapshot.now) }
 {
@@ -71,7 +71,7 @@ fn document_read<T: Texts>(
 }
 
 /// The first of `BadDocument` and `BadPackage` whose condition isn't met. The bytes of each
-/// document are read once. `AllocError` tells want of memory.
+/// document are read once. The only error is lack of memory.
 pub fn document_fault<T: Texts>(
     alloc: Global,
     texts: &T,

@@ -1,4 +1,4 @@
-//! Whether a row is what is stored for an item of a text.
+//! Compares a row with what is stored for an item of a text.
 
 ghost use Rattle.std.specs.Prelude.{◌≡◌, ◌++◌, ◌∷◌, Some};
 ghost use Rattle.std.specs.Bool.{Decides};
@@ -12,7 +12,7 @@ use desk_base::Text;
 use desk_model::{Package, Reference, Rule};
 use desk_snapshot::{StoredExtracted, StoredPackage, StoredRule};
 
-/// What is behind a blank and a code, if a text begins with these.
+/// What follows a blank and a code, if a text begins with these.
 fn behind_code<'a>(text: &'a [u8], code: &Text) -> Option<&'a [u8]>
     ensures { IsLeft text.now (32 ∷ code.now) (option_copied result) }
 {

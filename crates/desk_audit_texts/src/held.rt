@@ -1,4 +1,4 @@
-//! Whether choices are such as can be held.
+//! Checks that choices are ones that can be held.
 
 ghost use Rattle.std.specs.Prelude.{◌≡◌, ℕ, List, ◌&&◌, IfOk, IfSome, not, true, false, find};
 ghost use Rattle.std.specs.List.{list_all, list_any};
@@ -41,7 +41,7 @@ fn is_minimal(verdict: Verdict) -> bool
     }
 }
 
-/// Whether terms are printed and a minimal set for an expression.
+/// Whether terms are printed ones and a minimal set for an expression.
 fn are_minimal<T: Texts>(
     alloc: Global,
     texts: &T,
@@ -133,7 +133,7 @@ fn is_attached(snapshot: &Snapshot, release: &str, document: i64) -> bool
         .is_some()
 }
 
-/// Whether a choice is such as can be held.
+/// Whether a choice is one that can be held.
 fn is_choice<T: Texts>(
     alloc: Global,
     texts: &T,
@@ -158,8 +158,8 @@ fn is_choice<T: Texts>(
     ships_under(alloc, texts, snapshot, terms.as_slice(), package_row)
 }
 
-/// Whether a choice is such as can be held, where the one before it, if there is one, is: one for
-/// the same package is then too.
+/// Whether a choice is one that can be held, if the one before it, if there is one, is one: then so
+/// is another for the same package.
 fn is_choice_after<T: Texts>(
     alloc: Global,
     texts: &T,
@@ -177,8 +177,8 @@ fn is_choice_after<T: Texts>(
     }
 }
 
-/// Whether each choice is such as can be held. Those for one package stand side by side, so it is
-/// told once for a package.
+/// Whether each choice is one that can be held. Those for one package are side by side, so each
+/// package is judged only once.
 pub(crate) fn are_choices<T: Texts>(
     alloc: Global,
     texts: &T,

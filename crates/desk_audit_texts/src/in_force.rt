@@ -21,7 +21,7 @@ fn profile_at(snapshot: &Snapshot, document: i64) -> Profile
 }
 
 /// The expression that is in force for a package, if there is one: that of the office's conclusion,
-/// else of its own field.
+/// or else of its own field.
 pub(crate) fn in_force<T: Texts>(
     alloc: Global,
     texts: &T,

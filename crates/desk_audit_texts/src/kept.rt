@@ -1,4 +1,4 @@
-//! Whether the choices of frozen releases are their frozen terms.
+//! Checks that the choices of frozen releases are their frozen terms.
 
 ghost use Rattle.std.specs.Prelude.{◌≡◌, [], ◌∷◌, filter, map, MatchOption};
 ghost use Rattle.std.specs.Bool.{Decides};
@@ -10,7 +10,7 @@ ghost use Rattle.desk_audit_texts.specs.HeldAs.{StartsOtherwise, chosen_as, froz
 use desk_model::ReleaseState;
 use desk_snapshot::{ByFrozen, ByHolder, Snapshot, StoredChoice, StoredFrozen, StoredRelease};
 
-/// The first frozen term of a release among some, and those behind it.
+/// The first frozen term of a release among these, and the rows after it.
 fn next_frozen<'a>(
     rows: &'a [StoredFrozen],
     release: &str,
@@ -36,7 +36,7 @@ fn is_same(row: &StoredChoice, frozen: &StoredFrozen) -> bool
             && row.term.as_str() == frozen.term.as_str())
 }
 
-/// The frozen terms behind the first of a release among some, where that one is the choice.
+/// The rows after the first frozen term of a release among these, if that one is the choice.
 fn frozen_behind<'a>(
     row: &StoredChoice,
     frozen: &'a [StoredFrozen],
@@ -55,7 +55,7 @@ fn frozen_behind<'a>(
     }
 }
 
-/// Whether the choices of a release among some are its frozen terms among some.
+/// Whether the choices of a release among these are its frozen terms among these.
 fn are_same(choices: &[StoredChoice], frozen: &[StoredFrozen], release: &str) -> bool
     ensures { Decides result (map chosen_as (filter (is_choice_in release.now) choices.now)
         ≡ held_in release.now frozen.now) }

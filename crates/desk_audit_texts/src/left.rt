@@ -1,4 +1,4 @@
-//! The rows of a table that are left behind those that texts give.
+//! The rows of a table that are left after those that texts give.
 
 ghost use Rattle.std.specs.Prelude.{◌≡◌, ◌++◌, ℤ, List, [], Some, map};
 ghost use Rattle.std.specs.Bool.{Decides};
@@ -18,7 +18,7 @@ pub(crate) trait Stored: Sized {
         ensures { Decides result (self.now ≡ stored number item.now) };
 }
 
-/// The rows behind those of some items, if the rows begin with exactly these.
+/// The rows after those of some items, if the rows begin with exactly these.
 fn behind<'a, R: Stored>(rows: &'a [R], number: i64, items: &[R::Read]) -> Option<&'a [R]>
     ensures { IsLeft rows.now (map (R.stored number) items.now) (option_copied result) }
 {
@@ -33,7 +33,7 @@ fn behind<'a, R: Stored>(rows: &'a [R], number: i64, items: &[R::Read]) -> Optio
     Some(rest)
 }
 
-/// The rows that are left of a table behind those of some items more, if some were left.
+/// The rows that are left of a table after those of some more items, if some were left.
 pub(crate) fn left_behind<'a, R: Stored>(
     left: Option<&'a [R]>,
     number: i64,

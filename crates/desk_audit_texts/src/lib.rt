@@ -1,5 +1,5 @@
-//! The conditions of an audit for which texts are read: those of the catalogue, of the documents, and
-//! of the office's choices.
+//! The conditions of an audit for which texts are read: those of the catalogue, of the documents,
+//! and of the office's choices.
 //!
 //! Each catalogue and each document is read once, and dropped before the next. What it says is
 //! compared with the rows that come next in the tables of what was read.
@@ -7,9 +7,9 @@
 //! - `catalogue_fault` judges the revisions and their rules; `document_fault` judges the documents,
 //!   their packages and their extracted licences.
 //! - `choice_fault` judges the office's conclusions, adoptions, places and choices (`AreChoices` of
-//!   `desk_snapshot`): they are such as it can have made. A choice is judged once for a package,
-//!   whose terms stand side by side.
-//! - `left` tells which rows of a table are left behind those that a text gives; `equal` compares a
+//!   `desk_snapshot`): whether they are ones that it can have made. Choices are judged once for
+//!   each package, whose terms are side by side.
+//! - `left` says which rows of a table are left after those that a text gives; `equal` compares a
 //!   row with what was read.
 #![tactic(auto)]
 

@@ -1,4 +1,4 @@
-//! Whether rows are numbered from 1 on.
+//! Checks that rows are numbered from 1.
 
 ghost use Rattle.std.specs.Prelude.{◌≡◌, ℤ, map};
 ghost use Rattle.std.specs.Bool.{Decides};
@@ -30,7 +30,7 @@ impl Numbered for StoredDocument {
     }
 }
 
-/// Whether the rows are numbered from 1 on.
+/// Whether the rows are numbered from 1.
 pub(crate) fn are_numbered<R: Numbered>(rows: &[R]) -> bool
     ensures { Decides result (AreFrom 1 (map R.number rows.now)) }
 {

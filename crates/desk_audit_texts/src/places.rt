@@ -1,4 +1,4 @@
-//! Whether the places of releases are the numbers from 1 on.
+//! Checks that the places of releases are the numbers from 1.
 
 ghost use Rattle.std.specs.Prelude.{◌≡◌, IfOk, IsPermutation, length, map};
 ghost use Rattle.std.specs.Bool.{Decides};
@@ -20,7 +20,7 @@ fn places_of(alloc: Global, releases: &[StoredRelease]) -> Result<Vec<i64>, Allo
     Ok(places)
 }
 
-/// Whether these are the numbers from 1 on, in order.
+/// Whether these are the numbers from 1, in order.
 fn are_from_one(numbers: &[i64]) -> bool
     ensures { Decides result (numbers.now ≡ numbers_to (length numbers.now)) }
 {
@@ -32,7 +32,7 @@ fn are_from_one(numbers: &[i64]) -> bool
     true
 }
 
-/// Whether the places of releases are the numbers from 1 on, in any order.
+/// Whether the places of releases are the numbers from 1, in any order.
 pub(crate) fn are_places(alloc: Global, releases: &[StoredRelease]) -> Result<bool, AllocError>
     ensures { IfOk result (λ are.
         Decides are (IsPermutation (numbers_to (length releases.now))

@@ -1,4 +1,4 @@
-//! Texts that are printed as they stand.
+//! Texts that are terms as they are printed.
 
 ghost use Rattle.std.specs.Prelude.{◌≡◌, IfOk};
 ghost use Rattle.desk_model.specs.Readings.{Readings};
@@ -8,7 +8,7 @@ use desk_access::texts::Texts;
 use desk_base::Text;
 use std::alloc::{AllocError, Global};
 
-/// Whether a text is what is told.
+/// Whether a text is the one that is given, if one is.
 pub(crate) fn is_that(text: &str, told: Option<Text>) -> bool
     ensures { result ≡ is_that text.now told }
 {

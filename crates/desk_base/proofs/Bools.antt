@@ -1,4 +1,4 @@
--- Facts of truth values.
+-- Facts about truth values.
 use Rattle.std.proofs.Common.{◌≡◌, Bool, true, false, refl}
 use Rattle.std.specs.Prelude.{◌&&◌, ◌||◌, not}
 

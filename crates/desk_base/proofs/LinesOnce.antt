@@ -1,4 +1,4 @@
--- Bytes begin with one line, and are cut into lines in one way.
+-- Bytes have one first line, and are cut into lines in one way.
 use Rattle.std.proofs.Common.{◌≡◌, ◌≢◌, ◌∙◌, ℕ, ◌+◌, ◌-◌, ◌<◌, List, [], ◌∷◌, ◌++◌, length, get_or, sym, subst, ap, refl, arith, append_assoc, length-append, append-nil}
 use Rattle.std.specs.Prelude.{All}
 use Rattle.std.proofs.Math.Seq.{get_or-append_seam}
@@ -9,7 +9,7 @@ use Rattle.desk_base.specs.declared.lines.LineEnd.TheVariants.{Lf, CrLf, Nothing
 use Rattle.desk_base.specs.Lines.{IsLine, Ends, end_bytes, LineText, CutsInto}
 use Rattle.desk_base.proofs.Numbers.{head_not}
 
--- a list is cut in one way at the first of some byte
+-- there is only one way to cut a list at the first place of a byte
 pub cut_once : (c : ℕ) (a b x y : List ℕ) → All (λ d. d ≢ c) a → All (λ d. d ≢ c) x → a ++ (c ∷ b) ≡ x ++ (c ∷ y) → (a ≡ x) × (b ≡ y)
 cut_once c [] b [] y h k e = (refl, cc)
 cut_once c [] b (d ∷ x) y h k e = absurd (All-get_or (λ d. d ≢ c) (d ∷ x) 0 0 (omega arith) k cc)
@@ -44,7 +44,7 @@ whole t l r a = a.cut ∙ ap (λ x. l ++ x) a.ends.0 ∙ append-nil l
 snoc_apart : (l x : List ℕ) → get_or l (length l - 1) 0 ≢ 13 → l ≡ x ++ (13 ∷ []) → ⊥
 snoc_apart l x h e = h (ap (λ m. get_or m (length m - 1) 0) e ∙ last_is x)
 
--- the first line of some bytes is one
+-- some bytes have only one first line
 pub line_once : (t l : List ℕ) (e : LineEnd) (r m : List ℕ) (f : LineEnd) (s : List ℕ) → IsLine t l e r → IsLine t m f s → (l ≡ m) × (e ≡ f) × (r ≡ s)
 line_once t l Lf r m Lf s a b = let p = cut_once 10 l r m s a.no_lf b.no_lf (sym a.cut ∙ b.cut) in (p.0, refl, p.1)
 line_once t l CrLf r m CrLf s a b =
@@ -62,7 +62,7 @@ line_once t l Nothing r m CrLf s a b = absurd (no_lf_none l (m ++ (13 ∷ [])) s
 line_once t l Lf r m Nothing s a b = absurd (no_lf_none m l r b.no_lf (sym (whole t m s b) ∙ a.cut))
 line_once t l CrLf r m Nothing s a b = absurd (no_lf_none m (l ++ (13 ∷ [])) r b.no_lf (sym (whole t m s b) ∙ a.cut ∙ sym (regroup l r)))
 
--- a line takes bytes
+-- a line takes at least one byte
 pub line_some : (t l : List ℕ) (e : LineEnd) (r : List ℕ) → t ≡ l ++ (end_bytes e ++ r) → Ends l e r → 0 < length t
 line_some t l Lf r cut ends = let a = ap length cut ∙ length-append l (10 ∷ r) in omega arith
 line_some t l CrLf r cut ends = let a = ap length cut ∙ length-append l (13 ∷ 10 ∷ r) in omega arith

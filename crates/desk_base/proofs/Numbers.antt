@@ -1,4 +1,4 @@
--- Facts of numbers.
+-- Facts about numbers.
 use Rattle.std.proofs.Common.{◌≡◌, ◌≢◌, ◌⊎◌, inl, inr, ℕ, ◌<◌, ◌≤◌, List, ◌∷◌, arith, true, false, ⊎_elim}
 use Rattle.std.specs.Prelude.{All, ◌==◌, nat_lt}
 use Rattle.std.proofs.str.Laws.{order}

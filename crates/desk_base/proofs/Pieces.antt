@@ -1,4 +1,4 @@
--- Texts that lie one behind the other: the one at a place, and one more.
+-- Texts one after another: the one at a place, and one more.
 use Rattle.std.proofs.Common.{◌≡◌, ℕ, zero, suc, ◌-◌, ◌<◌, ◌≤◌, List, [], ◌∷◌, ◌++◌, length, get_or}
 use Rattle.std.proofs.Common.{take, drop, refl, sym, ap, ap₂, ◌∙◌, subst, arith, length-append}
 use Rattle.std.proofs.Common.{length-drop, IsUtf8, inl, inr}
@@ -116,7 +116,7 @@ module _ (bytes text : List ℕ) (last : ℕ) (is_end : last ≡ length (bytes +
   AreEnds-push start (end ∷ ends) utf8 are =
       (are.0, kept_boundary bytes text end utf8 are.1, AreEnds-push end ends utf8 are.2)
 
--- the list with one text more, whichever way its parts were made
+-- the list with one more text, however its parts were made
 pub record IsMore (bytes text ends after later : List ℕ) : Type 0 where
   pub listed : pieces after 0 later ≡ pieces bytes 0 ends ++ text ∷ []
   pub are : AreEnds after 0 later

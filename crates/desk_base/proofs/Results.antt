@@ -3,7 +3,7 @@ use Rattle.std.proofs.Common.{◌≡◌, List, [], ◌∷◌, ◌++◌, Result, 
 use Rattle.std.proofs.Common.{append_assoc}
 use Rattle.desk_base.specs.Results.{followed}
 
--- those that are read, behind those that were
+-- the items that are read, after those that were
 abbrev pub onto : {A F : Type 0} → List A → Result (List A) F → Result (List A) F
 onto done (Ok xs) = Ok (done ++ xs)
 onto done (Err fault) = Err fault

@@ -1,4 +1,4 @@
--- Strictly sorted lists: two of the same items are one list.
+-- Two strictly sorted lists of the same items are equal.
 use Rattle.std.proofs.Common.{◌≡◌, ◌↔◌, ◌∙◌, ◌⊎◌, inl, inr, zero, suc, List, [], ◌∷◌, get_or, sym, ap, ap₂, refl, arith}
 use Rattle.std.specs.Prelude.{Contains}
 use Rattle.std.specs.List.Sorted.{IsStrictlySortedBy}
@@ -41,7 +41,7 @@ module _ {K : Type 0} (R : K → K → Ordering) (o : IsTotalOrder R) where
       let less : R x (get_or xs at.0 y) ≡ Less = Less-from_sorted R (x ∷ xs) zero (suc at.0) y up (omega arith) (omega (arith, at.1)) in
       ap (R x) (sym at.2) ∙ less
 
-  -- two strictly sorted lists of the same items are one list
+  -- two strictly sorted lists of the same items are equal
   pub same_sorted : (a b : List K) → IsStrictlySortedBy R a → IsStrictlySortedBy R b → ((x : K) → Contains a x ↔ Contains b x) → a ≡ b
   same_sorted [] [] up up' same = refl
   same_sorted [] (y ∷ ys) up up' same = absurd (let at = (same y).1 (is_head y ys) in omega (arith, at.1))

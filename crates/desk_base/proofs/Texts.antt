@@ -1,10 +1,10 @@
--- Facts of texts that are compared byte by byte.
+-- Facts about texts that are compared byte by byte.
 use Rattle.std.proofs.Common.{◌≡◌, ◌≢◌, ℕ, Bool, true, false, List, refl, inl, inr}
 use Rattle.std.specs.Prelude.{◌⊎◌}
 use Rattle.std.specs.Str.{bytes_eq}
 use Rattle.std.proofs.lemmas.Slice.Eq.{bytes_eq-Decides}
 
--- a test of two texts tells whether they are the same
+-- a test of two texts says whether they are the same
 pub tells : (a b : List ℕ) (r : Bool) → bytes_eq a b ≡ r → ((bytes_eq a b ≡ true) × (a ≡ b)) ⊎ ((bytes_eq a b ≡ false) × (a ≢ b))
 tells a b true e = inl (e, (bytes_eq-Decides a b).0 e)
 tells a b false e = inr (e, λ same. let yes : bytes_eq a b ≡ true = (bytes_eq-Decides a b).1 same in cc)

@@ -1,4 +1,4 @@
--- Texts without where they lie in memory.
+-- Texts, apart from where they are in memory.
 use Rattle.std.specs.Prelude.{ℕ, List, map}
 use Rattle.std.specs.Prelude.{Vec}
 use Rattle.std.specs.Ordering.{nat_cmp}

@@ -4,7 +4,7 @@ use Rattle.std.specs.Char.{is_ascii_digit}
 use Rattle.std.specs.List.{list_all}
 use Rattle.jiff_core.specs.Calendar.{days_in_month}
 
--- the number that decimal digits write, behind what stands before them
+-- the number that decimal digits write, after digits that write a first number
 abbrev pub number_from : ℕ → List ℕ → ℕ
 number_from n [] = n
 number_from n (d ∷ ds) = number_from (n * 10 + (d - 48)) ds
@@ -20,7 +20,7 @@ writes_day y e a r f m n s d c =
     list_all is_ascii_digit (y ∷ e ∷ a ∷ r ∷ m ∷ n ∷ d ∷ c ∷ []) && f == 45 && s == 45
     && exists (number_from 0 (y ∷ e ∷ a ∷ r ∷ [])) (number_from 0 (m ∷ n ∷ [])) (number_from 0 (d ∷ c ∷ []))
 
--- ten bytes that are so written
+-- ten bytes written like this
 abbrev pub is_day : List ℕ → Bool
 is_day text =
     let at : ℕ → ℕ = slice_index text in

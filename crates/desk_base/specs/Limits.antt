@@ -9,7 +9,7 @@ expression_bytes = 16384
 abbrev pub open_parentheses : ℕ
 open_parentheses = 64
 
--- how many terms a licence expression may have, each time that one stands there counted
+-- how many terms a licence expression may have; each occurrence counts
 abbrev pub expression_terms : ℕ
 expression_terms = 1024
 
@@ -21,11 +21,11 @@ document_bytes = 4194304
 abbrev pub document_elements : ℕ
 document_elements = 10000
 
--- how many distinct terms an expression may have whose minimal sets are listed
+-- how many distinct terms an expression may have if its minimal sets are listed
 abbrev pub listed_terms : ℕ
 listed_terms = 128
 
--- how many minimal sets the first parts of a node may have where the minimal sets are listed
+-- how many minimal sets the first parts of a node may have in an expression whose minimal sets are listed
 abbrev pub listed_sets : ℕ
 listed_sets = 64
 
@@ -45,7 +45,7 @@ id_bytes = 64
 abbrev pub title_bytes : ℕ
 title_bytes = 256
 
--- the most that a term costs
+-- the highest cost of a term
 abbrev pub term_cost : ℕ
 term_cost = 1000000
 
@@ -85,7 +85,7 @@ changes = 999
 abbrev pub note_bytes : ℕ
 note_bytes = 1024
 
--- the bytes of the longest line of a script that may be a request, without its end
+-- the bytes of the longest line of a script that may be a request, without its line end
 abbrev pub line_bytes : ℕ
 line_bytes = 8388608
 
@@ -93,6 +93,6 @@ line_bytes = 8388608
 abbrev pub script_reads : ℕ
 script_reads = 1048576
 
--- how many files a source tree may have of which something is gathered
+-- how many files a source tree may have from which something is gathered
 abbrev pub tree_files : ℕ
 tree_files = 10000

@@ -1,4 +1,4 @@
--- How bytes are cut into lines: at each LF, a CR before it being a part of the line's end.
+-- How bytes are cut into lines: at each LF; a CR before it is part of the line's end.
 use Rattle.std.specs.Prelude.{◌≡◌, ◌≢◌, ℕ, ◌+◌, ◌-◌, ◌<◌, List, [], ◌∷◌, ◌++◌, length, slice_index, All, map}
 use Rattle.desk_base.specs.declared.lines.LineEnd.{LineEnd}
 use Rattle.desk_base.specs.declared.lines.LineEnd.TheVariants.{Lf, CrLf, Nothing}
@@ -9,7 +9,7 @@ end_bytes Lf = 10 ∷ []
 end_bytes CrLf = 13 ∷ 10 ∷ []
 end_bytes Nothing = []
 
--- a text that an LF ends doesn't end by CR itself, and only a last text that isn't empty lacks an end
+-- a text that an LF ends doesn't end with CR itself, and only a last text that isn't empty has no end
 abbrev pub Ends : List ℕ → LineEnd → List ℕ → Type 0
 Ends text Lf rest = slice_index text (length text - 1) ≢ 13
 Ends text CrLf rest = Unit {0}
@@ -21,7 +21,7 @@ pub record IsLine (bytes text : List ℕ) (end : LineEnd) (rest : List ℕ) : Ty
   pub no_lf : All (λ b. b ≢ 10) text
   pub ends : Ends text end rest
 
--- a line without where it lies in memory
+-- a line, apart from where it is in memory
 pub record LineText : Type 0 where
   pub number : ℕ
   pub text : List ℕ
@@ -30,7 +30,7 @@ pub record LineText : Type 0 where
 abbrev pub line_text : Line → LineText
 line_text l = record { number = l.number; text = l.text.now; end = l.end }
 
--- the bytes are these lines, each the first line of what the lines before it leave, numbered on from a number
+-- the bytes are these lines, each the first line of what the lines before it leave, numbered from this number
 abbrev pub CutsInto : ℕ → List ℕ → List LineText → Type 0
 CutsInto number bytes [] = bytes ≡ []
 CutsInto number bytes (l ∷ ls) =

@@ -1,4 +1,4 @@
--- Texts that lie one behind the other in the bytes of one text, and where each ends.
+-- Texts one after another in the bytes of one text, and where each ends.
 use Rattle.std.specs.Prelude.{◌≡◌, ℕ, ◌≤◌, List, [], ◌∷◌, length, slice_range}
 use Rattle.std.specs.Str.{IsCharBoundary}
 

@@ -4,7 +4,7 @@
 ghost use Rattle.std.specs.Prelude.{◌≡◌, ◌↔◌, IsTrue};
 ghost use Rattle.desk_base.specs.Idstring.{is_idstring_byte, is_idstring, IsIdstring};
 
-/// Whether the byte may stand in an idstring.
+/// Whether the byte may be in an idstring.
 fn is_idstring_byte(byte: u8) -> bool
     ensures { result ≡ is_idstring_byte byte }
 {
@@ -18,7 +18,7 @@ pub fn is_idstring(text: &str) -> bool
     is_idstring_of_bytes(text.as_bytes())
 }
 
-/// The same of a text's bytes.
+/// The same for the bytes of a text.
 pub fn is_idstring_of_bytes(bytes: &[u8]) -> bool
     ensures test { result ≡ is_idstring bytes.now }
     ensures means { IsTrue result ↔ IsIdstring bytes.now }

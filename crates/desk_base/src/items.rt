@@ -20,7 +20,7 @@ impl<T> Model for Items<T> {
 }
 
 impl<T> Items<T> {
-    /// The list of nothing.
+    /// An empty list.
     pub fn new(alloc: Global) -> Items<T>
         ensures { result ≡ [] }
     {

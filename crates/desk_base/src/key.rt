@@ -1,4 +1,4 @@
-//! Names that are told apart by their bytes.
+//! Names that are compared by their bytes.
 
 ghost use Rattle.std.specs.Prelude.{◌≡◌, IfOk, nat_eq};
 ghost use Rattle.std.specs.Ordering.{nat_cmp, as_partial_cmp};
@@ -31,7 +31,7 @@ impl Model for Key {
 }
 
 impl Key {
-    /// The text as it stands.
+    /// The text as it is.
     pub fn exact(alloc: Global, text: &str) -> Result<Key, AllocError>
         ensures { IfOk result (λ k. k ≡ text.now) }
     {
@@ -39,7 +39,7 @@ impl Key {
         Ok(Key { text })
     }
 
-    /// The text with its ASCII capitals made small.
+    /// The text with ASCII capitals in lower case.
     pub fn folded(alloc: Global, text: &str) -> Result<Key, AllocError>
         ensures { IfOk result (λ k. k ≡ folded text.now) }
     {

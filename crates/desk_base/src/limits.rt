@@ -1,5 +1,5 @@
 //! The desk's limits, each in one place. Definitions don't read these: they have their own
-//! (`specs/Limits.antt`), so that a limit that is changed here alone is refused where it is cited.
+//! (`specs/Limits.antt`), so a limit that is changed only here is refused where it is cited.
 
 /// The bytes of the longest licence expression that is read.
 pub const EXPRESSION_BYTES: usize = 16_384;
@@ -7,7 +7,7 @@ pub const EXPRESSION_BYTES: usize = 16_384;
 /// How many parentheses of a licence expression may be open at once.
 pub const OPEN_PARENTHESES: usize = 64;
 
-/// How many terms a licence expression may have, each time that one stands there counted.
+/// How many terms a licence expression may have; each occurrence counts.
 pub const EXPRESSION_TERMS: usize = 1_024;
 
 /// The bytes of the longest tag-value document that is read.
@@ -16,11 +16,11 @@ pub const DOCUMENT_BYTES: usize = 4_194_304;
 /// How many packages, files, snippets and extracted licences a document may have together.
 pub const DOCUMENT_ELEMENTS: usize = 10_000;
 
-/// How many distinct terms an expression may have whose minimal sets are listed.
+/// How many distinct terms an expression may have if its minimal sets are listed.
 pub const LISTED_TERMS: usize = 128;
 
-/// How many minimal sets the first parts of a node of an expression may have where the minimal sets
-/// are listed.
+/// How many minimal sets the first parts of a node may have in an expression whose minimal sets are
+/// listed.
 pub const LISTED_SETS: usize = 64;
 
 /// The bytes of the longest catalogue that is read.
@@ -35,7 +35,7 @@ pub const ID_BYTES: usize = 64;
 /// The bytes of the longest title of a duty.
 pub const TITLE_BYTES: usize = 256;
 
-/// The most that a term costs.
+/// The highest cost of a term.
 pub const TERM_COST: u64 = 1_000_000;
 
 /// How many revisions of the catalogue a desk keeps.
@@ -68,15 +68,15 @@ pub const NOTE_BYTES: usize = 1_024;
 /// The largest number in a request.
 pub const NUMBER: u64 = 9_223_372_036_854_775_807;
 
-/// The bytes of the longest line of a script that may be a request, without its end.
+/// The bytes of the longest line of a script that may be a request, without its line end.
 pub const LINE_BYTES: usize = 8_388_608;
 
 /// How often a script reads.
 pub const SCRIPT_READS: u32 = 1_048_576;
 
-/// How many bytes of a file are read that is handed in. Documents and catalogues have far fewer, so
-/// what is longer is refused for its size by what was read of it.
+/// How many bytes of an input file are read. Documents and catalogues have far fewer, so a longer
+/// file is refused for its size by what was read of it.
 pub const INPUT_BYTES: usize = 67_108_864;
 
-/// How many files a source tree may have of which something is gathered.
+/// How many files a source tree may have from which something is gathered.
 pub const TREE_FILES: usize = 10_000;

@@ -11,11 +11,11 @@ use std::alloc::{AllocError, Global};
 /// How a line ends.
 #[derive(Clone, Copy)]
 pub enum LineEnd {
-    /// By a line feed alone.
+    /// With a line feed alone.
     Lf,
-    /// By a carriage return and a line feed.
+    /// With a carriage return and a line feed.
     CrLf,
-    /// By the end of the bytes.
+    /// At the end of the bytes.
     Nothing,
 }
 
@@ -59,8 +59,8 @@ pub struct Lines<'a> {
 impl<'a> Lines<'a> {
     ghost use Rattle.desk_base.specs.NextLine.{LineGiven};
 
-    /// The lines of some bytes: what calls of `next` give until there is none. They end by LF or
-    /// CRLF, the last one also by the end of the bytes; a CR alone is an ordinary byte.
+    /// The lines of some bytes: what `next` returns until it returns none. They end with LF or
+    /// CRLF, the last one also at the end of the bytes; a CR alone is an ordinary byte.
     pub fn of(bytes: &'a [u8]) -> Lines<'a>
         ensures rest { result.rest.now ≡ bytes.now }
         ensures number { result.number ≡ 1 }
@@ -106,7 +106,7 @@ impl<'a> Iterator for Lines<'a> {
     }
 }
 
-/// Bytes are cut into lines in one way.
+/// There is only one way to cut bytes into lines.
 pub fn one_cutting()
     ensures { (bytes : List ℕ) (a b : List LineText) → CutsInto 1 bytes a → CutsInto 1 bytes b
         → a ≡ b }

@@ -8,8 +8,8 @@ ghost use Rattle.desk_base.specs.Profiles.{profile_number, profile_numbered};
 pub enum Profile {
     /// In capitals alone: `AND`, `OR`, `WITH` (SPDX 2.3, Annex D.4).
     Capitals,
-    /// In capitals or wholly in small letters: also `and`, `or`, `with`. Many documents write them
-    /// so.
+    /// In capitals or wholly in small letters: also `and`, `or`, `with`, as many documents write
+    /// them.
     Either,
 }
 

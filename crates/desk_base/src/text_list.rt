@@ -7,11 +7,11 @@ use crate::text::Text;
 use std::alloc::{AllocError, Global};
 use std::marker::Model;
 
-/// An owned list of texts in one buffer, seen as the list of the texts' bytes. Beside its own
-/// bytes each text takes four more.
+/// An owned list of texts in one buffer, seen as the list of the texts' bytes. Each text takes four
+/// bytes besides its own.
 #[derive(Drop)]
 pub struct TextList {
-    // The texts, one behind the other.
+    // The texts, one after another.
     bytes: String,
     // Where each ends.
     ends: Vec<u32>,
@@ -38,7 +38,7 @@ fn start_of(ends: &[u32], place: usize) -> u32
 }
 
 impl TextList {
-    /// The list of nothing.
+    /// An empty list.
     pub fn new(alloc: Global) -> TextList
         ensures { result ≡ [] }
     {
@@ -64,7 +64,7 @@ impl TextList {
         &self.bytes[start as usize..self.ends[place] as usize]
     }
 
-    /// The texts, each in memory of its own.
+    /// The texts, each in its own memory.
     pub fn to_items(&self, alloc: Global) -> Result<Items<Text>, AllocError>
         ensures { IfOk result (λ items. items ≡ self.now) }
     {
@@ -75,8 +75,8 @@ impl TextList {
         Ok(items)
     }
 
-    /// Adds a text at the end. All of them have fewer than 2 ^ 32 bytes together, and there is no
-    /// memory for more.
+    /// Adds a text at the end. If all texts together would have 2 ^ 32 bytes or more, it fails as
+    /// if no memory were left.
     pub fn push(&mut self, text: &str) -> Result<(), AllocError>
         ensures ok { OnOk result (self.new ≡ self.old ++ text.now ∷ []) }
         ensures err { OnErr result (self.new ≡ self.old) }
@@ -84,7 +84,7 @@ impl TextList {
         let Ok(end) = u32::try_from(self.bytes.len() + text.len()) else {
             return Err(AllocError);
         };
-        // With room for the text its end is never added alone.
+        // Room for the text is reserved first, so that its end is never added alone.
         self.bytes.reserve(text.len())?;
         self.ends.push(end)?;
         self.bytes.push_str(text)

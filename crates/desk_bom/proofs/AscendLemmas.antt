@@ -24,7 +24,7 @@ ascend_take n xs up i j d lt within =
     let l = length-take n xs in
     subst (λ y. IsBefore y (get_or (take n xs) j d)) (sym (get_or-take n xs i d (omega arith))) (subst (λ y. IsBefore (get_or xs i d) y) (sym (get_or-take n xs j d (omega arith))) (up i j d lt (omega arith)))
 
--- they stand by where they come from
+-- they are sorted by where they come from
 pub ascend_from : (xs : List Arrow) → Ascend xs → IsNonDecreasingBy (λ x. x.from) xs
 ascend_from xs up i j d le within =
     elim (cases_lt i j) [
@@ -32,7 +32,7 @@ ascend_from xs up i j d le within =
       | inr ge ↦ let e : i ≡ j = omega arith in omega (arith, ap (λ k. (get_or xs k d).from) e)
     ]
 
--- where they come from one place, what they lead to rises
+-- if they come from one place, what they lead to rises
 pub ascend_to : (xs : List Arrow) (place : ℕ) → Ascend xs → ((x : Arrow) → Contains xs x → x.from ≡ place) → IsStrictlyIncreasing (map (λ x. x.to) xs)
 ascend_to xs place up from k within =
     let long = length-map xs (λ (x : Arrow). x.to) in
@@ -45,7 +45,7 @@ ascend_to xs place up from k within =
     subst (λ m. m < get_or (map (λ (x : Arrow). x.to) xs) (k + 1) 0) (sym (get_or-map (λ (x : Arrow). x.to) xs k d 0 here))
     (subst (λ m. (get_or xs k d).to < m) (sym (get_or-map (λ (x : Arrow). x.to) xs (k + 1) d 0 next)) rises)
 
--- what is in order after a sort and has each once
+-- what is in order after it was sorted and has each arrow once
 before_from_less : (x y : Arrow) → ordering_then (nat_cmp x.from y.from) (nat_cmp x.to y.to) ≡ Less → IsBefore x y
 before_from_less x y less = at (nat_cmp x.from y.from) (nat_cmp x.to y.to) (ranks x.from y.from) (ranks x.to y.to) less
   where

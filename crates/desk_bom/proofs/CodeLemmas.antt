@@ -33,7 +33,7 @@ pub not_list : (text rest : List ℕ) (r : Option (Bor (List ℕ))) → rest ≡
 not_list text rest None is h = false_and (starts_with eqb text (codes "(")) (ends_with eqb (drop 1 text) (codes ")")) (ap (λ l. ends_with eqb l (codes ")")) (sym is) ∙ sym (ends_text false (codes ")") rest h))
 not_list text rest (Some x) is h = tt
 
--- digests in front of others, if those are there
+-- digests before others, if those are there
 abbrev pub behind_front : List (List ℕ) → Option (List (List ℕ)) → Option (List (List ℕ))
 behind_front xs None = None
 behind_front xs (Some ys) = Some (xs ++ ys)
@@ -53,7 +53,7 @@ hex_at xs i inside all = at (is_hex (get_or xs i 0)) refl
     at true e = e
     at false e = let f = list_all_at is_hex xs i 0 inside e in absurd cc
 
--- where the text can't be cut behind 40 bytes, it begins with no 40 digits
+-- if the text can't be cut after 40 bytes, it doesn't begin with 40 digits
 pub not_cut : (value : List ℕ) → IsUtf8 value → (IsCharBoundary value 40 → ⊥) → is_code value ≡ false
 not_cut value utf8 uncut = at (is_code value) refl
   where
@@ -72,7 +72,7 @@ small_at [] k h = refl
 small_at (x ∷ xs) zero h = cc
 small_at (x ∷ xs) (suc k) h = small_at xs k cc
 
--- small digits stay
+-- digits in lower case stay as they are
 pub folded-encode : (ds : List ℕ) → folded (encode_lower ds) ≡ encode_lower ds
 unfolding encode_with
 folded-encode [] = refl

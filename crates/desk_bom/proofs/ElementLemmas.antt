@@ -27,7 +27,7 @@ ids_joined ps fs ss a b c e is_a is_b is_c is_e =
     ∙ ap (λ l. codes "SPDXRef-DOCUMENT" ∷ (map (λ p. p.id) (map package_text ps) ++ (l ++ map (λ s. s.id.now) ss))) (sym (map-map (λ (f : FileText). f.id) file_text fs))
     ∙ ap (λ l. codes "SPDXRef-DOCUMENT" ∷ (map (λ p. p.id) (map package_text ps) ++ (map (λ f. f.id) (map file_text fs) ++ l))) (sym (map-map (λ (s : SnippetText). s.id) snippet_text ss))
 
--- a place lies within
+-- a place is within the list
 pub place_within : (id : List ℕ) (ids : List (List ℕ)) (n : ℕ) → place_of id ids ≡ Some n → n < length ids
 place_within id [] n e = absurd cc
 place_within id (x ∷ xs) n e = at (bytes_eq x id) (place_of id xs) (place_within id xs) e

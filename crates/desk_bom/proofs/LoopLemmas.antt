@@ -22,7 +22,7 @@ module _ {X Y : Type 0} (f : X → Y) (xs : List X) (i : ℕ) (d : X) (inside : 
   pub kept_over : {Z : Type 0} (h : Y → Option Z) (found : List Z) → h (f (get_or xs i d)) ≡ None → found ++ filter_map h (map f (drop (i + 1) xs)) ≡ found ++ filter_map h (map f (drop i xs))
   kept_over h found gone = ap (λ o. found ++ cons_option o (filter_map h (map f (drop (i + 1) xs)))) (sym gone) ∙ ap (λ l. found ++ filter_map h l) (sym seen_more)
 
--- one text more behind those joined so far
+-- one more text after those joined so far
 pub concat_more : (xs : List (List ℕ)) (i : ℕ) (d : List ℕ) → i < length xs → concat (take i xs) ++ get_or xs i d ≡ concat (take (i + 1) xs)
 concat_more xs i d inside =
     ap (λ l. concat (take i xs) ++ l) (sym (append-nil (get_or xs i d))) ∙ sym (concat-append (take i xs) (get_or xs i d ∷ [])) ∙ ap concat (sym (take_more xs i d inside))

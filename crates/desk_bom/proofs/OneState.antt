@@ -1,4 +1,4 @@
--- Some digests have one code, a package has one list of files, and its code has one state.
+-- Digests have only one code, a package has only one list of files, and its code has only one state.
 use Rattle.std.proofs.Common.{◌≡◌, ◌∙◌, ◌⊎◌, inl, inr, ℕ, zero, suc, ◌+◌, ◌<◌, ◌≤◌, Bool, true, false, cond, List, [], ◌∷◌, length, get_or, ap, ap₂, sym, subst, refl, arith, Some, None}
 use Rattle.std.specs.Prelude.{Contains, slice_get, map}
 use Rattle.std.specs.Cmp.{IsTotalOrder}
@@ -56,13 +56,13 @@ module _ {K : Type 0} (R : K → K → Ordering) (o : IsTotalOrder R) (same : Is
       let e : suc k + 1 ≡ suc (k + 1) = omega arith in
       subst (λ i. is_lt (R (get_or (x ∷ xs) i d) (get_or xs k d)) ≡ false) e (up (suc k) d (omega arith) (omega arith))
 
-  -- the first of one is not below the first of the other
+  -- the first of one list is not below the first of the other
   not_before : (x y : K) (xs ys : List K) → IsSorted R (x ∷ xs) → ((f : K → ℕ) → sum_by f (x ∷ xs) ≡ sum_by f (y ∷ ys)) → is_lt (R y x) ≡ false
   not_before x y xs ys up sums =
       let f : K → ℕ = λ z. cond (is_lt (R z x)) 1 0 in
       lowest (is_lt (R y x)) (sum_by f ys) (sym (sum_by-cons f y ys) ∙ (sym (sums f) ∙ none_before x xs up))
 
-  -- two sorted lists over which each sum is the same are one list
+  -- two sorted lists over which each sum is the same are equal
   pub one_sorted : (a b : List K) → IsSorted R a → IsSorted R b → ((f : K → ℕ) → sum_by f a ≡ sum_by f b) → a ≡ b
   one_sorted [] [] up up' sums = refl
   one_sorted [] (y ∷ ys) up up' sums = absurd (omega (arith, sums (λ _. 1), sum_by-cons (λ (_ : K). 1) y ys))
@@ -93,7 +93,7 @@ first_or_later : (x j : ℕ) (xs : List ℕ) → Contains (x ∷ xs) j → (x �
 first_or_later x j xs (zero, within, is) = inl is
 first_or_later x j xs (suc k, within, is) = inr (k, omega arith, is)
 
--- what stands in a list that begins no lower, stands in a list of the same numbers behind its first
+-- an item after the first of a list that begins no lower also comes after the first of a list of the same numbers
 later_too : (x y j : ℕ) (xs ys : List ℕ) → x ≡ y → AllPairs (λ a b. a < b) (x ∷ xs) → ((j : ℕ) → Contains (x ∷ xs) j → Contains (y ∷ ys) j) → Contains xs j → Contains ys j
 later_too x y j xs ys first up also at =
     elim (first_or_later y j ys (also j (suc at.0, omega (arith, at.1), at.2))) [
@@ -101,7 +101,7 @@ later_too x y j xs ys first up also at =
       | inr later ↦ later
     ]
 
--- the first of one is no higher than the first of the other
+-- the first of one list is no higher than the first of the other
 no_higher : (x y : ℕ) (xs ys : List ℕ) → AllPairs (λ a b. a < b) (x ∷ xs) → ((j : ℕ) → Contains (y ∷ ys) j → Contains (x ∷ xs) j) → x ≤ y
 no_higher x y xs ys up also =
     elim (first_or_later x y xs (also y (zero, omega arith, refl))) [
@@ -128,7 +128,7 @@ one_list_of_files d owner fs gs a b =
     (λ j at. (b.members j).1 ((a.members j).0 at)) (λ j at. (a.members j).1 ((b.members j).0 at)) in
     a.are ∙ (ap (filter_map (slice_get d.files)) places ∙ sym b.are)
 
--- where a code is that of the digests, it isn't another
+-- if a code is that of the digests, it isn't another one
 not_both : (p : PackageText) (fs : List FileText) → IsStateOf p fs Agrees → IsStateOf p fs Differs → ⊥
 not_both p fs (v, ds, code, has, told, is, same) (w, es, other, had, said, be, differs) =
     let values : v ≡ w = cc in
@@ -160,7 +160,7 @@ state_of_once p fs Differs Unchecked is be = absurd (unchecked p fs be.0 is.0 is
 state_of_once p fs Differs Agrees is be = absurd (not_both p fs be is)
 state_of_once p fs Differs Differs is be = refl
 
--- a state that is told of files is one of those that the package has
+-- a state that is given for files is one of those that the package has
 with_files : (d : DocumentText) (k : ℕ) (p : PackageText) (s t : CodeState) (fs gs : List FileText) → AreFilesOf d k fs → IsStateOf p fs s → AreFilesOf d k gs → IsStateOf p gs t → s ≡ t
 with_files d k p s t fs gs own is other be = state_of_once p fs s t is (subst (λ l. IsStateOf p l t) (one_list_of_files d k gs fs other own) be)
 

@@ -22,7 +22,7 @@ use Rattle.desk_bom.specs.Shipping.{ships_right, ships_left, arrow_between, ship
 use Rattle.desk_bom.proofs.ElementLemmas.{place_within}
 use Rattle.desk_tagvalue.specs.Parts.{DocumentText, PackageText, EdgeText}
 
--- where there is an arrow, it leads to less than n
+-- if there is an arrow, it leads to less than n
 abbrev IsWithin : ℕ → Option Arrow → Type 0
 IsWithin n None = Unit {0}
 IsWithin n (Some x) = x.to < n

@@ -1,4 +1,4 @@
--- Identifiers in slots, and in a tree where another one has the slot.
+-- Identifiers in slots, or in a tree if another one has the slot.
 use Rattle.std.proofs.Common.{◌≡◌, ◌∙◌, inl, inr, ℕ, suc, ◌+◌, ◌<◌, ◌≤◌, Bool, true, false, cond, List, [], ◌∷◌, ◌++◌, length, take, drop, get_or, set, ap, sym, subst, refl, arith, length-set, length-take, get_or-set_same, get_or-set_other}
 use Rattle.std.specs.Prelude.{Option, Some, None, ◌&&◌}
 use Rattle.std.specs.Option.{is_some}
@@ -23,7 +23,7 @@ or_nothing : (place : Option ℕ) → or_else place None ≡ place
 or_nothing None = refl
 or_nothing (Some n) = refl
 
--- one identifier more
+-- one more identifier
 place_of_last : (q x : List ℕ) (xs : List (List ℕ)) → place_of q (xs ++ x ∷ []) ≡ or_else (place_of q xs) (cond (bytes_eq x q) (Some (length xs)) None)
 place_of_last q x [] = refl
 place_of_last q x (y ∷ ys) = ap (λ place. cond (bytes_eq y q) (Some 0) (later place)) (place_of_last q x ys) ∙ at (bytes_eq y q) (place_of q ys) (bytes_eq x q)
@@ -38,7 +38,7 @@ nothing_from : (place : Option ℕ) → is_some place ≡ false → place ≡ No
 nothing_from None e = refl
 nothing_from (Some n) e = absurd cc
 
--- a place that is there goes before any other
+-- a place that is there comes before any other
 first_stays : (place other : Option ℕ) → is_some place ≡ true → place ≡ or_else place other
 first_stays None other e = absurd cc
 first_stays (Some n) other e = refl
@@ -57,7 +57,7 @@ module _ (ids : List (List ℕ)) (n : ℕ) (inside : n < length ids) where
   other_stays : (q : List ℕ) (place : Option ℕ) → bytes_eq x q ≡ false → place ≡ place_of q (take n ids) → place ≡ place_of q (take (n + 1) ids)
   other_stays q place apart is = is ∙ sym (or_nothing (place_of q (take n ids))) ∙ ap (λ b. or_else (place_of q (take n ids)) (cond b (Some n) None)) (sym apart) ∙ sym (place_next q)
 
-  -- the text itself stands here, if it wasn't found
+  -- the text itself is here, if it wasn't found
   itself_here : (q : List ℕ) → x ≡ q → place_of x (take n ids) ≡ None → Some n ≡ place_of q (take (n + 1) ids)
   itself_here q same none =
       ap (λ b. cond b (Some n) None) (sym ((bytes_eq-Decides x q).1 same)) ∙ ap (λ place. or_else place (cond (bytes_eq x q) (Some n) None)) (sym (ap (λ t. place_of t (take n ids)) (sym same) ∙ none)) ∙ sym (place_next q)
@@ -141,6 +141,6 @@ pub finds_none : (ids : List (List ℕ)) (slots : List ℕ) (tree : BTreeMap (Bo
 finds_none ids slots tree free none q =
     ap (λ b. cond (b && bytes_eq (get_or ids (held_for slots q) []) q) (Some (held_for slots q)) (place_in tree q)) (le-ltb (held_for slots q) (length ids) (free q)) ∙ none q
 
--- what is written back of all of a list is the new list
+-- if all of a list is written back, the result is the new list
 pub back_whole : (n : ℕ) (new old : List ℕ) → length new ≡ length old → n ≡ length old → take n (new ++ drop (length new) old) ≡ new
 back_whole n new old same whole = take-append-le n new (drop (length new) old) (omega arith) ∙ take_all n new (omega arith)

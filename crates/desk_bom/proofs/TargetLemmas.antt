@@ -10,7 +10,7 @@ use Rattle.std.proofs.lemmas.Bool.{ltb-true, ltb-false, cases_lt}
 use Rattle.desk_bom.specs.declared.arrows.Arrow.{Arrow}
 use Rattle.desk_bom.specs.Targets.{AreTargets}
 
--- all from one on that comes from a higher place do
+-- if an arrow comes from a higher place, so do all from it on
 pub above_all : (xs : List Arrow) (place i n : ℕ) (e : Arrow) → IsNonDecreasingBy (λ x. x.from) xs → i < length xs → place < (get_or xs i e).from → n ≡ i → AllWithin (λ x. place < x.from) xs n (length xs)
 above_all xs place i n e up inside high same k d ge within =
     let a = up i k d (omega arith) within in

@@ -11,7 +11,7 @@ use Rattle.desk_bom.specs.declared.arrows.Arrow.{Arrow}
 use Rattle.desk_bom.specs.Marks.{among, added, added_all, IsClosedFrom, IsLeastFrom}
 use Rattle.desk_bom.specs.Targets.{AreTargets}
 
--- so many of the reached places were walked from: what their arrows lead to was reached, and what was reached is in each closed set
+-- from this many of the reached places the walk went on: what their arrows lead to was reached, and what was reached is in each closed set
 pub record Walks (start : ℕ → Bool) (arrows : List Arrow) (order : List ℕ) (done : ℕ) : Type 0 where
   pub starts : (a : ℕ) → start a ≡ true → among order a ≡ true
   pub within : (x : Arrow) → Contains arrows x → among order x.from ≡ true → (among order x.to || among (drop done order) x.from) ≡ true
@@ -142,7 +142,7 @@ module _ (start : ℕ → Bool) (arrows : List Arrow) (order : List ℕ) (done p
       subst (λ b. other b ≡ true) t.2 (closed.arrows_within t.0 it.0 (subst (λ b. other b ≡ true) (sym it.1) (w.least other closed place (at_place order done place inside is)))))
       (or_cases (among order a) (among (map (λ x. x.to) ts) a) (sym (among-added_all (map (λ x. x.to) ts) order a) ∙ h))
 
-  -- one place more was walked from
+  -- one more place was walked from
   pub walks_more : Walks start arrows (added_all (map (λ x. x.to) ts) order) (done + 1)
   unfolding reached
   walks_more = record {
@@ -179,7 +179,7 @@ walks_all start arrows order done past w = record {
 pub targets_within : (count : ℕ) (arrows ts : List Arrow) (place : ℕ) → AreTargets arrows place ts → All (λ x. x.to < count) arrows → All (λ x. x.to < count) ts
 targets_within count arrows ts place targets all k d h = All-contains (λ x. x.to < count) arrows (get_or ts k d) all (targets.only (get_or ts k d) (Contains-get_or ts k d h)).0
 
--- the least set is one of the starts and the arrows, whatever the arrows' order
+-- the least set depends only on the starts and the arrows, and not on the arrows' order
 pub least_same : (start begun : ℕ → Bool) (xs ys : List Arrow) (set : ℕ → Bool) → ((a : ℕ) → begun a ≡ start a) → IsPermutation xs ys → IsLeastFrom begun ys set → IsLeastFrom start xs set
 least_same start begun xs ys set same moved l = record {
   closed = record {

@@ -22,7 +22,7 @@ use Rattle.desk_bom.specs.Contents.{AreFilesOf}
 use Rattle.desk_bom.specs.Places.{place_of}
 use Rattle.desk_base.specs.Borrowed.{texts}
 
--- the code of some digests: each as 40 small digits, sorted, joined; the SHA1 of that text in small digits
+-- the code of digests: each as 40 hexadecimal digits in lower case, sorted, joined; the SHA1 of that text, in the same form
 pub record IsCode (digests : List (List ℕ)) (code : List ℕ) : Type 0 where
   pub texts : List (List ℕ)
   pub same : IsPermutation (map encode_lower digests) texts
@@ -34,18 +34,18 @@ pub record IsCode (digests : List (List ℕ)) (code : List ℕ) : Type 0 where
 abbrev pub code_digits : List ℕ → List ℕ
 code_digits value = take 40 value
 
--- what stands between ( and ), directly behind the digits or behind blanks
+-- what is between ( and ), directly after the digits or after blanks
 abbrev pub code_list : List ℕ → List ℕ
 code_list value = skip_blanks (drop 40 value)
 
 abbrev pub is_list : List ℕ → Bool
 is_list text = starts_with nat_eq text (codes "(") && ends_with nat_eq (drop 1 text) (codes ")")
 
--- 40 hexadecimal digits, and then nothing or a list
+-- 40 hexadecimal digits, followed by nothing or by a list
 abbrev pub is_code : List ℕ → Bool
 is_code value = nat_le 40 (length value) && list_all is_hex (code_digits value) && (length value == 40 || is_list (code_list value))
 
--- without what stands before the names
+-- without what precedes the names
 abbrev pub names_in : List ℕ → List ℕ
 names_in inner = if starts_with nat_eq inner (codes "excludes: ") then drop 10 inner else inner
 
@@ -57,7 +57,7 @@ plain name = if starts_with nat_eq name (codes "./") then drop 2 name else name
 abbrev pub names_of : List ℕ → List (List ℕ)
 names_of text = map (λ name. plain (trimmed name)) (slice_split (λ b. b == 44) text)
 
--- what stands between ( and )
+-- what is between ( and )
 abbrev pub inner_of : List ℕ → List ℕ
 inner_of text = take (length (drop 1 text) - 1) (drop 1 text)
 
@@ -65,12 +65,12 @@ inner_of text = take (length (drop 1 text) - 1) (drop 1 text)
 abbrev pub excluded_by : List ℕ → List (List ℕ)
 excluded_by value = if length value == 40 then [] else names_of (names_in (inner_of (code_list value)))
 
--- the same of what was read of it
+-- the same, from what was read of it
 abbrev pub excluded_names : Option (List ℕ) → List (List ℕ)
 excluded_names None = []
 excluded_names (Some text) = names_of text
 
--- ---- what a code says of a package's files
+-- ---- what a code says about a package's files
 
 abbrev pub is_excluded : List (List ℕ) → FileText → Bool
 is_excluded names f = list_any (λ name. bytes_eq name (plain f.name)) names
@@ -89,16 +89,16 @@ abbrev pub digests_of : List (List ℕ) → List FileText → Option (List (List
 digests_of names [] = Some []
 digests_of names (f ∷ fs) = if is_excluded names f then digests_of names fs else both (digest_spelled f.sha1) (digests_of names fs)
 
--- FilesAnalyzed is false (clause 7.8), in capitals or small letters
+-- FilesAnalyzed is false (clause 7.8), ignoring case
 abbrev pub is_unanalyzed : Option (List ℕ) → Bool
 is_unanalyzed None = false
 is_unanalyzed (Some flag) = bytes_eq (folded flag) (codes "false")
 
--- the digests of which a code tells, if FilesAnalyzed isn't false, the code is one, and each file that it doesn't exclude has a digest
+-- the digests that a code covers, if FilesAnalyzed isn't false, the code is one, and each file that it doesn't exclude has a digest
 abbrev pub checked_digests : Option (List ℕ) → List ℕ → List FileText → Option (List (List ℕ))
 checked_digests flag value fs = if is_unanalyzed flag || not (is_code value) then None else digests_of (excluded_by value) fs
 
--- what the code of a package says of its files
+-- what the code of a package says about its files
 abbrev pub IsStateOf : PackageText → List FileText → CodeState → Type 0
 IsStateOf p fs states.Absent = p.verification_code ≡ None
 IsStateOf p fs states.Unchecked = (value : List ℕ) × (p.verification_code ≡ Some value) × (checked_digests p.files_analyzed value fs ≡ None)
@@ -109,18 +109,18 @@ IsStateOf p fs states.Differs =
     (value : List ℕ) × (digests : List (List ℕ)) × (code : List ℕ)
     × (p.verification_code ≡ Some value) × (checked_digests p.files_analyzed value fs ≡ Some digests) × IsCode digests code × (folded (code_digits value) ≢ code)
 
--- the same of the files that a package has
+-- the same for the files that a package has
 abbrev pub IsStateAt : DocumentText → ℕ → PackageText → CodeState → Type 0
 IsStateAt d k p states.Absent = p.verification_code ≡ None
 IsStateAt d k p state = (fs : List FileText) × AreFilesOf d k fs × IsStateOf p fs state
 
--- the state of the code of a package, told by its place
+-- the state of the code of a package, given its place
 pub record IsState (d : DocumentText) (k : ℕ) (state : CodeState) : Type 0 where
   pub owner : PackageText
   pub at : slice_get d.packages k ≡ Some owner
   pub is : IsStateAt d k owner state
 
--- what digests there are
+-- the digests, if there are any
 abbrev pub items_of : Option (Vec (List ℕ) Global) → Option (List (List ℕ))
 items_of None = None
 items_of (Some v) = Some v.items
@@ -129,7 +129,7 @@ items_of (Some v) = Some v.items
 abbrev pub files_at : List FileText → List Arrow → List FileText
 files_at files arrows = filter_map (slice_get files) (map (λ x. x.to) arrows)
 
--- whether a name is among those that were noted
+-- whether a name is among those that were collected
 abbrev pub is_noted : Option Places → List ℕ → Bool
 is_noted None q = false
 is_noted (Some places) q = is_some (place_of q (texts places.ids.items))

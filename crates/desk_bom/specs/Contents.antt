@@ -1,5 +1,5 @@
--- The files of a package: those between its PackageName and the next one (SPDX 2.3, clause 4.4), and those that a relationship
--- CONTAINS or CONTAINED_BY (clause 11.1) ties to it.
+-- The files of a package: those between its PackageName and the next one (SPDX 2.3, clause 4.4), and those that a relationship CONTAINS or CONTAINED_BY (clause
+-- 11.1) ties to it.
 use Rattle.std.specs.Prelude.{◌≡◌, ◌↔◌, ℕ, ◌+◌, ◌-◌, ◌==◌, nat_lt, nat_le, ◌&&◌, List, [], ◌∷◌, ◌++◌, length, Option, Some, None, codes, if◌then◌else◌, Contains, slice_get, option_and_then}
 use Rattle.std.specs.List.{filter_map}
 use Rattle.std.specs.List.Sorted.{IsStrictlyIncreasing}
@@ -12,11 +12,11 @@ use Rattle.desk_bom.specs.declared.arrows.Arrow.{Arrow}
 use Rattle.desk_bom.specs.Elements.{element_named}
 use Rattle.desk_bom.specs.Shipping.{arrow_between}
 
--- the file with a number stands in the last of so many packages
+-- the file with a number belongs to the last of this many packages
 abbrev pub onto_package : ℕ → ℕ → List Arrow → List Arrow
 onto_package packages file more = if packages == 0 then more else record { from = packages - 1; to = file } ∷ more
 
--- the files between a PackageName and the next one, where so many packages and files stand before
+-- the files between a PackageName and the next one, after this many packages and files
 abbrev pub own_files : ℕ → ℕ → List EntryText → List Arrow
 own_files packages files [] = []
 own_files packages files (e ∷ es) =
@@ -24,7 +24,7 @@ own_files packages files (e ∷ es) =
     else (if same_tag e.tag tags.FileName then onto_package packages files (own_files packages (files + 1) es)
     else own_files packages files es)
 
--- the package, the file that is an element
+-- the package, or the file, that is an element
 abbrev pub package_at : DocumentText → ℕ → Option ℕ
 package_at d place = if nat_lt 0 place && nat_le place (length d.packages) then Some (place - 1) else None
 

@@ -1,5 +1,4 @@
--- The elements of a document (SPDX 2.3, clauses 6 to 9), each told by its place: the document itself, the packages, the
--- files, the snippets.
+-- The elements of a document (SPDX 2.3, clauses 6 to 9), each identified by its place: the document itself, the packages, the files, the snippets.
 use Rattle.std.specs.Prelude.{ℕ, List, ◌∷◌, ◌++◌, map, Option, codes}
 use Rattle.desk_bom.specs.declared.elements.Elements.{Elements}
 use Rattle.desk_bom.specs.Places.{place_of}
@@ -23,7 +22,7 @@ element_ids d = codes "SPDXRef-DOCUMENT" ∷ (package_ids d ++ (file_ids d ++ sn
 abbrev pub element_named : DocumentText → List ℕ → Option ℕ
 element_named d id = place_of id (element_ids d)
 
--- the element that an identifier names, by what was noted of a document
+-- the element that an identifier names, by what was collected of a document
 abbrev pub element_noted : Elements → List ℕ → Option ℕ
 element_noted es id = place_of id (texts es.places.ids.items)
 

@@ -1,4 +1,4 @@
--- That the files of a document's packages were noted.
+-- That the files of a document's packages were collected.
 use Rattle.std.specs.Prelude.{◌↔◌, Contains}
 use Rattle.desk_bom.specs.declared.arrows.Arrow.{Arrow}
 use Rattle.desk_bom.specs.declared.contents.Contents.{Contents}

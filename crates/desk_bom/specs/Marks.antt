@@ -3,7 +3,7 @@ use Rattle.std.specs.Prelude.{◌≡◌, ℕ, ◌==◌, Bool, true, List, [], �
 use Rattle.std.specs.List.{list_any}
 use Rattle.desk_bom.specs.declared.arrows.Arrow.{Arrow}
 
--- a set that has its starts and, with each place, those that the arrows lead to
+-- a set that has its starts and, with each place, those to which the arrows lead from it
 pub record IsClosedFrom (start : ℕ → Bool) (arrows : List Arrow) (set : ℕ → Bool) : Type 0 where
   pub starts : (a : ℕ) → start a ≡ true → set a ≡ true
   pub arrows_within : (x : Arrow) → Contains arrows x → set x.from ≡ true → set x.to ≡ true

@@ -1,4 +1,4 @@
--- That the elements of a document were noted.
+-- That the elements of a document were collected.
 use Rattle.std.specs.Prelude.{◌≡◌, ℕ, List, length}
 use Rattle.desk_bom.specs.declared.elements.Elements.{Elements}
 use Rattle.desk_bom.specs.Elements.{element_ids, element_named, element_noted, element_count}

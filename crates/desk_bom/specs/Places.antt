@@ -11,7 +11,7 @@ abbrev pub later : Option ℕ → Option ℕ
 later None = None
 later (Some n) = Some (n + 1)
 
--- the place of an identifier among others, the first if it stands twice
+-- the place of an identifier among others, the first if it occurs twice
 abbrev pub place_of : List ℕ → List (List ℕ) → Option ℕ
 place_of id [] = None
 place_of id (x ∷ xs) = if bytes_eq x id then Some 0 else later (place_of id xs)
@@ -20,7 +20,7 @@ place_of id (x ∷ xs) = if bytes_eq x id then Some 0 else later (place_of id xs
 abbrev pub ending : ℕ → List ℕ → ℕ
 ending count id = from_le_bytes w64 (drop (length id - count) id)
 
--- eight of them, or where there are fewer four or two
+-- eight of them, or four or two if there are fewer
 abbrev pub tail_number : List ℕ → ℕ
 tail_number id =
     if nat_le 8 (length id) then ending 8 id
@@ -28,7 +28,7 @@ tail_number id =
     else (if nat_le 2 (length id) then ending 2 id
     else 0))
 
--- the slot of an identifier among so many
+-- the slot of an identifier among this many
 abbrev pub slot_of : List ℕ → ℕ → ℕ
 slot_of id slots = tail_number id % slots
 
@@ -40,7 +40,7 @@ place_in m id = get_by (λ (k : Bor (List ℕ)). slice_cmp nat_cmp id k.now) m
 abbrev pub held_for : List ℕ → List ℕ → ℕ
 held_for slots id = slice_index_or slots (slot_of id (length slots)) 0
 
--- at a place stands an identifier
+-- this identifier is at a place
 abbrev pub stands_at : List (List ℕ) → ℕ → List ℕ → Bool
 stands_at ids place id = nat_lt place (length ids) && bytes_eq (slice_index_or ids place []) id
 
@@ -48,6 +48,6 @@ stands_at ids place id = nat_lt place (length ids) && bytes_eq (slice_index_or i
 abbrev pub found : List (List ℕ) → List ℕ → BTreeMap (Bor (List ℕ)) ℕ → List ℕ → Option ℕ
 found ids slots tree id = if stands_at ids (held_for slots id) id then Some (held_for slots id) else place_in tree id
 
--- so many identifiers are found at their first places, and no others
+-- the first `count` identifiers are found at their first places, and no others
 abbrev pub Finds : ℕ → List (List ℕ) → List ℕ → BTreeMap (Bor (List ℕ)) ℕ → Type 0
 Finds count ids slots tree = (id : List ℕ) → found ids slots tree id ≡ place_of id (take count ids)

@@ -1,5 +1,4 @@
--- The packages that a document ships. The types of relationships are those of SPDX 2.3, clause 11.1; which of them ship is
--- this project's rule.
+-- The packages that a document ships. The types of relationships are those of SPDX 2.3, clause 11.1; which of them ship is this project's own rule.
 use Rattle.std.specs.Prelude.{◌≡◌, ℕ, ◌+◌, ◌==◌, ◌&&◌, ◌||◌, not, nat_le, Bool, true, false, List, [], length, filter, map, Option, Some, None, codes, if◌then◌else◌, slice_index_or}
 use Rattle.std.specs.List.{list_any, filter_map, range_with_len}
 use Rattle.std.specs.List.Sorted.{IsPermutation, IsSorted}
@@ -27,7 +26,7 @@ abbrev pub arrow_between : Option ℕ → Option ℕ → Option Arrow
 arrow_between (Some a) (Some b) = Some (record { from = a; to = b })
 arrow_between _ _ = None
 
--- from which element to which a relationship ships, where both are elements of the document
+-- from which element to which a relationship ships, if both are elements of the document
 abbrev pub shipping_arrow : DocumentText → EdgeText → Option Arrow
 shipping_arrow d e =
     if ships_right e.kind then arrow_between (element_named d e.left) (element_named d e.right)
@@ -50,7 +49,7 @@ describes d e =
 abbrev pub is_described : DocumentText → Bool
 is_described d = list_any (describes d) d.edges
 
--- the document itself; and each package, where nothing is described
+-- the document itself; and each package, if nothing is described
 abbrev pub is_start : DocumentText → ℕ → Bool
 is_start d a = a == 0 || not (is_described d) && nat_le 1 a && nat_le a (length d.packages)
 
@@ -64,7 +63,7 @@ pub record AreShipped (d : DocumentText) (places : List ℕ) : Type 0 where
   -- by their identifiers
   pub ordered : IsSorted (λ j k. slice_cmp nat_cmp (slice_index_or (package_ids d) j []) (slice_index_or (package_ids d) k [])) places
 
--- of each package, in the order of the document, whether it ships
+-- for each package, in the order of the document, whether it ships
 pub record AreShippingMarks (d : DocumentText) (marks : List Bool) : Type 0 where
   pub set : ℕ → Bool
   pub least : IsLeastFrom (is_start d) (shipping_arrows d) set

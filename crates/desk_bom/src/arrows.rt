@@ -17,7 +17,7 @@ pub(crate) struct Arrow {
     pub to: usize,
 }
 
-/// The arrow between two places, where both are there.
+/// The arrow between two places, if both are there.
 pub(crate) fn arrow_between(from: Option<usize>, to: Option<usize>) -> Option<Arrow>
     ensures { result ≡ arrow_between from to }
 {
@@ -27,7 +27,7 @@ pub(crate) fn arrow_between(from: Option<usize>, to: Option<usize>) -> Option<Ar
     }
 }
 
-/// The places that a walk has reached, in order, each also marked.
+/// The places that a walk has reached, in order, each of them also marked.
 #[derive(Drop)]
 pub(crate) struct Reached {
     marks: Vec<bool>,
@@ -37,7 +37,7 @@ pub(crate) struct Reached {
 }
 
 impl Reached {
-    /// No place of so many.
+    /// A walk that has reached none of this many places.
     pub(crate) fn new(alloc: Global, count: usize) -> Result<Reached, AllocError>
         ensures order { IfOk result (λ r. r.order.items ≡ []) }
         ensures count { IfOk result (λ r. length r.marks.items ≡ count) }
@@ -82,7 +82,7 @@ impl Reached {
         Ok(())
     }
 
-    /// Reaches what the arrows lead to from what was reached, and from there on. They stand by
+    /// Reaches what the arrows lead to from what was reached, and from there on. They are sorted by
     /// where they come from.
     pub(crate) fn walk(&mut self, arrows: &[Arrow]) -> Result<(), AllocError>
         requires sorted { IsNonDecreasingBy (λ x. x.from) arrows.now }
@@ -100,7 +100,7 @@ impl Reached {
     }
 }
 
-// How many arrows come from no higher place. They stand first.
+// How many arrows come from no higher place. They come first.
 fn count_upto(arrows: &[Arrow], place: usize) -> usize
     requires { IsNonDecreasingBy (λ x. x.from) arrows.now }
     ensures within { result ≤ length arrows.now }
@@ -117,8 +117,8 @@ fn count_upto(arrows: &[Arrow], place: usize) -> usize
     count
 }
 
-/// The arrows that come from a place. Who asks for them walks over them, so their end is found by a
-/// walk too.
+/// The arrows that come from a place. Callers go over all of them, so their end is found by going
+/// over them too.
 pub(crate) fn targets(arrows: &[Arrow], place: usize) -> &[Arrow]
     requires { IsNonDecreasingBy (λ x. x.from) arrows.now }
     ensures targets { AreTargets arrows.now place result.now }

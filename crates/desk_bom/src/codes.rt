@@ -9,7 +9,7 @@ ghost use Rattle.desk_bom.specs.Codes.{IsCode};
 use sha1::Sha1;
 use std::alloc::{AllocError, Global};
 
-// A digest as 40 small hexadecimal digits.
+// A digest as 40 hexadecimal digits in lower case.
 fn digits_of(digest: &[u8; 20]) -> [u8; 40]
     ensures { result ≡ encode_lower digest.now }
 {
@@ -42,7 +42,7 @@ fn digest_of_all(texts: &[[u8; 40]]) -> [u8; 20]
 }
 
 /// The verification code of a package whose files have these SHA1 digests (SPDX 2.3, clause 7.9),
-/// in whatever order they are given: 40 small hexadecimal digits.
+/// in whatever order they are given: 40 hexadecimal digits in lower case.
 pub fn verification_code(alloc: Global, digests: &[[u8; 20]]) -> Result<[u8; 40], AllocError>
     ensures { IfOk result (IsCode digests.now) }
 {
@@ -51,7 +51,7 @@ pub fn verification_code(alloc: Global, digests: &[[u8; 20]]) -> Result<[u8; 40]
     Ok(digits_of(&digest_of_all(&texts)))
 }
 
-/// Some digests have one code.
+/// Digests have only one code.
 pub fn one_code()
     ensures { (digests : List (List ℕ)) (a b : List ℕ) → IsCode digests a → IsCode digests b
         → a ≡ b }

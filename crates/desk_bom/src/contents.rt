@@ -31,7 +31,7 @@ fn tie(elements: &Elements, edge: &Edge) -> Option<Arrow>
     None
 }
 
-// Adds a file to the last of so many packages.
+// Adds a file to the last of this many packages.
 fn onto_package(found: &mut Vec<Arrow>, packages: usize, file: usize) -> Result<(), AllocError>
     ensures { OnOk result ((more : List Arrow)
         → found.new.items ++ more ≡ found.old.items ++ onto_package packages file more) }
@@ -45,7 +45,7 @@ fn onto_package(found: &mut Vec<Arrow>, packages: usize, file: usize) -> Result<
     Ok(())
 }
 
-// Adds the files that stand between a PackageName and the next one.
+// Adds the files between a PackageName and the next one.
 fn add_own(found: &mut Vec<Arrow>, entries: &[Entry]) -> Result<(), AllocError>
     ensures { OnOk result (found.new.items
         ≡ found.old.items ++ own_files 0 0 (map entry_text entries.now)) }
@@ -83,7 +83,7 @@ fn add_tied(
     Ok(())
 }
 
-/// Which files each package of a document has, noted once for all packages.
+/// Which files each package of a document has, collected once for all packages.
 #[derive(Drop)]
 pub struct Contents {
     arrows: Vec<Arrow>,
@@ -93,7 +93,7 @@ pub struct Contents {
 impl Contents {
     ghost use Rattle.desk_bom.specs.Held.{Holds};
 
-    /// Notes the files of a document's packages.
+    /// Collects the files of a document's packages.
     pub fn of(
         alloc: Global,
         document: &Document,

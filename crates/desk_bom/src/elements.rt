@@ -66,7 +66,7 @@ fn ids_of<'a>(alloc: Global, document: &Document<'a>) -> Result<Vec<&'a str>, Al
 }
 
 impl<'a> Elements<'a> {
-    /// Notes the elements of a document.
+    /// Collects the elements of a document.
     pub fn of(alloc: Global, document: &Document<'a>) -> Result<Elements<'a>, AllocError>
         ensures { IfOk result (Notes (document_text document.now)) }
     {

@@ -1,4 +1,4 @@
-//! What an SPDX document (SPDX 2.3) says of a bill of materials.
+//! What an SPDX document (SPDX 2.3) says about a bill of materials.
 #![tactic(auto)]
 
 mod arrows;

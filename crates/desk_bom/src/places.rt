@@ -7,7 +7,7 @@ ghost use Rattle.desk_base.specs.Borrowed.{texts};
 use std::alloc::{AllocError, Global};
 use std::collections::BTreeMap;
 
-// The number that the last eight bytes of an identifier make, or the last four or two where it has
+// The number that the last eight bytes of an identifier make, or the last four or two if it has
 // fewer.
 fn tail_number(id: &str) -> u64
     ensures { result ≡ tail_number id.now }
@@ -25,7 +25,7 @@ fn tail_number(id: &str) -> u64
     }
 }
 
-// Where an identifier is looked for first, among so many slots.
+// The slot in which an identifier is looked for first, among this many slots.
 fn slot_of(id: &str, slots: usize) -> usize
     requires { 0 < slots }
     ensures { result ≡ slot_of id.now slots }
@@ -50,8 +50,7 @@ fn find<'a>(
     tree.get(id).copied()
 }
 
-// Notes an identifier that isn't found yet: in its slot, or in a tree where another one has that
-// slot.
+// Notes an identifier that isn't found yet: in its slot, or in a tree if another one has that slot.
 fn add<'a>(
     ids: &[&'a str],
     slots: &mut [usize],
@@ -77,9 +76,9 @@ fn add<'a>(
     Ok(())
 }
 
-/// The first place of each identifier: in a slot, or in a tree where another one has that slot. So
-/// most look-ups end in a slot, and identifiers of one slot cost no more than they would in a tree
-/// alone.
+/// The first place of each identifier: in a slot, or in a tree if another one has that slot. So
+/// most look-ups end in a slot, and identifiers with the same slot cost no more than they would in
+/// a tree alone.
 #[derive(Drop)]
 pub(crate) struct Places<'a> {
     ids: Vec<&'a str>,

@@ -100,7 +100,7 @@ fn is_described(document: &Document, elements: &Elements) -> bool
     false
 }
 
-// Reaches so many packages.
+// Reaches this many packages.
 fn add_packages(reached: &mut Reached, count: usize) -> Result<(), AllocError>
     requires { count < length reached.old.marks.items }
     ensures order { OnOk result ((a : ℕ) → among reached.new.order.items a
@@ -177,7 +177,7 @@ fn places_of(alloc: Global, named: &[Named]) -> Result<Vec<usize>, AllocError>
     named.iter().map(|package| package.place).collect(alloc)
 }
 
-// Of each of so many packages, whether it was reached.
+// For each of this many packages, whether it was reached.
 fn marks_of(alloc: Global, count: usize, reached: &Reached) -> Result<Vec<bool>, AllocError>
     requires { count < 2 ^ 63 }
     ensures { IfOk result (λ v. v.items ≡ map (λ k.
@@ -190,8 +190,8 @@ fn marks_of(alloc: Global, count: usize, reached: &Reached) -> Result<Vec<bool>,
     Ok(marks)
 }
 
-/// Of each package of a document, in its order, whether it ships: the same packages as `shipped`
-/// tells by their places.
+/// For each package of a document, in its order, whether it ships: the same packages that `shipped`
+/// returns by their places.
 pub fn ships(alloc: Global, document: &Document) -> Result<Vec<bool>, AllocError>
     ensures { IfOk result (λ v. AreShippingMarks (document_text document.now) v.items) }
 {
@@ -202,9 +202,9 @@ pub fn ships(alloc: Global, document: &Document) -> Result<Vec<bool>, AllocError
 
 /// The places of the packages that a document ships, by their identifiers.
 ///
-/// The document itself ships, and each package where no DESCRIBES or DESCRIBED_BY (SPDX 2.3, clause
-/// 11.1) between elements of the document touches it. With an element ships what it describes,
-/// contains, depends on or links.
+/// The document itself ships; so does each package, if no DESCRIBES or DESCRIBED_BY (SPDX 2.3,
+/// clause 11.1) between elements of the document touches the document. What an element describes,
+/// contains, depends on or links ships with it.
 pub fn shipped(alloc: Global, document: &Document) -> Result<Vec<usize>, AllocError>
     ensures { IfOk result (λ v. AreShipped (document_text document.now) v.items) }
 {

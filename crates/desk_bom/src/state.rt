@@ -1,4 +1,4 @@
-//! What the code of a package says of its files.
+//! What the code of a package says about its files.
 
 ghost use Rattle.std.specs.Prelude.{◌≡◌, ◌||◌, ◌↔◌, ◌<◌, ◌+◌, ◌-◌, ◌∷◌, ◌++◌, [], ℕ, List, IfOk, IfSome, IfNone, OnOk, Some, None, length, take, drop, map, nat_eq, true, false, IsTrue, if◌then◌else◌, ◌==◌, slice_get, not};
 ghost use Rattle.std.specs.List.{ends_with, starts_with, slice_split, list_any};
@@ -24,7 +24,7 @@ use desk_tagvalue::{Document, FileEntry, Package, all_hex, behind};
 use hex::FromHex;
 use std::alloc::{AllocError, Global};
 
-/// What the verification code of a package says of its files (SPDX 2.3, clause 7.9).
+/// What the verification code of a package says about its files (SPDX 2.3, clause 7.9).
 #[derive(Debug, Clone, Copy, PartialEq, Eq)]
 pub enum CodeState {
     /// The package has no code.
@@ -34,11 +34,11 @@ pub enum CodeState {
     Unchecked,
     /// The code is that of the files.
     Agrees,
-    /// The code is another.
+    /// The code is another one.
     Differs,
 }
 
-/// The digits of a code and what it excludes, as they stand in the field.
+/// The digits of a code and what it excludes, as they are in the field.
 #[derive(Clone, Copy)]
 pub(crate) struct CodeField<'a> {
     digits: &'a str,
@@ -55,7 +55,7 @@ fn plain(name: &str) -> &str
     }
 }
 
-// What stands between `(` and `)`.
+// What is between `(` and `)`.
 fn listed(text: &str) -> Option<&str>
     ensures none { IfNone result (is_list text.now ≡ false) }
     ensures some { IfSome result (λ inner. is_list text.now ≡ true) }
@@ -67,7 +67,7 @@ fn listed(text: &str) -> Option<&str>
     }
 }
 
-// The names, without what may stand before them.
+// The names, without what may precede them.
 fn names_in(inner: &str) -> &str
     ensures { result.now ≡ names_in inner.now }
 {
@@ -106,8 +106,8 @@ fn code_field(value: &str) -> Option<CodeField<'_>>
     }
 }
 
-/// Whether a value is a code (SPDX 2.3, clause 7.9): 40 hexadecimal digits, and then perhaps names
-/// of files in parentheses.
+/// Whether a value is a code (SPDX 2.3, clause 7.9): 40 hexadecimal digits, perhaps followed by
+/// names of files in parentheses.
 pub fn is_code(value: &str) -> bool
     ensures { result ≡ is_code value.now }
 {
@@ -121,7 +121,7 @@ fn parts_of(alloc: Global, text: &str) -> Result<Vec<&str>, AllocError>
     text.split(',').collect(alloc)
 }
 
-// The names that stand in some parts.
+// The names in some parts.
 fn names_of<'a>(alloc: Global, parts: &[&'a str]) -> Result<Vec<&'a str>, AllocError>
     ensures { IfOk result (λ v. texts v.items
         ≡ map (λ part. plain (trimmed part)) (texts parts.now)) }
@@ -214,8 +214,7 @@ fn digests_of(
     Ok(Some(digests))
 }
 
-/// Whether a `FilesAnalyzed` is false, in capitals or small letters (SPDX 2.3, clause 7.8; absent
-/// means true).
+/// Whether a `FilesAnalyzed` is false, ignoring case (SPDX 2.3, clause 7.8; absent means true).
 pub fn is_unanalyzed(flag: Option<&str>) -> bool
     ensures { result ≡ is_unanalyzed (value_text flag.entry) }
 {
@@ -225,7 +224,7 @@ pub fn is_unanalyzed(flag: Option<&str>) -> bool
     }
 }
 
-// Whether digits are those of a code, in either case.
+// Whether digits are those of a code, ignoring case.
 fn is_same(digits: &str, code: &[u8; 40]) -> bool
     ensures { (ds : List ℕ) → code.now ≡ encode_lower ds
         → IsTrue result ↔ (folded digits.now ≡ code.now) }
@@ -250,7 +249,7 @@ fn checked_field<'a>(package: &Package, value: &'a str) -> Option<CodeField<'a>>
     code_field(value)
 }
 
-// The digests of which a code tells.
+// The digests that a code covers.
 fn checked_digests(
     alloc: Global,
     names: Option<&str>,
@@ -265,7 +264,7 @@ fn checked_digests(
     Ok(digests)
 }
 
-// What the code that a package has says of its files.
+// What the code that a package has says about its files.
 fn state_of_code(
     alloc: Global,
     package: &Package,
@@ -302,8 +301,8 @@ fn package_at<'d, 'a>(document: &'d Document<'a>, place: usize) -> &'d Package<'
 impl Contents {
     ghost use Rattle.desk_bom.specs.Held.{Holds};
 
-    /// What the code of a package says of its files: the package of the document that was noted, by
-    /// its place among the packages.
+    /// What the code of a package says about its files; the package is one of the document whose
+    /// files were collected, by its place among the packages.
     pub fn code_state(
         &self,
         alloc: Global,
@@ -326,8 +325,8 @@ impl Contents {
     }
 }
 
-/// What the code of a package says of its files (SPDX 2.3, clause 7.9), the package by its place
-/// among the packages of the document. Who asks for many packages notes the files of all once, by
+/// What the code of a package says about its files (SPDX 2.3, clause 7.9), the package by its place
+/// among the packages of the document. For many packages their files are better collected once, by
 /// `Contents`.
 pub fn code_state(alloc: Global, document: &Document, owner: usize) -> Result<CodeState, AllocError>
     requires { owner < length document.now.packages }
@@ -339,7 +338,7 @@ pub fn code_state(alloc: Global, document: &Document, owner: usize) -> Result<Co
     Ok(state)
 }
 
-/// A package's code has one state.
+/// A package's code has only one state.
 pub fn one_state()
     ensures { (d : DocumentText) (owner : ℕ) (a b : CodeState) → IsState d owner a
         → IsState d owner b → a ≡ b }

@@ -1,4 +1,4 @@
--- A list of values, each put to what those before it gave.
+-- A list of values, each added to what those before it gave.
 use Rattle.std.proofs.Common.{◌≡◌, ◌∙◌, ℕ, ◌+◌, ◌<◌, ◌≤◌, Bool, true, false, cond, List, [], ◌∷◌, length, get_or, drop, sym, ap, refl, add-one}
 use Rattle.std.specs.Prelude.{Ok, Err, not}
 use Rattle.std.proofs.lemmas.List.{drop_more, drop_all}
@@ -10,7 +10,7 @@ use Rattle.desk_catalogue.specs.Reading.{Read, each, count}
 use Rattle.desk_base.specs.Results.{then_read}
 
 module _ {S : Type 0} (put : S → ℕ → Data → Read S) (state : S) (vs : List Value) (i : ℕ) where
-  -- one value more
+  -- one more value
   pub each_go : (v : Value) (next : S) → i < length vs → put state i (view (get_or vs i v)) ≡ Ok next → each put next (i + 1) (items_view (drop (i + 1) vs)) ≡ each put state i (items_view (drop i vs))
   each_go v next within is =
       sym (ap (λ l. each put state i (items_view l)) (drop_more vs i v within) ∙ ap (λ r. then_read r (λ s. each put s (i + 1) (items_view (drop (i + 1) vs)))) is)
@@ -28,7 +28,7 @@ pub count-items_view : (vs : List Value) → count (items_view vs) ≡ length vs
 count-items_view [] = refl
 count-items_view (v ∷ vs) = ap (λ n. n + 1) (count-items_view vs) ∙ add-one (length vs)
 
--- a value that is refused where it was there before
+-- a value that is refused if it was there before
 module _ {A S : Type 0} (entry : ℕ → Data → Read A) (has : S → A → Bool) (twice : ℕ → CatalogueFault) (add : S → A → S) where
   abbrev one : S → ℕ → A → Read S
   one state index x = cond (has state x) (Err (twice index)) (Ok (add state x))

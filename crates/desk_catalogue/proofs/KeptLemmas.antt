@@ -30,7 +30,7 @@ pub put_texts-none : (xs : List (List ℕ)) → put_texts xs [] ≡ sorted_set x
 put_texts-none [] = refl
 put_texts-none (x ∷ xs) = ap (put_new x) (put_texts-none xs)
 
--- the last of some borrowed texts is put first
+-- the last of some borrowed texts is added first
 pub put_texts-last : (xs : List (Bor (List ℕ))) (x : Bor (List ℕ)) (sorted : List (List ℕ)) → put_texts (texts (xs ++ x ∷ [])) sorted ≡ put_texts (texts xs) (put_new x.now sorted)
 put_texts-last [] x sorted = refl
 put_texts-last (y ∷ ys) x sorted = ap (put_new y.now) (put_texts-last ys x sorted)
@@ -80,9 +80,9 @@ rules-insert_entry (e ∷ es) k v =
     (λ is. ap (λ s. rule_of_entry (s, v) ∷ rules_of_entries es) (sym (same_subject k e.0 is)))
     ∙ ap (λ l. match_ordering (subject_cmp k e.0) (rule_of_entry (k, v) ∷ rule_of_entry e ∷ rules_of_entries es) (rule_of_entry (k, v) ∷ rules_of_entries es) (rule_of_entry e ∷ l)) (rules-insert_entry es k v)
 
--- ---- what is among some already
+-- ---- what is there already
 
--- texts are the same both ways round
+-- texts are the same either way round
 pub flipped : (a b : List ℕ) → bytes_eq a b ≡ bytes_eq b a
 flipped a b =
     elim (text_tells a b) [

@@ -49,7 +49,7 @@ sorted_put x (r ∷ rs) h =
 
 -- ---- what holds after each value
 
--- what comes next, where there was no fault
+-- what comes next, if there was no fault
 pub then_by : {A B : Type 0} (r : Read A) (next : A → Read B) (y : B) → then_read r next ≡ Ok y → (x : A) × (r ≡ Ok x) × (next x ≡ Ok y)
 then_by (Ok x) next y e = (x, refl, e)
 then_by (Err fault) next y e = cc
@@ -74,7 +74,7 @@ each_holds P put step s i (item d ds) t p e =
     let found = then_by (put s i d) (λ next. each put next (i + 1) ds) t e in
     each_holds P put step found.0 (i + 1) ds t (step s i d found.0 p found.1) found.2
 
--- what holds of the rules when each is put in its place
+-- what holds for the rules when each is put in its place
 pub rules_hold : (P : List Rule → Type 0) (terms : List ℕ → Option (List ℕ)) (forms duties : List (List ℕ)) (listed : Option Data) (rules : List Rule)
     → P [] → ((index : ℕ) (d : Data) (rule : Rule) (rs : List Rule) → rule_at terms forms duties index d ≡ Ok rule → P rs → P (put_rule rule rs)) → rules_of terms forms duties listed ≡ Ok rules → P rules
 rules_hold P terms forms duties listed rules none more e =

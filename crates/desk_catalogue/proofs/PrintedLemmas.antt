@@ -1,4 +1,4 @@
--- Whether bytes begin with a front, as a strip of it tells.
+-- Whether bytes begin with a front, as shown by stripping it.
 use Rattle.std.proofs.Common.{◌≡◌, ◌∙◌, ℕ, true, false, List, ◌++◌, length, take, drop, sym, ap}
 use Rattle.std.specs.Str.{bytes_eq}
 use Rattle.std.proofs.Math.Seq.{take-append_seam}

@@ -18,7 +18,7 @@ use Rattle.desk_catalogue.specs.Shown.{HasIds}
 use Rattle.desk_catalogue.proofs.KeptLemmas.{flipped}
 use Rattle.desk_base.specs.Borrowed.{texts}
 
--- a text is found in a set where it is among its texts
+-- a text is found in a set if it is among its texts
 pub has_text : (ks : List (Bor (List ℕ))) (q : List ℕ) → list_any (is_at (λ (k : Bor (List ℕ)). slice_cmp nat_cmp q k.now)) ks ≡ is_among (texts ks) q
 has_text [] q = refl
 has_text (k ∷ ks) q = (λ i. (is_eq-slice_cmp q k.now ∙ flipped q k.now) i || has_text ks q i)
@@ -42,11 +42,11 @@ either true false = refl
 either false true = refl
 either false false = refl
 
--- an id is new where none of the texts has it
+-- an id is new if none of the texts has it
 pub is_new : (listed : List LicenceText) (seen : BTreeSet (List ℕ)) (text : LicenceText) (key : List ℕ) (added : Bool) → key ≡ folded text.licence → HasIds listed seen → added ≡ not (contains_by (slice_cmp nat_cmp key) seen) → not (list_any (is_text_of text.licence) listed) ≡ added
 is_new listed seen text key added is has told = sym (told ∙ ap (λ k. not (contains_by (slice_cmp nat_cmp k) seen)) is ∙ ap not (has text.licence))
 
--- one text more
+-- one more text
 pub ids_more : (listed : List LicenceText) (text : LicenceText) (old new : BTreeSet (List ℕ)) (key : List ℕ) → key ≡ folded text.licence → Updates (slice_cmp nat_cmp) old new key true → HasIds listed old → (more : List LicenceText) → more ≡ listed ++ text ∷ [] → HasIds more new
 ids_more listed text old new key is h has more put = λ id.
     h.0 (folded id)

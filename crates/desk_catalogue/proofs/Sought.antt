@@ -24,9 +24,9 @@ use Rattle.desk_catalogue.specs.Shown.{rule_of_entry}
 use Rattle.desk_catalogue.proofs.KeptLemmas.{either_equal, subject_cmp}
 use Rattle.desk_catalogue.proofs.OrderLaws.{rule_order_total}
 
--- ---- bytes beside others, piece by piece
+-- ---- bytes compared with others, piece by piece
 
--- where they don't begin with a front, it alone decides
+-- if they don't begin with a front, it alone decides
 pub side_apart : (bytes front more : List ℕ) → ((rest : List ℕ) → bytes ≡ front ++ rest → ⊥) → slice_cmp nat_cmp bytes front ≡ slice_cmp nat_cmp bytes (front ++ more)
 side_apart bytes [] more none = absurd (none bytes refl)
 side_apart [] (c ∷ front) more none = refl
@@ -42,11 +42,11 @@ side_alike : (front rest more : List ℕ) → slice_cmp nat_cmp (front ++ rest) 
 side_alike [] rest more = refl
 side_alike (c ∷ front) rest more = ap (λ o. ordering_then o (slice_cmp nat_cmp (front ++ rest) (front ++ more))) (tied_itself nat_cmp_total c) ∙ side_alike front rest more
 
--- where they do, what is left decides
+-- if they do, what is left decides
 pub side_behind : (bytes front rest more : List ℕ) → bytes ≡ front ++ rest → slice_cmp nat_cmp rest more ≡ slice_cmp nat_cmp bytes (front ++ more)
 side_behind bytes front rest more is = sym (ap (λ l. slice_cmp nat_cmp l (front ++ more)) is ∙ side_alike front rest more)
 
--- a printed term is its key, and what stands behind it
+-- a printed term is its key, followed by what is printed after it
 pub printed : (t : Term) → t.key ++ ((if t.plus then codes "+" else []) ++ printed_exception t.exception) ≡ printed_term t
 printed t = sym (append_assoc t.key (if t.plus then codes "+" else []) (printed_exception t.exception))
 
@@ -87,7 +87,7 @@ module _ (term form : List ℕ) where
   at_most Equal = omega arith
   at_most Greater = omega arith
 
-  -- what stands before a rule is no further on
+  -- what comes before a rule is no further on
   no_further : (r s : Rule) → rule_order r s ≡ Less → (o : Ordering) → side s ≡ o → ordering_index (side r) ≤ ordering_index o
   no_further r s less Less is = let e = ap ordering_index (rule_order_total.trans r s (sought term form) less is) in omega (arith, e)
   no_further r s less Equal is = let e = ap ordering_index (sym (alike_right rule_order_total s (sought term form) r is) ∙ less) in omega (arith, e)
@@ -100,7 +100,7 @@ module _ (term form : List ℕ) where
         | inr less ↦ no_further (get_or rs i d) (get_or rs j d) (Less-from_sorted rule_order rs i j d sorted less lt) (side (get_or rs j d)) refl
       ]
 
-  -- one that stands where it is sought is the first
+  -- one that is where it is sought is the first
   found_at : (rs : List Rule) → IsStrictlySortedBy rule_order rs → (i : ℕ) (d : Rule) → i < length rs → side (get_or rs i d) ≡ Equal → Some (get_or rs i d) ≡ find (is_rule term form) rs
   found_at [] h i d lt is = absurd (omega (arith, lt))
   found_at (r ∷ rs) h zero d lt is = sym (ap (λ b. cond b (Some r) (find (is_rule term form) rs)) (meets r ∙ ap is_eq is))
@@ -112,7 +112,7 @@ module _ (term form : List ℕ) where
   none_found [] h = refl
   none_found (r ∷ rs) h = none_found rs (λ k d lt. h (suc k) d (omega (arith, lt))) ∙ sym (ap (λ b. cond b (Some r) (find (is_rule term form) rs)) (meets r ∙ h zero r (omega arith)))
 
-  -- what halving finds
+  -- what a binary search finds
   pub found : (rs : List Rule) → IsStrictlySortedBy rule_order rs → (i : ℕ) (rule : Rule) → rule ≡ get_or rs i rule → i < length rs → IsBinarySearchResult side rs (Ok i) → Some rule ≡ find (is_rule term form) rs
   found rs sorted i rule is lt h = ap Some is ∙ found_at rs sorted i rule lt (h rule)
 
@@ -124,7 +124,7 @@ module _ (term form : List ℕ) where
         | inr above ↦ ap is_eq (parts.1 k d above lt)
       ])
 
-  -- what holds of the key that a closure computes, where that tells the side of each rule
+  -- what holds for the key that a closure computes, if that is the side of each rule
   pub by_side : (P : (Rule → Ordering) → Type 0) {F : Type 0} {g : Mut F (Bor Rule × Unit {0}) Ordering} {f : F} → ((key : Rule → Ordering) → ComputesKey g key f → P key)
       → ((a : Bor Rule × Unit {0}) (r : Ordering) (f' : F) → Called g f a r f' → (r ≡ side a.0.now) × (f' ≡ f)) → P side
   by_side P {g = g} {f = f} clause same = clause side (always_returns_same g (λ a r. r ≡ side a.0.now) f same)

@@ -1,4 +1,4 @@
--- Forms of a catalogue, and the licences of its texts, stand once each.
+-- Forms of a catalogue, and the licences of its texts, each occur once.
 use Rattle.std.proofs.Common.{◌≡◌, ℕ, ◌+◌, Bool, true, false, cond, ◌||◌, List, [], ◌∷◌, ◌++◌, Option, None, Some, Ok, Err, subst, refl}
 use Rattle.std.specs.Prelude.{codes}
 use Rattle.std.specs.List.{list_any, AllByRecursion, IsDistinct}
@@ -27,7 +27,7 @@ module _ {K : Type 0} (eq : K → K → Bool) where
   all_more P [] x h p = (p, tt)
   all_more P (k ∷ xs) x h p = (h.0, all_more P xs x h.1 p)
 
-  -- one more at the end, which none before is equal to
+  -- one more at the end, if none before is equal to it
   distinct_more : (xs : List K) (x : K) → IsDistinct eq xs → list_any (λ k. eq k x) xs ≡ false → IsDistinct eq (xs ++ (x ∷ []))
   unfolding IsDistinct
   distinct_more [] x h none = (tt, tt)

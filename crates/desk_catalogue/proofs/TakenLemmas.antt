@@ -1,4 +1,4 @@
--- A list of values that are taken one by one, each put to what those before it gave.
+-- A list of values that are taken one by one, each added to what those before it gave.
 use Rattle.std.proofs.Common.{◌≡◌, ◌∙◌, ℕ, ◌+◌, Bool, true, false, cond, List, ◌∷◌, sym, ap, refl}
 use Rattle.std.specs.Prelude.{Ok, Err, not}
 use Rattle.toml.specs.Data.{Data}
@@ -15,7 +15,7 @@ module _ {A S : Type 0} (entry : ℕ → Data → Read A) (has : S → A → Boo
   abbrev step : S → ℕ → Data → Read S
   step state index d = then_read (entry index d) (one state index)
 
-  -- a value that is added where nothing like it was there before
+  -- a value that is added if nothing like it was there before
   pub taken_added : (state next : S) (n : ℕ) (v : Value) (rest all : List Value) (x : A) → all ≡ v ∷ rest → entry n (view v) ≡ Ok x → not (has state x) ≡ true → next ≡ add state x
       → each step next (n + 1) (items_view rest) ≡ each step state n (items_view all)
   taken_added state next n v rest all x is read new put =

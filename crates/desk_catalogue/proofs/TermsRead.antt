@@ -1,4 +1,4 @@
--- Each text spells one term or none, and so some function tells them.
+-- Each text spells one term or none, so there is a function that gives them.
 use Rattle.std.proofs.Common.{◌≡◌, ◌∙◌, ◌⊎◌, inl, inr, ℕ, ◌≤◌, nat_le, true, false, List, [], ◌∷◌, length, Option, Some, None, option_and_then, cond, sym, subst, ap, refl, le-leb}
 use Rattle.std.proofs.lemmas.Bool.{cases_Bool, leb-true, false≢true}
 use Rattle.desk_base.specs.declared.limits.TheConstants as limit
@@ -57,7 +57,7 @@ reading text =
 pub terms_read : (terms : List ℕ → Option (List ℕ)) × ReadsTerms terms
 terms_read = (λ text. (reading text).0, λ text. (reading text).1)
 
--- a text has one
+-- a text has only one
 pub same_term : (text : List ℕ) (a b : Option (List ℕ)) → IsTermOf text a → IsTermOf text b → a ≡ b
 same_term text None None h k = refl
 same_term text None (Some q) h (t, spells, is) = absurd (h t spells)
@@ -67,7 +67,7 @@ same_term text (Some p) (Some q) (t, spells, is) (u, spells', is') = ap Some (sy
 pub one_catalogue : (terms others : List ℕ → Option (List ℕ)) → ReadsTerms terms → ReadsTerms others → (text : List ℕ) → catalogue_of terms text ≡ catalogue_of others text
 one_catalogue terms others h k text = λ i. catalogue_of (λ t. same_term t (terms t) (others t) (h t) (k t) i) text
 
--- what the reader of a term tells
+-- what the reader of a term returns
 pub tells_reference : (terms : List ℕ → Option (List ℕ)) → ReadsTerms terms → (text : List ℕ) (t : Term) → SpellsTermWithin text t → begins_like_reference (printed_term t) ≡ true → None ≡ licence_of terms text
 tells_reference terms h text t spells is =
     sym (ap (option_and_then if_licence) (same_term text (terms text) (Some (printed_term t)) (h text) (t, spells, refl)) ∙ ap (λ b. cond b None (Some (printed_term t))) is)

@@ -9,7 +9,7 @@ use Rattle.desk_model.specs.Texts.{sorted_set}
 use Rattle.desk_model.specs.declared.reading.Rule.{Rule}
 use Rattle.desk_catalogue.specs.declared.catalogue.LicenceText.{LicenceText}
 
--- none of the texts stands twice: as a set they are as many
+-- none of the texts occurs twice: as a set they are as many
 abbrev pub stand_once : List (List ℕ) → Bool
 stand_once texts = length (sorted_set texts) == length texts
 
@@ -22,10 +22,10 @@ put_rule rule (r ∷ rs) = match_ordering (rule_order rule r) (rule ∷ r ∷ rs
 abbrev pub has_rule : List Rule → Rule → Bool
 has_rule rules rule = list_any (is_rule rule.term rule.form) rules
 
--- the text is that of a licence or an exception, whose ids compare without regard to case (SPDX 2.3, Annex D.2)
+-- the text is that of a licence or an exception, whose ids are compared without regard to case (SPDX 2.3, Annex D.2)
 abbrev pub is_text_of : List ℕ → LicenceText → Bool
 is_text_of id text = bytes_eq (folded text.licence) (folded id)
 
--- two texts are of one licence or exception
+-- two texts are of the same licence or exception
 abbrev pub same_licence : LicenceText → LicenceText → Bool
 same_licence a b = is_text_of b.licence a

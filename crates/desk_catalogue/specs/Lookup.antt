@@ -28,7 +28,7 @@ spelled_for catalogue term form = option_map (λ rule. rule.spelled) (rule_for c
 abbrev pub has_form : Catalogue → List ℕ → Bool
 has_form catalogue form = is_among catalogue.forms form
 
--- the text of a licence or an exception, by its id in any case
+-- the text of a licence or an exception, by its id, ignoring case
 abbrev pub text_for : Catalogue → List ℕ → Option LicenceText
 text_for catalogue id = find (is_text_of id) catalogue.texts
 

@@ -1,5 +1,5 @@
--- The catalogue that a text is, or its first fault: `forms`, then the duty tables, the rule tables and the text tables, each table
--- whole before the next one: first an absent key, then a value of another kind, then what it names, then what stands twice.
+-- The catalogue that a text is, or its first fault: `forms`, then the duty tables, the rule tables and the text tables, each table as a whole before the next
+-- one: first an absent key, then a value of another kind, then what it names, then what occurs twice.
 use Rattle.std.specs.Prelude.{ℕ, ◌+◌, ◌&&◌, not, nat_lt, nat_le, Bool, List, [], ◌∷◌, ◌++◌, length, codes, Option, Some, None, Result, Ok, Err, if◌then◌else◌}
 use Rattle.std.specs.Option.{ok_or}
 use Rattle.std.specs.List.{list_all, list_any}
@@ -25,7 +25,7 @@ Read A = Result A CatalogueFault
 
 -- ---- lists
 
--- each value in turn, with its index, put to what those before it gave; or the first fault
+-- each value in turn, with its index, is added to what those before it gave; or the first fault
 abbrev pub each : {S : Type 0} → (S → ℕ → Data → Read S) → S → ℕ → Items → Read S
 each put state index no_items = Ok state
 each put state index (item d ds) = then_read (put state index d) (λ next. each put next (index + 1) ds)
@@ -39,7 +39,7 @@ abbrev pub tables_of : CataloguePart → Option Data → Read Items
 tables_of p None = Ok no_items
 tables_of p (Some d) = ok_or (as_array d) (BadKind p 0)
 
--- ---- forms, of which each entry's kind comes before any that stands twice
+-- ---- forms, where the kind of each entry is checked before whether any occurs twice
 
 abbrev pub form_at : ℕ → Data → Read (List ℕ)
 form_at index d = ok_or (id_of d) (BadKind part.Forms index)
@@ -55,7 +55,7 @@ abbrev pub forms_listed : Option Items → Read (List (List ℕ))
 forms_listed None = Err (BadKind part.Forms 0)
 forms_listed (Some ds) = if is_form_count (count ds) then each with_form [] 0 ds else Err (BadKind part.Forms 0)
 
--- the forms, where none stands among those before it
+-- the forms, if none is among those before it
 abbrev pub forms_once : List (List ℕ) → ℕ → List (List ℕ) → Read (List (List ℕ))
 forms_once before index [] = Ok before
 forms_once before index (form ∷ forms) = if is_among before form then Err (Twice part.Forms index) else forms_once (before ++ form ∷ []) (index + 1) forms
@@ -64,7 +64,7 @@ abbrev pub forms_of : Option Data → Read (List (List ℕ))
 forms_of None = Err (Missing part.Forms 0)
 forms_of (Some d) = then_read (forms_listed (as_array d)) (forms_once [] 0)
 
--- ---- duties, of which the codes are kept
+-- ---- duties, whose codes are kept
 
 abbrev pub duty_of_values : ℕ → Option (List ℕ) → Option (List ℕ) → Read (List ℕ)
 duty_of_values index (Some code) (Some title) = Ok code
@@ -114,7 +114,7 @@ abbrev pub rule_written : ℕ → Data → Read RuleTexts
 rule_written index d = then_read (ok_or (as_table d) (BadKind part.Rule index))
     (λ ms. rule_values index (get_member (codes "term") ms) (get_member (codes "form") ms) (get_member (codes "duties") ms))
 
--- the rule of a term, where its form and its codes are those of the catalogue
+-- the rule for a term, if its form and its codes are those of the catalogue
 abbrev pub rule_of : List (List ℕ) → List (List ℕ) → ℕ → RuleTexts → List ℕ → Read Rule
 rule_of forms duties index texts term =
     if not (is_among forms texts.form) then Err (UnknownForm part.Rule index)
@@ -122,7 +122,7 @@ rule_of forms duties index texts term =
     else (if not (stand_once texts.duties) then Err (Twice part.Rule index)
     else Ok (record { term = term; form = texts.form; spelled = texts.term; codes = sorted_set texts.duties })))
 
--- over what the texts of terms say, the forms and the codes of duties
+-- the rule of a table, given what texts of terms say, the forms and the codes of duties
 abbrev pub rule_at : (List ℕ → Option (List ℕ)) → List (List ℕ) → List (List ℕ) → ℕ → Data → Read Rule
 rule_at terms forms duties index d =
     then_read (rule_written index d) (λ texts.

@@ -1,4 +1,4 @@
--- What the code's values show of the definitions'.
+-- How the code's values show those of the definitions.
 use Rattle.std.specs.Prelude.{◌≡◌, ⊤, ℕ, List, map, Result, Ok, Err}
 use Rattle.std.specs.Ordering.{nat_cmp}
 use Rattle.std.specs.Cmp.Lexicographic.{slice_cmp}
@@ -19,7 +19,7 @@ use Rattle.desk_catalogue.specs.Kept.{is_text_of}
 use Rattle.desk_catalogue.specs.Reading.{Read, RuleTexts}
 use Rattle.desk_base.specs.Borrowed.{texts, texts_in}
 
--- a result is what is read, seen as it shows
+-- a result is what is read, as it is shown
 abbrev pub Gives : {A B : Type 0} → Read B → (A → B) → Result A CatalogueFault → Type 0
 Gives read show (Ok x) = read ≡ Ok (show x)
 Gives read show (Err fault) = read ≡ Err fault
@@ -31,18 +31,18 @@ rule_texts_in rule = record { term = rule.term.now; form = rule.form.now; duties
 abbrev pub codes_in : BTreeSet (Bor (List ℕ)) → List (List ℕ)
 codes_in set = texts set.keys
 
--- the rules that a map tells of what they are for
+-- the rules in a map from what they are for
 abbrev pub rule_of_entry : Subject × Said → Rule
 rule_of_entry e = record { term = e.0.term; form = e.0.form; spelled = e.1.spelled; codes = e.1.codes }
 
 abbrev pub rules_in : BTreeMap Subject Said → List Rule
 rules_in rules = map rule_of_entry rules.entries
 
--- the set has the ids of these texts, in small letters
+-- the set has the ids of these texts, in lower case
 abbrev pub HasIds : List LicenceText → BTreeSet (List ℕ) → Type 0
 HasIds texts seen = (id : List ℕ) → contains_by (slice_cmp nat_cmp (folded id)) seen ≡ list_any (is_text_of id) texts
 
--- a text is read so, or there was no memory
+-- a text is read like this, or there was no memory
 abbrev pub IsRead : {A : Type 0} → Read A → Result A CatFault → Type 0
 IsRead read (Ok x) = read ≡ Ok x
 IsRead read (Err (Refused fault)) = read ≡ Err fault

@@ -5,7 +5,7 @@ use Rattle.desk_expr.specs.Spelling.{SpellsTermWithin}
 use Rattle.desk_expr.specs.Printing.{printed_term}
 use Rattle.desk_expr.specs.Words.{begins_like_reference}
 
--- the text spells the term that is printed so, or none
+-- the text spells the term that is printed like this, or none
 abbrev pub IsTermOf : List ℕ → Option (List ℕ) → Type 0
 IsTermOf text (Some printed) = (t : Term) × SpellsTermWithin text t × (printed_term t ≡ printed)
 IsTermOf text None = (t : Term) → SpellsTermWithin text t → ⊥
@@ -14,10 +14,10 @@ IsTermOf text None = (t : Term) → SpellsTermWithin text t → ⊥
 abbrev pub ReadsTerms : (List ℕ → Option (List ℕ)) → Type 0
 ReadsTerms terms = (text : List ℕ) → IsTermOf text (terms text)
 
--- a printed term that is no reference: licence ids are printed in small letters, so only a reference begins as references do
+-- a printed term that isn't a reference: licence ids are printed in lower case, so only a reference begins like one
 abbrev pub if_licence : List ℕ → Option (List ℕ)
 if_licence printed = if begins_like_reference printed then None else Some printed
 
--- the printed term of a text that spells one that is no reference
+-- the printed term of a text that spells one, if it is no reference
 abbrev pub licence_of : (List ℕ → Option (List ℕ)) → List ℕ → Option (List ℕ)
 licence_of terms text = option_and_then if_licence (terms text)

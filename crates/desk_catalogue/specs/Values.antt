@@ -16,7 +16,7 @@ is_id text = is_idstring text && nat_le (length text) limit.id_bytes
 abbrev pub is_title : List ℕ → Bool
 is_title text = nat_le 1 (length text) && nat_le (length text) limit.title_bytes && list_all is_shown text
 
--- what a text may be the text of: a licence or an exception by its id (SPDX 2.3, Annex D.2), which doesn't begin as references do
+-- what may have a text: a licence or an exception by its id (SPDX 2.3, Annex D.2), which doesn't begin like a reference
 abbrev pub is_text_id : List ℕ → Bool
 is_text_id text = is_idstring text && not (begins_like_reference text)
 
@@ -29,7 +29,7 @@ id_of d = option_and_then (if_passes is_id) (as_str d)
 abbrev pub title_of : Data → Option (List ℕ)
 title_of d = option_and_then (if_passes is_title) (as_str d)
 
--- the texts of a list that holds nothing else
+-- the texts of a list that has nothing else
 abbrev pub strings : Items → Option (List (List ℕ))
 strings no_items = Some []
 strings (item d ds) = option_and_then (λ text. option_map (λ more. text ∷ more) (strings ds)) (as_str d)
@@ -37,6 +37,6 @@ strings (item d ds) = option_and_then (λ text. option_map (λ more. text ∷ mo
 abbrev pub texts_of : Data → Option (List (List ℕ))
 texts_of d = option_and_then strings (as_array d)
 
--- a text is among some
+-- a text is among these
 abbrev pub is_among : List (List ℕ) → List ℕ → Bool
 is_among texts text = list_any (λ t. bytes_eq t text) texts

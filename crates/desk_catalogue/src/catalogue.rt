@@ -11,7 +11,7 @@ pub struct LicenceText {
     pub body: Text,
 }
 
-/// A catalogue: no form, no term with a form and no licence of a text stands in it twice.
+/// A catalogue: no form, no term with a form and no licence of a text is in it twice.
 #[derive(Drop)]
 pub struct Catalogue {
     /// The forms, in their order.

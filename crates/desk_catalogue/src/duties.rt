@@ -1,4 +1,4 @@
-//! The duties of a catalogue, of which the codes are kept.
+//! The duties of a catalogue, whose codes are kept.
 
 ghost use Rattle.std.specs.Prelude.{◌≡◌, [], IfOk, codes};
 ghost use Rattle.toml.specs.Data.{get_member};
@@ -35,7 +35,7 @@ fn duty_at(value: &Value, index: usize) -> Result<&str, CatalogueFault>
     }
 }
 
-// The codes of a list of duties, where none stands twice.
+// The codes of a list of duties, if none occurs twice.
 fn each_duty<'a>(
     alloc: Global,
     values: &'a [Value],

@@ -7,7 +7,7 @@ use thiserror::Error;
 /// Why a text is not read as a catalogue.
 #[derive(Clone, Copy, Debug, PartialEq, Eq, Error)]
 pub enum CatFault {
-    /// It is none: its first fault.
+    /// It isn't one: its first fault.
     #[error("no catalogue: {0:?}")]
     Refused(CatalogueFault),
     /// No memory was left.

@@ -33,14 +33,14 @@ fn each_form<'a>(
     Ok(Ok(forms))
 }
 
-// Whether a catalogue may list so many forms.
+// Whether a catalogue may list this many forms.
 fn is_form_count(number: usize) -> bool
     ensures { result ≡ is_form_count number }
 {
     1 <= number && number <= limits::FORMS
 }
 
-// The forms of a list, where they are as many as there may be.
+// The forms of a list, if there are as many as there may be.
 fn forms_listed<'a>(
     alloc: Global,
     values: &'a [Value],
@@ -54,7 +54,7 @@ fn forms_listed<'a>(
     }
 }
 
-// The forms, where none stands twice.
+// The forms, if none occurs twice.
 fn forms_once(
     alloc: Global,
     listed: &[&str],

@@ -16,15 +16,14 @@
 //! body = "Permission is hereby granted, .."
 //! ```
 //!
-//! `catalogue_of` (specs/Reading.antt) is a function of the text: the catalogue, or the first
-//! fault with its part and index. It speaks of the table that `toml` reads in the text and, by a
-//! function that it is given, of the terms that texts spell. `Catalogue::read` answers as it says
-//! for each such function that is right by `desk_expr`'s definition of a spelled term
-//! (`ReadsTerms`); there is one (`terms_are_read`), and they all give one answer
-//! (`one_catalogue`).
+//! `catalogue_of` (specs/Reading.antt) is a function of the text: the catalogue, or the first fault
+//! with its part and index. It is defined over the table that `toml` reads in the text and, by a
+//! function that it is given, over the terms that texts spell. `Catalogue::read` returns what it
+//! says for each such function that is right by `desk_expr`'s definition of a spelled term
+//! (`ReadsTerms`); there is one (`terms_are_read`), and they all give the same (`one_catalogue`).
 //!
 //! Nothing is dropped silently: a form, a code, a term with a form or the licence of a text that
-//! stands twice is a fault, and so the rules that are kept are sorted, each pair once
+//! occurs twice is a fault, so the rules that are kept are sorted, each pair once
 //! (`rules_stand_once`).
 #![tactic(auto)]
 

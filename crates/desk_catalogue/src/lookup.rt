@@ -9,7 +9,7 @@ use crate::order::is_kept;
 use desk_base::Text;
 use desk_expr::Term;
 
-// Whether a text is that of an id in any case.
+// Whether a text is that of an id, ignoring case.
 fn is_text_of(text: &LicenceText, id: &str) -> bool
     ensures { result ≡ is_text_of id.now text.now }
 {
@@ -17,7 +17,7 @@ fn is_text_of(text: &LicenceText, id: &str) -> bool
 }
 
 impl Catalogue {
-    /// The codes that a term owes in a form; none where the catalogue has no rule for them.
+    /// The codes that a term owes in a form; none if the catalogue has no rule for them.
     pub fn rule(&self, term: &Term, form: &str) -> Option<&[Text]>
         ensures { option_map (λ codes. codes.now) result ≡ codes_for self.now term.now form.now }
     {
@@ -44,8 +44,8 @@ impl Catalogue {
         is_kept(self.forms.as_slice(), form)
     }
 
-    /// The text of a licence or an exception, by its id in any case (SPDX 2.3, Annex D.2), with the
-    /// catalogue's own spelling of the id.
+    /// The text of a licence or an exception, by its id, ignoring case (SPDX 2.3, Annex D.2), with
+    /// the catalogue's own spelling of the id.
     pub fn text(&self, id: &str) -> Option<&LicenceText>
         ensures { option_map (λ text. text.now) result ≡ text_for self.now id.now }
     {

@@ -26,7 +26,7 @@ pub(crate) fn is_kept(kept: &[Text], text: &str) -> bool
     kept.iter().any(|other| other.as_str() == text)
 }
 
-/// The texts sorted by their bytes, each once. The only error is want of memory.
+/// The texts sorted by their bytes, each once. The only error is lack of memory.
 pub fn sorted_set(alloc: Global, listed: Vec<&str>) -> Result<Items<Text>, AllocError>
     ensures { IfOk result (λ sorted. sorted ≡ sorted_set (texts_in listed.entry)) }
 {
@@ -86,7 +86,7 @@ pub(crate) struct Said {
     codes: Items<Text>,
 }
 
-/// Adds a rule, and tells whether there was none for its term and form.
+/// Adds a rule, and returns whether there was none for its term and form.
 pub(crate) fn add_rule(rules: &mut BTreeMap<Subject, Said>, rule: Rule) -> Result<bool, AllocError>
     ensures added { IfOk result (λ added. added ≡ not (has_rule (rules_in rules.old) rule)) }
     ensures rules { OnOk result (rules_in rules.new ≡ put_rule rule (rules_in rules.old)) }
@@ -135,7 +135,7 @@ pub(crate) fn rules_in(
     Ok(OrderedRules::of(rules))
 }
 
-/// The codes of a rule sorted by their bytes, or none where one stands twice.
+/// The codes of a rule sorted by their bytes, or none if one occurs twice.
 pub(crate) fn codes_once(
     alloc: Global,
     listed: Vec<&str>,

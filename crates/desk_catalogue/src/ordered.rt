@@ -1,4 +1,4 @@
-//! Rules in their order, found by halving.
+//! Rules in their order, found by binary search.
 
 ghost use Rattle.std.specs.Prelude.{◌≡◌, List, ℕ, ◌++◌, [], codes, if◌then◌else◌, option_map, find, IfOk, IfErr};
 ghost use Rattle.std.specs.List.Sorted.{IsStrictlySortedBy};
@@ -14,7 +14,7 @@ use desk_model::Rule;
 use std::cmp::Ordering;
 use std::marker::Model;
 
-// What follows a front with which the bytes begin; or, where they don't, how they compare with it,
+// What follows a front with which the bytes begin; or, if they don't, how they compare with it,
 // whatever follows it.
 fn behind<'a>(bytes: &'a [u8], front: &[u8]) -> Result<&'a [u8], Ordering>
     ensures ok { IfOk result (λ rest. bytes.now ≡ front.now ++ rest.now) }
@@ -40,7 +40,7 @@ fn side_of_exception(bytes: &[u8], exception: &Option<Key>) -> Ordering
     }
 }
 
-// How bytes compare with what is printed behind the term's key.
+// How bytes compare with what is printed after the term's key.
 fn side_behind_key(bytes: &[u8], term: &Term) -> Ordering
     ensures { result ≡ slice_cmp nat_cmp bytes.now
         ((if term.now.plus then codes "+" else []) ++ printed_exception term.now.exception) }
@@ -65,7 +65,7 @@ fn side_of_term(text: &str, term: &Term) -> Ordering
     }
 }
 
-// On which side of a term in a form a rule stands.
+// On which side of a term in a form a rule is.
 fn side_of(rule: &Rule, term: &Term, form: &str) -> Ordering
     ensures { result ≡ rule_order rule.now (sought (printed_term term.now) form.now) }
 {

@@ -55,8 +55,8 @@ fn catalogue_of_table(
 impl Catalogue {
     /// The catalogue that a text is, or its first fault.
     ///
-    /// For each function that gives the terms that texts spell, the answer is that of
-    /// `catalogue_of`; `CatFault::Memory` is want of memory and nothing else.
+    /// For each function that gives the terms that texts spell, the result is that of
+    /// `catalogue_of`; `CatFault::Memory` is lack of memory and nothing else.
     pub fn read(alloc: Global, text: &str) -> Result<Catalogue, CatFault>
         ensures { (terms : List ℕ → Option (List ℕ)) → ReadsTerms terms
             → IsRead (catalogue_of terms text.now) result }

@@ -36,7 +36,7 @@ pub(crate) struct Known<'a> {
 }
 
 impl<'a> Known<'a> {
-    /// The forms, which borrow nothing of the table.
+    /// The forms, which borrow nothing from the table.
     pub(crate) fn into_forms(self) -> Items<Text>
         ensures { result ≡ self.entry.forms }
     {
@@ -45,7 +45,7 @@ impl<'a> Known<'a> {
     }
 }
 
-// The texts of a rule, where each of its keys has a value of its kind.
+// The texts of a rule, if each of its keys has a value of its kind.
 fn rule_written(
     alloc: Global,
     value: &Value,
@@ -91,7 +91,7 @@ fn rule_texts<'a>(
     }
 }
 
-// The printed term of a text that spells one that is no reference.
+// The printed term of a text that spells one, if it is no reference.
 fn licence_of(alloc: Global, text: &str) -> Result<Option<Text>, AllocError>
     ensures { (terms : List ℕ → Option (List ℕ)) → ReadsTerms terms
         → IfOk result (λ term. term ≡ licence_of terms text.now) }
@@ -124,7 +124,7 @@ fn are_duties(listed: &[&str], duties: &BTreeSet<&str>) -> bool
     true
 }
 
-// The rule of a term, where its form and its codes are known.
+// The rule for a term, if its form and its codes are known.
 fn rule_of(
     alloc: Global,
     known: &Known<'_>,
@@ -176,7 +176,7 @@ fn rule_at(
     }
 }
 
-// The rules of a list, where no term and form stands twice.
+// The rules of a list, if no term and form occur twice.
 fn each_rule(
     alloc: Global,
     known: &Known<'_>,

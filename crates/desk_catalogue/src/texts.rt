@@ -15,7 +15,7 @@ use std::alloc::{AllocError, Global};
 use std::collections::BTreeSet;
 use toml::{Table, Value};
 
-// The text of an id, where it may have one.
+// The text for an id, if it may have one.
 fn text_of(index: usize, licence: Text, body: Text) -> Result<LicenceText, CatalogueFault>
     ensures { result ≡ text_of index licence body }
 {
@@ -57,7 +57,7 @@ fn text_at(index: usize, value: Value) -> Result<LicenceText, CatalogueFault>
     text_of_keys(index, licence, body)
 }
 
-// The texts of a list, where no id stands twice.
+// The texts of a list, if no id occurs twice.
 fn each_text(
     alloc: Global,
     values: Vec<Value>,
@@ -81,7 +81,7 @@ fn each_text(
     Ok(Ok(texts))
 }
 
-/// The texts, in their order. They are taken out of the table, so that no body stands twice.
+/// The texts, in their order. They are taken out of the table, so that no body is in memory twice.
 pub(crate) fn texts_of(
     alloc: Global,
     table: &mut Table,

@@ -33,7 +33,7 @@ fn is_id(text: &str) -> bool
     is_idstring_of_bytes(text.as_bytes()) && text.len() <= limits::ID_BYTES
 }
 
-/// Whether a text begins as references do.
+/// Whether a text begins like a reference.
 pub(crate) fn begins_like_reference(text: &str) -> bool
     ensures { result ≡ begins_like_reference text.now }
 {
@@ -88,7 +88,7 @@ fn strings<'a>(alloc: Global, values: &'a [Value]) -> Result<Option<Vec<&'a str>
     Ok(Some(texts))
 }
 
-/// The texts of a list that holds nothing else.
+/// The texts of a list that has nothing else.
 pub(crate) fn texts_of(alloc: Global, value: &Value) -> Result<Option<Vec<&str>>, AllocError>
     ensures { IfOk result (λ r. option_map (λ v. map (λ text. text.now) v.items) r
         ≡ texts_of (view value.now)) }

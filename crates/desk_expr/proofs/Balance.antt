@@ -1,4 +1,4 @@
--- A spelled list has no token that is none, and closes each parenthesis that it opens.
+-- A spelled list has no bad token, and closes each parenthesis that it opens.
 use Rattle.std.proofs.Common.{◌≡◌, ℕ, zero, suc, ◌+◌, ◌-◌, ◌<◌, ◌≤◌, List, [], ◌∷◌, ◌++◌, length, refl, arith, length-append, length-take}
 use Rattle.std.specs.Prelude.{fold}
 use Rattle.desk_expr.specs.declared.token.Kind.{Kind}
@@ -9,7 +9,7 @@ use Rattle.desk_expr.specs.Tokens.{Lexeme}
 use Rattle.desk_expr.specs.Grammar.{Symbol, opening, closing, and_word, or_word, bad, SpellsTerm, bare, excepted, Operand, a_term, a_group, AndList, one_operand, and_more, OrList, one_list, or_more, SpellsTree}
 use Rattle.desk_expr.specs.Spelling.{symbol_of, symbols, open_after, still_open, closings}
 
--- the opening and the closing parentheses, and the tokens that are none
+-- how many parentheses a symbol opens or closes, and whether it is bad
 abbrev pub opens : Symbol → ℕ
 opens opening = 1
 opens _ = 0
@@ -30,7 +30,7 @@ total-append : (f : Symbol → ℕ) (xs ys : List Symbol) → total f (xs ++ ys)
 total-append f [] ys = omega arith
 total-append f (x ∷ xs) ys = omega (arith, total-append f xs ys)
 
--- what a spelled list has: as many that close as that open, and no bad token
+-- what a spelled list has: as many closing as opening parentheses, and no bad token
 pub record Even (ss : List Symbol) : Type 0 where
   pub closed : total opens ss ≡ total closes ss
   pub good : total bads ss ≡ 0
@@ -69,7 +69,7 @@ no_bad front behind e h =
     let even = even_or h.1 in
     absurd (omega (arith, even.good, total-append bads front (bad ∷ behind)))
 
--- the parentheses that are open: those opened less those closed, or more
+-- the number of open parentheses is at least that of those opened less those closed
 open_one : (k : Kind) (w : List ℕ) (start end : ℕ) (places : List ℕ) → let t : Lexeme = record { text = w; start = start; end = end; kind = k } in opens (symbol_of t) + length places ≤ closes (symbol_of t) + length (open_after places t)
 open_one Opening w start end places = omega (arith, length-append places (start ∷ []))
 open_one Closing w start end places = omega (arith, length-take (length places - 1) places)
@@ -95,13 +95,13 @@ closings_opens : (n : ℕ) → total opens (closings n) ≡ 0
 closings_opens zero = refl
 closings_opens (suc n) = omega (arith, closings_opens n)
 
--- where closing parentheses complete a list, as many are open at least
+-- if closing parentheses complete a list, at least as many are open
 pub completed_open : (ts : List Lexeme) (n : ℕ) (e : Tree) → SpellsTree (symbols ts ++ closings n) e → n ≤ length (still_open ts)
 completed_open ts n e h =
     let even = even_or h.1 in
     omega (arith, even.closed, total-append opens (symbols ts) (closings n), total-append closes (symbols ts) (closings n), closings_total n, closings_opens n, opened ts [])
 
--- ---- no list of nothing is spelled
+-- ---- no empty list is spelled
 
 mutual
   some_operand : {ss : List Symbol} {e : Tree} → Operand ss e → 0 < length ss

@@ -1,4 +1,4 @@
--- Where a text may be cut, and what stands there.
+-- Where a text may be cut, and what is there.
 use Rattle.std.proofs.Common.{◌≡◌, inl, inr, ℕ, zero, suc, ◌+◌, ◌<◌, ◌≤◌, List, [], ◌∷◌, length, get_or, take, drop, sym, subst, refl, arith, add-one, IsUtf8, true, false, ⊎_elim, length-take-le, get_or-take}
 use Rattle.std.specs.Prelude.{IsTrue, All}
 use Rattle.std.specs.Str.{IsCharBoundary}
@@ -57,6 +57,6 @@ run_piece (b ∷ bs) (suc m) some within first run stops =
       no_run_begins (b ∷ bs) (suc m) stops,
     )
 
--- no blank and no parenthesis is a byte of a run
+-- a byte that is neither a blank nor a parenthesis is a byte of a run
 pub run_byte : (b : ℕ) → is_blank b ≡ false → is_parenthesis b ≡ false → is_run_byte b ≡ true
 run_byte b no_blank no_parenthesis = grind (arith, nat_tests)

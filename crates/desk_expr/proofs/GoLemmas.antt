@@ -1,4 +1,4 @@
--- Which chosen terms can go, found a round at a time.
+-- Which chosen terms can go, found one round at a time.
 use Rattle.std.proofs.Common.{◌≡◌, ◌∙◌, ◌⊎◌, inl, inr, ℕ, zero, suc, ◌+◌, ◌<◌, List, [], ◌∷◌, ◌++◌, length, ap, refl, arith, Some, ⊎_elim, subst}
 use Rattle.std.specs.Prelude.{slice_get}
 use Rattle.std.proofs.lemmas.Option.{slice_get_within}
@@ -67,11 +67,11 @@ module _ (chosen : List Term) (from : ℕ) where
         (order place next);
   }
 
--- a copy can go where its original can
+-- the original of a copy that can go can go too
 original_goes : (chosen : List Term) (e : Tree) (place : ℕ) (copy : IsCopy chosen place) → CanGo chosen e place → CanGo chosen e copy.0
 original_goes chosen e place copy (t, at, holds) = (t, copy.2 ∙ at, holds)
 
--- where each term below a place stays or is a copy, none there can go
+-- if each term below a place stays or is a copy, none there can go
 none_below : (chosen : List Term) (e : Tree) (n : ℕ) → ((i : ℕ) → i < n → IsCopy chosen i ⊎ (CanGo chosen e i → ⊥)) → (i : ℕ) → i < n → CanGo chosen e i → ⊥
 none_below chosen e zero each i below go = absurd (omega (arith, below))
 none_below chosen e (suc n) each i below go =

@@ -16,11 +16,11 @@ Follows place x ss y us = (ts : List Lexeme) × AreTokens place (x ++ y) ts × (
 abbrev pub Lexes : List ℕ → List Symbol → Type 0
 Lexes x ss = (place : ℕ) (y : List ℕ) (us : List Lexeme) → AreTokens (place + length x) y us → Follows place x ss y us
 
--- the same, where no run goes on behind the front
+-- the same, if no run continues after the front
 abbrev pub LexesAlone : List ℕ → List Symbol → Type 0
 LexesAlone x ss = (place : ℕ) (y : List ℕ) (us : List Lexeme) → NoRunBegins y → AreTokens (place + length x) y us → Follows place x ss y us
 
--- a text that no run begins, whatever follows
+-- a text that doesn't begin with a byte of a run, whatever follows
 abbrev pub EndsRuns : List ℕ → Type 0
 EndsRuns x = (y : List ℕ) → NoRunBegins (x ++ y)
 

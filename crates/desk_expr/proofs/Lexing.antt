@@ -104,7 +104,7 @@ first_piece b bs no_blank =
       | inr is_not ↦ record { text = b ∷ []; rest = bs; piece = inl (no_run b no_blank is_not, refl); cut = refl; some = omega arith }
     ]
 
--- nothing but blanks, or a first token, with less behind it
+-- only blanks, or a first token with fewer bytes after it
 first_exists : (profile : Profile) (place : ℕ) (bytes : List ℕ) → All Blank bytes ⊎ ((t : Lexeme) × (rest : List ℕ) × IsFirstToken profile place bytes t rest × (length rest < length bytes))
 first_exists profile place bytes = let skipped = first_blanks bytes in by_from profile place bytes skipped skipped.from refl
   where
@@ -138,12 +138,12 @@ tokens_exist profile place bytes = tokens_exist_in profile (length bytes) place 
 
 -- ---- and only one list of them
 
--- no blank begins what follows
+-- what follows doesn't begin with a blank
 abbrev NoBlankBegins : List ℕ → Type 0
 NoBlankBegins [] = Unit {0}
 NoBlankBegins (b ∷ bs) = is_blank b ≡ false
 
--- two longest fronts of bytes that pass a test are one
+-- there is only one longest front of bytes that pass a test
 same_front : (test : ℕ → Bool) (xs ys x y : List ℕ) → All (λ b. IsTrue (test b)) xs → All (λ b. IsTrue (test b)) ys
     → ((b : ℕ) (bs : List ℕ) → x ≡ b ∷ bs → test b ≡ false) → ((b : ℕ) (bs : List ℕ) → y ≡ b ∷ bs → test b ≡ false) → xs ++ x ≡ ys ++ y → (xs ≡ ys) × (x ≡ y)
 same_front test [] [] x y only only' stops stops' is = (refl, is)

@@ -1,4 +1,4 @@
--- Where the terms of an expression are noted.
+-- Where the expression's terms are noted.
 use Rattle.std.proofs.Common.{◌≡◌, ◌≢◌, ◌∙◌, ℕ, zero, suc, ◌+◌, ◌-◌, ◌/◌, ◌<◌, ◌≤◌, true, false, List, [], ◌∷◌, length, get_or, replicate, Bor, sym, ap, refl, subst, arith, Option, Some, None, inl, inr, ⊎_elim}
 use Rattle.std.specs.Prelude.{slice_get, Contains, nat_lt}
 use Rattle.std.proofs.str.Laws.{order}
@@ -29,7 +29,7 @@ same_own own t u same a b = names_one (own_at own (lower_in own u)) t u (subst (
 same_listed : (chosen : List Term) (k : ℕ) (t u : Term) → slice_get chosen k ≡ Some t → slice_get chosen k ≡ Some u → t ≡ u
 same_listed chosen k t u a b = let is : Some t ≡ Some u = sym a ∙ b in cc
 
--- what is noted of the terms before a place
+-- what is noted of the listed terms before a place
 pub record NotedTo (chosen : List Term) (own : List (Option (Bor Term))) (places : List ℕ) (i : ℕ) : Type 0 where
   pub there : (t : Term) → IsOwn own t → noted_place own places t < length chosen → slice_get chosen (noted_place own places t) ≡ Some t
   pub told : (t : Term) (k : ℕ) → IsOwn own t → k < i → slice_get chosen k ≡ Some t → noted_place own places t < length chosen
@@ -49,7 +49,7 @@ noted_first chosen own n room = record {
   told = λ t k is early at. absurd (omega (arith, early));
 }
 
--- a term whose place is not behind it, if it is found
+-- one more term, whose noted place, if it is found, is not after its own
 noted_next : (chosen : List Term) (own : List (Option (Bor Term))) (places : List ℕ) (i : ℕ) (t : Term)
     → slice_get chosen i ≡ Some t → (IsOwn own t → noted_place own places t ≤ i)
     → NotedTo chosen own places i → NotedTo chosen own places (i + 1)
@@ -67,11 +67,11 @@ noted_next chosen own places i t at earlier so_far = record {
       (order k i);
 }
 
--- of a term that isn't found nothing is noted
+-- nothing is noted for a term that isn't found
 pub noted_none : (chosen : List Term) (own : List (Option (Bor Term))) (places : List ℕ) (i : ℕ) (t : Term) → slice_get chosen i ≡ Some t → (IsOwn own t → ⊥) → NotedTo chosen own places i → NotedTo chosen own places (i + 1)
 noted_none chosen own places i t at none = noted_next chosen own places i t at (λ is. absurd (none is))
 
--- a term that stands earlier keeps its place
+-- a term that is listed earlier keeps its place
 pub noted_kept : (chosen : List Term) (own : List (Option (Bor Term))) (places : List ℕ) (i : ℕ) (t : Term) → slice_get chosen i ≡ Some t → noted_place own places t ≤ i → NotedTo chosen own places i → NotedTo chosen own places (i + 1)
 noted_kept chosen own places i t at earlier = noted_next chosen own places i t at (λ is. earlier)
 

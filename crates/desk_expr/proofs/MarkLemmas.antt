@@ -1,4 +1,4 @@
--- Bits that tell of which candidates a fact holds.
+-- Bits that say for which candidates a fact holds.
 use Rattle.std.proofs.Common.{◌≡◌, ◌↔◌, ◌∙◌, ◌⊎◌, inl, inr, ℕ, zero, suc, ◌+◌, ◌<◌, ◌≤◌, ◌^◌, max, ◌*◌, ◌%◌, ⊎_elim, List, [], ◌∷◌, length, drop, get_or, sym, ap, refl, arith, Some}
 use Rattle.std.specs.Prelude.{slice_get, ◌≢◌, bit_and, bit_or}
 use Rattle.std.specs.Int.{bit_at}
@@ -69,7 +69,7 @@ some_marked set parts i d marks more k within so_far here =
 
 -- ---- one candidate after another
 
--- what is told below a place
+-- what the bits below a place say
 abbrev pub ToldBelow : List Term → List ℕ → Term → ℕ → ℕ → Type 0
 ToldBelow chosen candidates term marks k = (j place : ℕ) (gone : Term) → j < k → slice_get candidates j ≡ Some place → slice_get chosen place ≡ Some gone → (bit_at marks j ≡ 1) ↔ (term ≢ gone)
 

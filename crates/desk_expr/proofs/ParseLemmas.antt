@@ -27,7 +27,7 @@ spells_once profile text a b (ts, are, h) (us, are', k) =
 
 -- ---- the tokens so far
 
--- whatever tokens the rest has, complete those so far
+-- the tokens of the rest, whatever they are, complete those so far
 abbrev pub SoFar : Profile → List ℕ → List Token → TokenCuts → Type 0
 SoFar profile text yielded cuts = (ts : List Lexeme) → AreTokensBy cuts.profile cuts.place cuts.rest.now ts → AreTokensBy profile 0 text (map lexeme yielded ++ ts)
 
@@ -115,7 +115,7 @@ no_reason profile text f e (front, t, behind, are, stands, reason) (short, us, a
     none (TooManyTerms p) reason h keeps = let few = keeps.terms in absurd (omega (arith, few, reason.2))
     none (Memory m) reason h keeps = reason
 
--- behind tokens that stop at the end of the text nothing is spelled
+-- if tokens stop at the end of the text, they spell nothing
 pub end_spells_nothing : {A : Type 0} (Spells : List Symbol → A → Type 0) (end : ℕ) (ts : List Lexeme) (a : A) (f : ParseFault) → EndReason Spells end ts f → Spells (symbols ts) a → ⊥
 end_spells_nothing Spells end ts a (Empty p) reason h = reason
 end_spells_nothing Spells end ts a (BadToken p) reason h = reason
@@ -186,7 +186,7 @@ module _ (profile : Profile) (text : List ℕ) (ts : List Lexeme) (short : lengt
   stopped_at_end (Ok e) h = h
   stopped_at_end (Err f) h = stop_at_end profile text ts f short are stands h
 
--- what holds of all fronts that have been read, at the one that was
+-- what holds for all fronts that may have been read, for the one that was
 pub spelled_by : (ts : List Lexeme) (m : Progress) (r : Result Tree ParseFault) → IfOk r (λ e. (front : List Lexeme) → HasRead front m → SpellsTree (symbols front) e) → HasRead ts m → IfOk r (λ e. SpellsTree (symbols ts) e)
 spelled_by ts m (Ok e) h read = h ts read
 spelled_by ts m (Err f) h read = h

@@ -29,7 +29,7 @@ closing_ends y = refl
 between : (w : List ℕ) (s : Symbol) → LexesAlone w (s ∷ []) → Lexes (32 ∷ (w ++ 32 ∷ [])) (s ∷ [])
 between w s h = lexes_then (32 ∷ []) (w ++ 32 ∷ []) [] (s ∷ []) lexes_blank (alone_then w (32 ∷ []) (s ∷ []) [] h (λ y. refl) lexes_blank)
 
--- bytes that are all of a run, by their test
+-- bytes that are all bytes of a run, by their test
 run_of : (w : List ℕ) (s : Symbol) → IsWord w s → LexesAlone w (s ∷ [])
 run_of w s h = subst (λ t. LexesAlone w (t ∷ [])) h.is (lexes_run w h.some h.run)
 
@@ -103,7 +103,7 @@ any_parts no_more h = absurd h
 any_parts (more t no_more) h = absurd h
 any_parts (more t (more u ts)) h = ap (λ us. any (more t (more u us))) (parts_of_list ts)
 
--- a text of some symbols that stand in a language
+-- a text of symbols that are in a language
 pub record Prints (text : List ℕ) (P : List Symbol → Type 0) : Type 0 where
   pub ss : List Symbol
   pub lexes : LexesAlone text ss
@@ -139,7 +139,7 @@ PrintsAnd ts = Prints (joined InAll (codes " AND ") ts) (λ ss. AndList ss (list
 abbrev PrintsOr : Trees → Type 0
 PrintsOr ts = Prints (joined InAny (codes " OR ") ts) (λ ss. OrList ss (list_of ts))
 
--- an operand, and the AND list behind it if there is one
+-- an operand, and the AND list after it if there is one
 and_join : (t : Tree) (ts : Trees) → Prints (printed_in InAll t) (λ ss. Operand ss t) → (IsSome ts → PrintsAnd ts) → PrintsAnd (more t ts)
 and_join t no_more p more_of =
     record { ss = p.ss; lexes = subst (λ l. LexesAlone l p.ss) (sym (append-nil (printed_in InAll t))) p.lexes; spells = one_operand p.ss t p.spells }

@@ -1,4 +1,4 @@
--- One token more has been read.
+-- One more token has been read.
 use Rattle.std.proofs.Common.{◌≡◌, ◌↔◌, ◌∙◌, ℕ, zero, suc, ◌+◌, ◌-◌, ◌<◌, ◌≤◌, Bool, true, false, List, [], ◌∷◌, ◌++◌, length, take, sym, subst, ap, refl, append_assoc, arith, ⊎_elim, Some, length-append}
 use Rattle.std.specs.Prelude.{fold, slice_get, ◌&&◌, not, if◌then◌else◌, ◌≢◌}
 use Rattle.std.proofs.lemmas.List.{map-append, append-nil, take_all, take-append-le}
@@ -27,7 +27,7 @@ use Rattle.desk_expr.proofs.Residual.{ended_lives, want_lives, after_lives, word
 use Rattle.desk_expr.proofs.Steps.{from_lives}
 use Rattle.desk_expr.proofs.Balance.{completed_open}
 
--- ---- one token behind a list
+-- ---- one token after a list
 
 pub symbols_push : (front : List Lexeme) (t : Lexeme) (r : List Symbol) → symbols (front ++ t ∷ []) ++ r ≡ symbols front ++ symbol_of t ∷ r
 symbols_push front t r =
@@ -167,7 +167,7 @@ module _ (front : List Lexeme) (m : Progress) (read : HasRead front m) where
     (λ h. subst (λ l. SpellsTree l e) (append-nil (symbols front)) ((read.rest [] e).1 h)),
   )
 
-  -- where the text spells nothing and closing parentheses complete it, one is open
+  -- if the text spells nothing and closing parentheses complete it, one is open
   pub last_is_open : ((e : Tree) → SpellsTree (symbols front) e → ⊥) → ClosingsComplete SpellsTree (symbols front) → (p : ℕ) × (slice_get (still_open front) (length (still_open front) - 1) ≡ Some p)
   last_is_open none (zero, e, h) = absurd (none e (subst (λ l. SpellsTree l e) (append-nil (symbols front)) h))
   last_is_open none (suc n, e, h) =

@@ -1,4 +1,4 @@
--- What may follow a place in an expression, one symbol on, and at the end.
+-- What may follow a place in an expression, after one more symbol, and at the end.
 use Rattle.std.proofs.Common.{◌≡◌, ◌↔◌, ◌∙◌, inl, inr, ℕ, List, [], ◌∷◌, ◌++◌, sym, subst, ap, refl, append_assoc, Option, Some, None, false}
 use Rattle.std.specs.Prelude.{◌≢◌}
 use Rattle.desk_expr.specs.declared.term.Term.{Term}
@@ -20,7 +20,7 @@ closed_closes K ors ands x s r e h = let n = h.1 in cc
 snoc : (xs ys : List Tree) (y : Tree) → (xs ++ y ∷ []) ++ ys ≡ xs ++ y ∷ ys
 snoc xs ys y = append_assoc xs (y ∷ []) ys
 
--- wanting an operand is an operand and what may follow it
+-- where an operand is wanted, there is one, and what may follow it
 pub want_operand : (K : Goal) (ors ands : List Tree) (r : List Symbol) (e : Tree) → Want K ors ands r e → (op : Tree) × (r' : List Symbol) × OperandRun r op r' × After K ors ands op r' e
 want_operand K ors ands r e (es, r1, last_operand ts op q h, tail) = (op, q, h, inl tail)
 want_operand K ors ands r e (es, r1, next_operand ts us op fs q h k, tail) =
@@ -31,7 +31,7 @@ operand_want K ors ands r e op r' h (inl tail) = (op ∷ [], r', last_operand r 
 operand_want K ors ands r e op r' h (inr (us, is, (fs, q, k, tail))) =
     (op ∷ fs, q, next_operand r us op fs q (subst (λ s. OperandRun r op s) is h) k, subst (λ p. Tail K ors p q e) (snoc ands fs op) tail)
 
--- a whole OR list and what is done with it
+-- a whole OR list, and what is done with it
 pub run_want : (K : Goal) (r : List Symbol) (es : List Tree) (r' : List Symbol) (e : Tree) → OrRun r es r' → K (any_of es) r' e → Want K [] [] r e
 run_want K r es r' e (last_list ts fs q h) k = (fs, q, h, inl k)
 run_want K r es r' e (next_list ts us fs gs q h m) k = (fs, or_word ∷ us, h, inr (us, gs, q, refl, m, k))
@@ -41,7 +41,7 @@ want_run K r e (fs, q, h, inl k) = (all_of fs ∷ [], q, last_list r fs q h, k)
 want_run K r e (fs, q, h, inr (us, gs, p, is, m, k)) =
     (all_of fs ∷ gs, p, next_list r us fs gs p (subst (λ s. AndRun r fs s) is h) m, k)
 
--- ---- one symbol on
+-- ---- one more symbol
 
 or_want : (K : Goal) (ors : List Tree) (done : Tree) (r : List Symbol) (gs : List Tree) (p : List Symbol) (e : Tree) → OrRun r gs p → K (any_of (ors ++ done ∷ gs)) p e → Want K (ors ++ done ∷ []) [] r e
 or_want K ors done r gs p e (last_list ts fs q h) k =

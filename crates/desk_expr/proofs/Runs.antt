@@ -1,4 +1,4 @@
--- The grammar from one place of a list to a later one: what is left behind it is a part of the statement.
+-- The grammar from one place of a list to a later one: what is left after it is part of the statement.
 use Rattle.std.proofs.Common.{◌≡◌, ◌↔◌, ◌∙◌, List, [], ◌∷◌, ◌++◌, sym, subst, ap, refl, append_assoc, Some}
 use Rattle.std.proofs.lemmas.List.{append-nil}
 use Rattle.desk_expr.specs.declared.term.Term.{Term}
@@ -11,7 +11,7 @@ term_run : {ts : List Symbol} {t : Term} → SpellsTerm ts t → (r : List Symbo
 term_run (bare t o) r = bare_run t o r
 term_run (excepted t u o x) r = excepted_run t u o x r
 
--- a list of the grammar, with anything behind it
+-- a list of the grammar, with anything after it
 mutual
   operand_run : {ts : List Symbol} {e : Tree} → Operand ts e → (r : List Symbol) → OperandRun (ts ++ r) e r
   operand_run (a_term ts t h) r = term_run h r
@@ -28,7 +28,7 @@ mutual
   or_run (or_more ts us es fs h k) r =
       subst (λ s. OrRun s (all_of es ∷ fs) r) (sym (append_assoc ts (or_word ∷ us) r)) (next_list (ts ++ or_word ∷ (us ++ r)) (us ++ r) es fs r (and_run h (or_word ∷ (us ++ r))) (or_run k r))
 
--- what a run goes over is a list of the grammar
+-- what a run covers is a list of the grammar
 mutual
   operand_list : {ts : List Symbol} {e : Tree} {r : List Symbol} → OperandRun ts e r → (front : List Symbol) × Operand front e × (ts ≡ front ++ r)
   operand_list (bare_run t o r) = (word t o ∷ [], a_term (word t o ∷ []) t (bare t o), refl)

@@ -23,7 +23,7 @@ pub from_lives : (K : Goal) → Lives K → (gs : List Group) → Lives (goal_fr
 from_lives K lives [] = lives
 from_lives K lives (g ∷ gs) = from_lives (Closed K g.lists.items g.operands.items) (closed_lives K lives g.lists.items g.operands.items) gs
 
--- one group more
+-- one more group
 pub from_push : (K : Goal) (gs : List Group) (g : Group) → goal_from K (gs ++ g ∷ []) ≡ Closed (goal_from K gs) g.lists.items g.operands.items
 from_push K [] g = refl
 from_push K (h ∷ gs) g = from_push (Closed K h.lists.items h.operands.items) gs g
@@ -112,14 +112,14 @@ from_completes K n ends (g ∷ gs) =
     (λ x. let k = ends (any_of (g.lists.items ++ all_of (g.operands.items ++ x ∷ []) ∷ [])) in (k.0, (closings n, refl, inl (inl k.1))))
     gs
 
--- closing parentheses complete what has an operand last
+-- closing parentheses complete what ends with an operand
 pub after_completes : (gs : List Group) (ors ands : List Tree) (op : Tree) → (n : ℕ) × (e : Tree) × After (goal_from Ended gs) ors ands op (closings n) e
 after_completes gs ors ands op =
     let c = from_completes Ended 0 (λ x. (x, (refl, refl))) gs in
     let k = c.1 (any_of (ors ++ all_of (ands ++ op ∷ []) ∷ [])) in
     (c.0, k.0, inl (inl k.1))
 
--- no closing parentheses stand for an operand
+-- closing parentheses are no operand
 pub want_not_closings : (gs : List Group) (g : Group) (n : ℕ) (e : Tree) → Want (goal_from Ended gs) g.lists.items g.operands.items (closings n) e → ⊥
 want_not_closings gs g zero e h =
     want_other (goal_from Ended gs) (outer_closes gs) g.lists.items g.operands.items [] e h (λ t is. cc) (λ t o q is. cc)

@@ -18,7 +18,7 @@ use Rattle.desk_expr.specs.Occurring.{term_order}
 same : (x y : Term) → ghosts.eq x y ≡ true → x ≡ y
 same x y h = search rules
 
--- terms that tie are the same
+-- terms that tie are equal
 pub same_rank : (x y : Term) → term_order x y ≡ Equal → x ≡ y
 same_rank x y tie = same x y (matches_eq-law x y ∙ ap is_eq tie)
 
@@ -35,7 +35,7 @@ sorted xs up k d from to =
     let less : term_order (get_or xs k d) (get_or xs (k + 1) d) ≡ Less = Less-from_sorted term_order xs k (k + 1) d up (omega arith) to in
     ap is_lt (total-law.antisymm (get_or xs (k + 1) d) (get_or xs k d) ∙ ap ordering_reverse less)
 
--- what lies between the lower and the higher terms isn't listed
+-- a term that is between the lower and the higher terms isn't listed
 none_between : (xs : List Term) (t : Term) (i : ℕ) → IsPartitionPoint (λ y. term_order y t ≡ Less) (λ y. term_order y t ≡ Greater) xs i → Contains xs t → ⊥
 none_between xs t i parts at =
     let tie : term_order (get_or xs at.0 t) t ≡ Equal = ap (λ y. term_order y t) at.2 ∙ ranks_with_itself t in

@@ -116,7 +116,7 @@ pub term_short : (ss : List Symbol) (t : Term) → SpellsTerm ss t → length ss
 term_short ss t (bare v o) = omega arith
 term_short ss t (excepted v u o x) = omega arith
 
--- a front of a term keeps the limits
+-- a front of a term is within the limits
 pub short_stands : (front : List Lexeme) → Begins SpellsTerm (symbols front) → Stands SpellsTerm front
 short_stands front b =
     let few = term_short (symbols front ++ b.0) b.1 b.2 in
@@ -186,7 +186,7 @@ module _ (front : List Lexeme) (t : Lexeme) (m : TermState) (read : TermRead fro
         stands = fronts_push (Stands SpellsTerm) front t read.stands (short_stands (front ++ t ∷ []) (begins (front ++ t ∷ []) n rest));
       }
 
-  -- why a token can't stand, apart from want of memory
+  -- why a token can't be there, apart from lack of memory
   abbrev pub TermStopsAfter : ParseFault → Type 0
   TermStopsAfter f = (f ≡ Memory alloc_error) ⊎ Reason SpellsTerm front t f
 
@@ -222,7 +222,7 @@ module _ (profile : Profile) (text : List ℕ) (yielded : List Token) (t : Token
       let behind = tokens_exist cuts.profile t.end new.rest.now in
       at_token f short (map lexeme yielded, lexeme t, behind.0, so_far (lexeme t ∷ behind.0) (new.rest.now, given.0, behind.1), stands, reason) reason
 
--- an exception doesn't stand first
+-- an exception doesn't come first
 no_exception_first : (v : Term) → ((r : List Symbol) (t : Term) → TermRest (state.Exception v) r t → SpellsTerm r t) → ⊥
 no_exception_first v all =
     let x : List ℕ = 97 ∷ [] in

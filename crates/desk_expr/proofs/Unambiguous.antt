@@ -20,7 +20,7 @@ follow_closes : (gs : Stack) → OnlyCloses (follow gs)
 follow_closes [] = ended_closes
 follow_closes (g ∷ gs) = closed_closes (follow gs) g.0 g.1
 
--- what follows a word gives one tree, if what follows an operand and an exception does
+-- what follows a word gives only one tree, if what follows an operand and an exception does
 one_after_word : (K : Goal) → OnlyCloses K → (ors ands : List Tree) (t : Term) (r : List Symbol)
     → ((e f : Tree) → After K ors ands (one t) r e → After K ors ands (one t) r f → e ≡ f)
     → ((q : List Symbol) → r ≡ with_word ∷ q → (e f : Tree) → WantException K ors ands t q e → WantException K ors ands t q f → e ≡ f)

@@ -46,7 +46,7 @@ kind_from w k no_opening no_closing no_and no_or no_with is = rw (no_opening, no
 
 -- ---- folded ids
 
--- no byte of a folded id is a capital or no byte of an idstring
+-- each byte of a folded id is a byte of an idstring and no capital
 id_bytes : (w : List ℕ) → is_folded_id w ≡ true → (list_all is_idstring_byte w ≡ true) × (folded w ≡ w) × (0 < length w)
 id_bytes w h =
     let parts = and_true (is_idstring w) (bytes_eq (folded w) w) h in
@@ -69,7 +69,7 @@ no_id_byte b bs w is h none =
 no_capital : (b : ℕ) (bs : List ℕ) (w : List ℕ) → w ≡ b ∷ bs → folded w ≡ w → to_ascii_lowercase b ≡ b
 no_capital b bs w is h = head_fold b bs (subst (λ l. folded l ≡ l) is h)
 
--- a folded id does not begin by a capital A, D, L, O or W, nor by a parenthesis
+-- a text whose first byte is another one than that of a name is not that name
 begins_other : (w v : List ℕ) (c : ℕ) (cs : List ℕ) → v ≡ c ∷ cs → (first : (b : ℕ) (bs : List ℕ) → w ≡ b ∷ bs → b ≡ c → ⊥) → w ≡ v → ⊥
 begins_other w v c cs v_is first is = first c cs (is ∙ v_is) refl
 
@@ -96,7 +96,7 @@ record NoName (w : List ℕ) : Type 0 where
   with_word : bytes_eq w (codes "WITH") ≡ false
   reference : begins_like_reference w ≡ false
 
--- a text whose first byte is one of a folded id is no operator, parenthesis or beginning of a reference
+-- a text whose first byte is one of a folded id is no operator or parenthesis and doesn't begin like a reference
 no_name : (w : List ℕ) (b : ℕ) (bs : List ℕ) → w ≡ b ∷ bs → is_idstring_byte b ≡ true → to_ascii_lowercase b ≡ b → NoName w
 no_name w b bs is id small = record {
   opening = unequal w (codes "(") (λ e. first 40 (codes "") (e) bad_opening);
@@ -149,7 +149,7 @@ licence_kind w h =
     let id : is_idstring w ≡ true = (and_true (is_idstring w) (bytes_eq (folded w) w) h).0 in
     kind_from w Licence name.opening name.closing name.and_word name.or_word name.with_word (rw (name.reference, id) refl)
 
--- ---- a plus behind an id
+-- ---- a plus after an id
 
 plus_is_none : (w : List ℕ) → is_idstring (w ++ codes "+") ≡ false
 plus_is_none w =
@@ -247,7 +247,7 @@ idstring_run w h = run_bytes w (and_true (nat_lt 0 (length w)) (list_all is_idst
 joined_run : (v w : List ℕ) → list_all is_run_byte v ≡ true → list_all is_run_byte w ≡ true → list_all is_run_byte (v ++ w) ≡ true
 joined_run v w h k = list_all-append is_run_byte v w ∙ both_true (list_all is_run_byte v) (list_all is_run_byte w) h k
 
--- what begins by a run and goes on as one is a run
+-- bytes that begin with bytes of a run and continue with them are all bytes of a run
 prefix_run : (w needle : List ℕ) → starts_with nat_eq w needle ≡ true → list_all is_run_byte needle ≡ true → list_all is_run_byte (drop (length needle) w) ≡ true → list_all is_run_byte w ≡ true
 prefix_run w needle h run rest =
     let front : needle ≡ take (length needle) w = (bytes_eq-Decides needle (take (length needle) w)).0 h in

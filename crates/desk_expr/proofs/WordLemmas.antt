@@ -1,4 +1,4 @@
--- What the kind of a token says of its bytes, and that words are well-formed terms.
+-- What the kind of a token says about its bytes, and that words are well-formed terms.
 use Rattle.std.proofs.Common.{◌≡◌, ◌∙◌, ℕ, List, [], ◌∷◌, length, Bool, true, false, refl, sym, subst, ap, arith, add-zero, Some, None, drop, get_or, codes, nat_eq}
 use Rattle.std.specs.Prelude.{nat_lt, ◌&&◌, ◌||◌, not, if◌then◌else◌, ◌-◌}
 use Rattle.std.specs.Char.{to_ascii_lowercase}
@@ -18,7 +18,7 @@ use Rattle.desk_expr.specs.declared.term.Term.{Term}
 
 -- ---- kinds
 
--- the test that a word of this kind passes: f of a reference, i of a licence, l of one with `+`
+-- the test that a word of this kind passes: f for a reference, i for a licence, l for one with `+`
 abbrev Passes : Kind → Bool → Bool → Bool → Type 0
 Passes Licence f i l = i ≡ true
 Passes LicenceOrLater f i l = l ≡ true
@@ -84,7 +84,7 @@ pub folded_twice : (w : List ℕ) → folded (folded w) ≡ folded w
 folded_twice [] = refl
 folded_twice (b ∷ bs) = (λ i. lowercase-lowercase b i ∷ folded_twice bs i)
 
--- an id that is folded is a folded id
+-- a folded idstring is a folded id
 pub folded_id : (w : List ℕ) → is_idstring w ≡ true → is_folded_id (folded w) ≡ true
 folded_id w h =
     both_true (is_idstring (folded w)) (bytes_eq (folded (folded w)) (folded w)) (folded_idstring w h) ((bytes_eq-Decides (folded (folded w)) (folded w)).1 (folded_twice w))
@@ -111,7 +111,7 @@ pub reference_is_term : (w k : List ℕ) → k ≡ w → is_reference w ≡ true
 reference_is_term w k is h =
     rw is (both_true (is_folded_id w || (is_reference w && true)) true (or_right (is_folded_id w) (is_reference w && true) (both_true (is_reference w) true h refl)) refl)
 
--- a well-formed term stays one with another exception
+-- a well-formed term is still well formed with another exception
 pub excepted_is_term : (t : Term) (x : List ℕ) → is_term t ≡ true → is_folded_id x ≡ true → is_term (record t { exception = Some x }) ≡ true
 excepted_is_term t x h k =
     both_true (is_folded_id t.key || (is_reference t.key && not t.plus)) (is_folded_id x) (and_true (is_folded_id t.key || (is_reference t.key && not t.plus)) (is_exception t.exception) h).0 k

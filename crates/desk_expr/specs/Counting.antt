@@ -1,4 +1,4 @@
--- One token more in the counts that the limits are about.
+-- One more token in the counts that the limits are about.
 use Rattle.std.specs.Prelude.{◌≡◌, ℕ, ◌+◌, ◌<◌, ◌≤◌, ◌&&◌, Bool, not, if◌then◌else◌, length}
 use Rattle.desk_base.specs.Limits as limit
 use Rattle.desk_expr.specs.declared.counts.Counts.{Counts}
@@ -7,11 +7,11 @@ use Rattle.desk_expr.specs.declared.fault.ParseFault.TheVariants.{Empty, BadToke
 use Rattle.desk_expr.specs.Tokens.{Lexeme}
 use Rattle.desk_expr.specs.Spelling.{symbol_of, open_after, is_word, is_with}
 
--- the terms with one token more
+-- the number of terms after one more token
 abbrev pub terms_after : ℕ → Bool → Lexeme → ℕ
 terms_after terms after_with t = terms + (if is_word (symbol_of t) && not after_with then 1 else 0)
 
--- the new counts have the token too, and keep the limits
+-- the new counts include the token, and are within the limits
 pub record CountsToken (old : Counts) (t : Lexeme) (new : Counts) : Type 0 where
   pub open_places : new.open_places.items ≡ open_after old.open_places.items t
   pub terms : new.terms ≡ terms_after old.terms old.after_with t

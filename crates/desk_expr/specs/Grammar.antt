@@ -4,7 +4,7 @@ use Rattle.desk_expr.specs.declared.term.Term.{Term}
 use Rattle.desk_expr.specs.Tree.{Tree, one, all, any, parts_of}
 use Rattle.desk_expr.specs.Words.{with_exception}
 
--- a token apart from its place; a word is a term by itself and, where it may be one, the exception that it is after WITH
+-- a token, apart from its place; a word is a term and, if it can be one, also the exception that it is after WITH
 pub data Symbol : Type 0 where
   opening : Symbol
   closing : Symbol
@@ -14,7 +14,7 @@ pub data Symbol : Type 0 where
   word : Term → Option (List ℕ) → Symbol
   bad : Symbol
 
--- one part is itself, more are joined
+-- one part is itself, several are joined
 abbrev pub all_of : List Tree → Tree
 all_of [] = all (parts_of [])
 all_of (t ∷ []) = t

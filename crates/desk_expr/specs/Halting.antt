@@ -1,4 +1,4 @@
--- The fault of a reader that goes no further.
+-- The fault of a reader that stops.
 use Rattle.std.specs.Prelude.{ℕ}
 use Rattle.desk_expr.specs.declared.word.Halt.{Halt}
 use Rattle.desk_expr.specs.declared.word.Halt.TheVariants as halt

@@ -1,4 +1,4 @@
--- Where the terms of an expression stand in a list. They are found by halving; if they weren't sorted, some would not be found.
+-- Where the terms of an expression are in a list. They are found by binary search; if they weren't sorted, some would not be found.
 use Rattle.std.specs.Prelude.{◌≡◌, ℕ, zero, suc, ◌+◌, ◌-◌, ◌/◌, ◌<◌, ◌≤◌, nat_lt, Bool, false, List, length, slice_get, Option, Some, None, Contains, if◌then◌else◌}
 use Rattle.std.specs.Ordering.{is_lt}
 use Rattle.std.proofs.Common.{Bor, get_or}
@@ -12,7 +12,7 @@ is_below (Some known) t = is_lt (term_order known.now t)
 abbrev pub own_at : List (Option (Bor Term)) → ℕ → Option (Bor Term)
 own_at own slot = get_or own slot None
 
--- how many are below a term, where they are sorted, by so many halvings at most
+-- how many are below a term, if they are sorted, by at most this many halvings
 abbrev pub lower_by : ℕ → List (Option (Bor Term)) → Term → ℕ → ℕ → ℕ
 lower_by zero own t low high = low
 lower_by (suc n) own t low high =
@@ -22,12 +22,12 @@ lower_by (suc n) own t low high =
 abbrev pub lower_in : List (Option (Bor Term)) → Term → ℕ
 lower_in own t = lower_by (length own) own t 0 (length own)
 
--- one of the terms of an expression is this term
+-- one of an expression's terms is this term
 abbrev pub Names : Option (Bor Term) → Term → Type 0
 Names None t = ⊥
 Names (Some known) t = known.now ≡ t
 
--- a term that is found among the terms of an expression
+-- a term that is found among the expression's terms
 abbrev pub IsOwn : List (Option (Bor Term)) → Term → Type 0
 IsOwn own t = Names (own_at own (lower_in own t)) t
 
@@ -35,7 +35,7 @@ IsOwn own t = Names (own_at own (lower_in own t)) t
 abbrev pub noted_place : List (Option (Bor Term)) → List ℕ → Term → ℕ
 noted_place own places t = get_or places (lower_in own t) 0
 
--- of each term that is found, a place where it is listed is noted, and none where it isn't listed
+-- for each term that is found, the place that is noted is one where it is listed, or none if it isn't listed
 pub record IsNoted (chosen : List Term) (own : List (Option (Bor Term))) (places : List ℕ) : Type 0 where
   pub room : length own ≤ length places
   pub there : (t : Term) → IsOwn own t → noted_place own places t < length chosen → slice_get chosen (noted_place own places t) ≡ Some t

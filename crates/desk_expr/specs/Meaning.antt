@@ -1,9 +1,9 @@
--- When an expression is satisfied, and by which sets minimally (SPDX 2.3, Annex D.4). A list of terms stands for the set of its terms.
+-- When an expression is satisfied, and which sets satisfy it minimally (SPDX 2.3, Annex D.4). A list of terms stands for the set of its terms.
 use Rattle.std.specs.Prelude.{◌≡◌, ◌≢◌, ◌⊎◌, ℕ, ◌<◌, List, slice_get, Some, Contains}
 use Rattle.desk_expr.specs.declared.term.Term.{Term}
 use Rattle.desk_expr.specs.Tree.{Tree, Trees, one, all, any, no_more, more}
 
--- the set of terms satisfies the tree: One where it has the term, All where each part holds, Any where some part does
+-- the set of terms satisfies the tree: One if it has the term, All if each part holds, Any if some part does
 abbrev mutual
   pub Holds : (Term → Type 0) → Tree → Type 0
   Holds set (one t) = set t
@@ -33,7 +33,7 @@ IsMinimal chosen e = Holds (Contains chosen) e × ((few : List Term) → IsPrope
 abbrev pub Without : List Term → Term → Term → Type 0
 Without chosen gone t = Contains chosen t × (t ≢ gone)
 
--- the tree stays satisfied without the term at the place
+-- the tree is satisfied even without the term at the place
 abbrev pub CanGo : List Term → Tree → ℕ → Type 0
 CanGo chosen e i = (t : Term) × (slice_get chosen i ≡ Some t) × Holds (Without chosen t) e
 

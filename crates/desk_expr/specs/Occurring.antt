@@ -1,4 +1,4 @@
--- The terms that stand in a tree.
+-- The terms that occur in a tree.
 use Rattle.std.specs.Prelude.{◌↔◌, List, [], ◌∷◌, ◌++◌, Contains}
 use Rattle.std.specs.declared.cmp.Ordering.{Ordering}
 use Rattle.std.specs.Ordering.{nat_cmp, bool_cmp, ordering_then}
@@ -8,7 +8,7 @@ use Rattle.std.specs.List.Sorted.{IsStrictlySortedBy}
 use Rattle.desk_expr.specs.declared.term.Term.{Term}
 use Rattle.desk_expr.specs.Tree.{Tree, Trees, one, all, any, no_more, more}
 
--- the terms from the left, each time that one stands there
+-- the terms from the left, each as often as it occurs
 abbrev mutual
   pub leaves : Tree → List Term
   leaves (one t) = t ∷ []
@@ -19,7 +19,7 @@ abbrev mutual
   leaves_of no_more = []
   leaves_of (more t ts) = leaves t ++ leaves_of ts
 
--- the order of terms: key, then no plus before plus, then no exception before some, then the exception
+-- the order of terms: by key, then no plus before plus, then no exception before some, then by the exception
 abbrev pub term_order : Term → Term → Ordering
 term_order a b =
     ordering_then (slice_cmp nat_cmp a.key b.key) (ordering_then (bool_cmp a.plus b.plus) (option_cmp (slice_cmp nat_cmp) a.exception b.exception))

@@ -1,4 +1,5 @@
--- How terms and trees are printed: one space round each operator, an All under an Any without parentheses, every other All or Any under another node in parentheses.
+-- How terms and trees are printed: one space on either side of each operator, no parentheses around an All under an Any, but around every other All or Any
+-- under another node.
 use Rattle.std.specs.Prelude.{ℕ, Bool, true, false, List, [], ◌++◌, Option, Some, None, codes, if◌then◌else◌, IsTrue}
 use Rattle.desk_expr.specs.declared.printing.Place.{Place}
 use Rattle.desk_expr.specs.declared.printing.Place.TheVariants.{Top, InAll, InAny}
@@ -16,7 +17,7 @@ printed_word t = t.key ++ (if t.plus then codes "+" else [])
 abbrev pub printed_term : Term → List ℕ
 printed_term t = printed_word t ++ printed_exception t.exception
 
--- where an All and an Any stand in parentheses
+-- where an All and an Any are in parentheses
 abbrev pub encloses_all : Place → Bool
 encloses_all Top = false
 encloses_all InAll = true
@@ -40,7 +41,7 @@ abbrev mutual
   joined place between no_more = []
   joined place between (more t ts) = printed_in place t ++ joined_on place between ts
 
-  -- the parts behind the first
+  -- the parts after the first
   pub joined_on : Place → List ℕ → Trees → List ℕ
   joined_on place between no_more = []
   joined_on place between (more t ts) = between ++ (printed_in place t ++ joined_on place between ts)

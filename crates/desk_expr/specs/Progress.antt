@@ -19,7 +19,7 @@ abbrev pub ends_with_with : Bool → List Symbol → Bool
 ends_with_with b [] = b
 ends_with_with b (s ∷ ss) = ends_with_with (is_with s) ss
 
--- these tokens have been read, and each front of them may stand
+-- these tokens have been read, and each front of them is allowed
 pub record HasRead (front : List Lexeme) (m : Progress) : Type 0 where
   pub rest : (r : List Symbol) (e : Tree) → SpellsTree (symbols front ++ r) e ↔ Rest m.reader r e
   pub open_places : m.counts.open_places.items ≡ still_open front
@@ -28,7 +28,7 @@ pub record HasRead (front : List Lexeme) (m : Progress) : Type 0 where
   pub started : m.started ≡ is_started front
   pub stands : AllFronts (Stands SpellsTree) front
 
--- the token can't stand after those before it; want of memory may be told of any
+-- the token can't come after those before it; lack of memory may be reported for any
 abbrev pub StopsAfter : List Lexeme → Lexeme → ParseFault → Type 0
 StopsAfter front t (Memory error) = Unit {0}
 StopsAfter front t (Empty place) = ⊥

@@ -25,11 +25,11 @@ RestIn K g (Done op) r e = After K g.lists.items g.operands.items op r e
 abbrev pub Rest : Reader → List Symbol → Tree → Type 0
 Rest m r e = RestIn (goal_from Ended m.outer.items) m.inner m.state r e
 
--- one symbol on
+-- one more symbol
 abbrev pub Steps : Reader → Symbol → Reader → Type 0
 Steps m s n = (r : List Symbol) (e : Tree) → Rest m (s ∷ r) e ↔ Rest n r e
 
--- no list that goes on with the symbol completes it
+-- no list that begins with the symbol completes it
 abbrev pub Refuses : Reader → Symbol → Type 0
 Refuses m s = (r : List Symbol) (e : Tree) → Rest m (s ∷ r) e → ⊥
 

@@ -6,7 +6,7 @@ use Rattle.desk_expr.specs.Words.{with_exception}
 use Rattle.desk_expr.specs.Grammar.{Symbol, opening, closing, and_word, or_word, with_word, word, all_of, any_of}
 
 mutual
-  -- an operand stands at the front, and the last list is what follows it
+  -- an operand is at the front, and the last list is what follows it
   pub data OperandRun : List Symbol → Tree → List Symbol → Type 0 where
     bare_run : (t : Term) (o : Option (List ℕ)) (r : List Symbol) → OperandRun (word t o ∷ r) (one t) r
     excepted_run : (t u : Term) (o : Option (List ℕ)) (x : List ℕ) (r : List Symbol) → OperandRun (word t o ∷ with_word ∷ word u (Some x) ∷ r) (one (with_exception t x)) r
@@ -20,7 +20,7 @@ mutual
     last_list : (ts : List Symbol) (es : List Tree) (r : List Symbol) → AndRun ts es r → OrRun ts (all_of es ∷ []) r
     next_list : (ts us : List Symbol) (es fs : List Tree) (r : List Symbol) → AndRun ts es (or_word ∷ us) → OrRun us fs r → OrRun ts (all_of es ∷ fs) r
 
--- what is done with a whole OR list: its tree, what follows it, and the tree in the end
+-- what is done with a whole OR list: from its tree and what follows it, the final tree
 abbrev pub Goal : Type 1
 Goal = Tree → List Symbol → Tree → Type 0
 

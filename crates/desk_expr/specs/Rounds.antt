@@ -1,10 +1,10 @@
--- Listed terms, a round of them at a time. Copies are passed over, since a term goes with all its copies.
+-- Listed terms, one round of them at a time. Copies are skipped, since a term goes with all its copies.
 use Rattle.std.specs.Prelude.{◌≡◌, ◌⊎◌, ℕ, ◌<◌, ◌≤◌, List, length, slice_get, Some}
 use Rattle.desk_expr.specs.declared.term.Term.{Term}
 use Rattle.desk_expr.specs.Tree.{Tree}
 use Rattle.desk_expr.specs.Meaning.{CanGo}
 
--- the term at a place stands before it too
+-- the term at a place is listed before it too
 abbrev pub IsCopy : List Term → ℕ → Type 0
 IsCopy chosen place = (first : ℕ) × (first < place) × (slice_get chosen first ≡ slice_get chosen place)
 
@@ -12,7 +12,7 @@ IsCopy chosen place = (first : ℕ) × (first < place) × (slice_get chosen firs
 abbrev pub AreWithin : List Term → List ℕ → Type 0
 AreWithin chosen candidates = (k place : ℕ) → slice_get candidates k ≡ Some place → place < length chosen
 
--- the candidates of a round from a place on: they rise, and what is left out before the next round are copies
+-- the candidates of a round that begins at a place: they are in rising order, and what is left out before the next round are copies
 pub record IsRound (chosen : List Term) (from next : ℕ) (candidates : List ℕ) : Type 0 where
   pub within : (k place : ℕ) → slice_get candidates k ≡ Some place → place < next
   pub rises : (j k p q : ℕ) → slice_get candidates j ≡ Some p → slice_get candidates k ≡ Some q → p < q → j < k

@@ -1,4 +1,4 @@
--- Which text spells which tree or term, and where a text that spells none stops.
+-- Which text spells which tree or term, and where a text stops that spells none.
 use Rattle.std.specs.Prelude.{◌≡◌, ◌≢◌, ◌⊎◌, ℕ, zero, suc, ◌+◌, ◌-◌, ◌<◌, ◌≤◌, Bool, true, false, ◌&&◌, not, if◌then◌else◌, List, [], ◌∷◌, ◌++◌, length, take, map, fold, slice_get, Some}
 use Rattle.desk_base.specs.Limits as limit
 use Rattle.desk_expr.specs.declared.fault.ParseFault.{ParseFault}
@@ -35,7 +35,7 @@ symbols ts = map symbol_of ts
 
 -- ---- limits
 
--- the places of the parentheses still open, in the order of the text: one more at each that opens, the last one less at each that closes
+-- the places of the parentheses still open, in the order of the text: an opening one adds its place, a closing one removes the last place
 abbrev pub open_after : List ℕ → Lexeme → List ℕ
 open_after places t = open_by t.kind places t.start
   where
@@ -47,7 +47,7 @@ open_after places t = open_by t.kind places t.start
 abbrev pub still_open : List Lexeme → List ℕ
 still_open ts = fold open_after [] ts
 
--- how many words are operands: those that don't stand directly after a WITH
+-- how many words are operands: those that don't directly follow a WITH
 abbrev pub is_word : Symbol → Bool
 is_word (word t x) = true
 is_word _ = false
@@ -63,12 +63,12 @@ operand_words_after after_with (s ∷ ss) = (if is_word s && not after_with then
 abbrev pub operand_words : List Symbol → ℕ
 operand_words ss = operand_words_after false ss
 
--- the tokens keep the limits
+-- the tokens are within the limits
 pub record KeepsLimits (ts : List Lexeme) : Type 0 where
   pub depth : length (still_open ts) ≤ limit.open_parentheses
   pub terms : operand_words (symbols ts) ≤ limit.expression_terms
 
--- a fact holds of each front of the list, the list itself included
+-- a fact holds for each front of the list, including the list itself
 abbrev pub AllFronts : (List Lexeme → Type 0) → List Lexeme → Type 0
 AllFronts P ts = (n : ℕ) → P (take n ts)
 
@@ -88,7 +88,7 @@ SpellsWithinBy profile text e =
 abbrev pub SpellsTermAloneBy : Profile → List ℕ → Term → Type 0
 SpellsTermAloneBy profile text t = (ts : List Lexeme) × AreTokensBy profile 0 text ts × SpellsTerm (symbols ts) t
 
--- and is not too long
+-- the text spells one term and is not too long
 abbrev pub SpellsTermWithinBy : Profile → List ℕ → Term → Type 0
 SpellsTermWithinBy profile text t = (length text ≤ limit.expression_bytes) × SpellsTermAloneBy profile text t
 
@@ -112,7 +112,7 @@ abbrev pub closings : ℕ → List Symbol
 closings zero = []
 closings (suc n) = closing ∷ closings n
 
--- for a language of symbol lists: the trees' or the terms'
+-- for a language of symbol lists: that of trees or that of terms
 module _ {A : Type 0} (Language : List Symbol → A → Type 0) where
   -- some list of the language begins with the symbols
   abbrev pub Begins : List Symbol → Type 0
@@ -122,13 +122,13 @@ module _ {A : Type 0} (Language : List Symbol → A → Type 0) where
   abbrev pub ClosingsComplete : List Symbol → Type 0
   ClosingsComplete ss = (n : ℕ) × (a : A) × Language (ss ++ closings n) a
 
-  -- a front that may stand: it begins a list of the language and keeps the limits
+  -- a front that is allowed: it begins a list of the language and is within the limits
   pub record Stands (front : List Lexeme) : Type 0 where
     pub begins : Begins (symbols front)
     pub depth : length (still_open front) ≤ limit.open_parentheses
     pub terms : operand_words (symbols front) ≤ limit.expression_terms
 
-  -- why a token can't stand after a front, the first reason that applies
+  -- why a token can't come after a front: the first reason that applies
   abbrev pub Reason : List Lexeme → Lexeme → ParseFault → Type 0
   Reason front t (BadToken place) = (t.kind ≡ kind.Bad) × (place ≡ t.start)
   Reason front t (Unexpected place) =
@@ -145,13 +145,13 @@ module _ {A : Type 0} (Language : List Symbol → A → Type 0) where
   Reason front t (TooLong place) = ⊥
   Reason front t (Memory error) = ⊥
 
-  -- the first token that can't stand in the text, with the reason
+  -- the first token of the text that can't be there, with the reason
   abbrev pub StopsAtToken : Profile → List ℕ → ParseFault → Type 0
   StopsAtToken profile text fault =
       (front : List Lexeme) × (t : Lexeme) × (behind : List Lexeme)
       × AreTokensBy profile 0 text (front ++ t ∷ behind) × AllFronts Stands front × Reason front t fault
 
-  -- why a text of this length can't end behind the tokens
+  -- why a text of this length can't end after the tokens
   abbrev pub EndReason : ℕ → List Lexeme → ParseFault → Type 0
   EndReason end ts (Unclosed place) =
       ClosingsComplete (symbols ts)
@@ -165,13 +165,13 @@ module _ {A : Type 0} (Language : List Symbol → A → Type 0) where
   EndReason end ts (TooManyTerms place) = ⊥
   EndReason end ts (Memory error) = ⊥
 
-  -- every token can stand, and yet the text spells nothing
+  -- every token can be there, and yet the text spells nothing
   abbrev pub StopsAtEnd : Profile → List ℕ → ParseFault → Type 0
   StopsAtEnd profile text fault =
       (t : Lexeme) × (behind : List Lexeme)
       × AreTokensBy profile 0 text (t ∷ behind) × AllFronts Stands (t ∷ behind) × EndReason (length text) (t ∷ behind) fault
 
-  -- the stop of a text that is read by a profile; want of memory may be told of any text
+  -- the stop of a text that is read by a profile; lack of memory may be reported for any text
   abbrev pub IsStopBy : Profile → List ℕ → ParseFault → Type 0
   IsStopBy profile text (TooLong place) = (limit.expression_bytes < length text) × (place ≡ 0)
   IsStopBy profile text (Empty place) = (length text ≤ limit.expression_bytes) × AreTokensBy profile 0 text [] × (place ≡ 0)

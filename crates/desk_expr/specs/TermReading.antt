@@ -25,7 +25,7 @@ HasBegun (Word v) = Unit {0}
 HasBegun (Exception v) = Unit {0}
 HasBegun (Done v) = Unit {0}
 
--- one symbol on
+-- one more symbol
 abbrev pub TermSteps : TermState → Symbol → TermState → Type 0
 TermSteps m s n = HasBegun n × ((r : List Symbol) (t : Term) → TermRest m (s ∷ r) t ↔ TermRest n r t)
 
@@ -35,11 +35,11 @@ TermStops m s Unexpected = (r : List Symbol) (t : Term) → TermRest m (s ∷ r)
 TermStops m s Unclosed = ⊥
 TermStops m s (Memory error) = Unit {0}
 
--- the term where the symbols end
+-- the term if the symbols end here
 abbrev pub TermEnds : TermState → Term → Type 0
 TermEnds m v = (t : Term) → TermRest m [] t ↔ (v ≡ t)
 
--- why the symbols can't end there
+-- why the symbols can't end here
 abbrev pub TermFalls : TermState → ℕ → ParseFault → Type 0
 TermFalls Start end f = f ≡ fault.Empty 0
 TermFalls (Exception v) end f = f ≡ fault.Unexpected end

@@ -14,7 +14,7 @@ is_parenthesis b = b == 40 || b == 41
 abbrev pub is_run_byte : ℕ → Bool
 is_run_byte b = not (is_blank b || is_parenthesis b)
 
--- no byte of a run begins the text
+-- the text doesn't begin with a byte of a run
 abbrev pub NoRunBegins : List ℕ → Type 0
 NoRunBegins [] = Unit {0}
 NoRunBegins (b ∷ bs) = is_run_byte b ≡ false
@@ -26,7 +26,7 @@ IsPiece (b ∷ bs) rest =
     (IsTrue (is_parenthesis b) × (bs ≡ []))
     ⊎ (All (λ x. IsTrue (is_run_byte x)) (b ∷ bs) × NoRunBegins rest)
 
--- a token: its bytes, the places of the first and behind the last of them, and what it is
+-- a token: its bytes, the place of the first of them and the place after the last, and what it is
 pub record Lexeme : Type 0 where
   pub text : List ℕ
   pub start : ℕ
@@ -36,7 +36,7 @@ pub record Lexeme : Type 0 where
 abbrev pub lexeme : Token → Lexeme
 lexeme t = record { text = t.text.now; start = t.start; end = t.end; kind = t.kind }
 
--- the first token of the bytes from a place on: only blanks stand before it, and the rest follows it
+-- the first token of the bytes that begin at a place: only blanks come before it, and the rest follows it
 pub record IsFirstToken (profile : Profile) (place : ℕ) (bytes : List ℕ) (t : Lexeme) (rest : List ℕ) : Type 0 where
   pub blanks : List ℕ
   pub only_blanks : All (λ x. IsTrue (is_blank x)) blanks
@@ -46,7 +46,7 @@ pub record IsFirstToken (profile : Profile) (place : ℕ) (bytes : List ℕ) (t 
   pub piece : IsPiece t.text rest
   pub kind : t.kind ≡ kind_by profile t.text
 
--- the bytes from a place on are these tokens, with only blanks between them, read by a profile of operators
+-- the bytes that begin at a place are these tokens, with only blanks around them, read by a profile of operators
 abbrev pub AreTokensBy : Profile → ℕ → List ℕ → List Lexeme → Type 0
 AreTokensBy profile place bytes [] = All (λ x. IsTrue (is_blank x)) bytes
 AreTokensBy profile place bytes (t ∷ ts) = (rest : List ℕ) × IsFirstToken profile place bytes t rest × AreTokensBy profile t.end rest ts

@@ -14,7 +14,7 @@ use Rattle.desk_expr.specs.declared.token.Kind.TheVariants.{Opening, Closing, An
 abbrev pub is_local_reference : List ℕ → Bool
 is_local_reference w = starts_with nat_eq w (codes "LicenseRef-") && is_idstring (drop 11 w)
 
--- `idstring ":" "LicenseRef-" idstring`: the parts before and behind the first colon
+-- `idstring ":" "LicenseRef-" idstring`: the parts before and after the first colon
 abbrev pub is_reference_of_document : List ℕ → Bool
 is_reference_of_document w = is_idstring (before_first (λ b. b == 58) w) && is_local_reference (after_first (λ b. b == 58) w)
 
@@ -22,7 +22,7 @@ is_reference_of_document w = is_idstring (before_first (λ b. b == 58) w) && is_
 abbrev pub is_reference : List ℕ → Bool
 is_reference w = is_local_reference w || (starts_with nat_eq w (codes "DocumentRef-") && is_reference_of_document (drop 12 w))
 
--- a run that begins so is a reference or no word at all
+-- a run that begins like this is a reference or no word at all
 abbrev pub begins_like_reference : List ℕ → Bool
 begins_like_reference w = starts_with nat_eq w (codes "LicenseRef-") || starts_with nat_eq w (codes "DocumentRef-")
 
@@ -42,7 +42,7 @@ word_kind w =
     else (if is_licence_or_later w then LicenceOrLater
     else Bad))
 
--- an operator is written in capitals, by the profile Either also wholly in small letters; any other mixture of case is a word
+-- an operator is written in capitals or, by the profile Either, also wholly in small letters; any other mixture of case is a word
 abbrev pub is_operator : Profile → List ℕ → List ℕ → List ℕ → Bool
 is_operator Capitals capitals small w = bytes_eq w capitals
 is_operator Either capitals small w = bytes_eq w capitals || bytes_eq w small
@@ -57,7 +57,7 @@ kind_by profile w =
     else (if is_operator profile (codes "WITH") (codes "with") w then With
     else word_kind w))))
 
--- where the kind is a word's, the bytes are such a word
+-- if the kind is that of a word, the bytes are such a word
 abbrev pub IsWordOf : Kind → List ℕ → Type 0
 IsWordOf Licence w = IsTrue (is_idstring w)
 IsWordOf LicenceOrLater w = IsTrue (is_licence_or_later w)
@@ -78,7 +78,7 @@ reference_term w = record { key = w; plus = false; exception = None }
 abbrev pub with_exception : Term → List ℕ → Term
 with_exception t x = record t { exception = Some x }
 
--- an id with its capitals made small
+-- an id in lower case
 abbrev pub is_folded_id : List ℕ → Bool
 is_folded_id k = is_idstring k && bytes_eq (folded k) k
 

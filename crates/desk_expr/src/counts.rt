@@ -1,4 +1,4 @@
-//! Counts what the limits of an expression are about: open parentheses and terms.
+//! Counts what an expression's limits are about: open parentheses and terms.
 
 ghost use Rattle.std.specs.Prelude.{◌≡◌, ◌≤◌, ◌-◌, ℕ, List, OnOk, IfOk, IfErr, [], false, length, slice_get, Some};
 ghost use Rattle.desk_base.specs.Limits.{expression_terms as most_terms};
@@ -10,8 +10,8 @@ use crate::token::{Kind, Token};
 use desk_base::limits;
 use std::alloc::{AllocError, Global};
 
-/// The places of the parentheses that are still open, in the order of the text, how many terms
-/// stand so far, and whether the last token is `WITH`.
+/// The places of the parentheses that are still open, in the order of the text, the number of terms
+/// so far, and whether the last token is `WITH`.
 #[derive(Drop)]
 pub(crate) struct Counts {
     pub(crate) open_places: Vec<usize>,
@@ -20,7 +20,7 @@ pub(crate) struct Counts {
     pub(crate) ghost few: { terms ≤ most_terms },
 }
 
-// The parentheses still open behind a token.
+// The parentheses still open after a token.
 fn note_parenthesis(open_places: &mut Vec<usize>, token: &Token<'_>) -> Result<(), AllocError>
     ensures { OnOk result (open_places.new.items
         ≡ open_after open_places.old.items (lexeme token.now)) }

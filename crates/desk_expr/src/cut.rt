@@ -30,7 +30,7 @@ fn is_run_byte(byte: u8) -> bool
     !(is_blank(byte) || is_parenthesis(byte))
 }
 
-// How many blanks stand at the front.
+// How many blanks the bytes begin with.
 fn blanks(bytes: &[u8]) -> usize
     ensures within { result ≤ length bytes.now }
     ensures blank { (i : ℕ) → i < result → IsTrue (is_blank (slice_index bytes.now i)) }
@@ -43,7 +43,7 @@ fn blanks(bytes: &[u8]) -> usize
     n
 }
 
-// How many bytes of a run stand at the front.
+// How many bytes of a run the bytes begin with.
 fn run(bytes: &[u8]) -> usize
     ensures within { result ≤ length bytes.now }
     ensures run { (i : ℕ) → i < result → IsTrue (is_run_byte (slice_index bytes.now i)) }
@@ -63,7 +63,7 @@ fn is_local_reference(bytes: &[u8]) -> bool
     bytes.starts_with(b"LicenseRef-") && is_idstring_of_bytes(&bytes[11..])
 }
 
-// Where the first colon stands, or the length where there is none.
+// The place of the first colon, or the length if there is none.
 fn colon_place(bytes: &[u8]) -> usize
     ensures { result ≡ position_or_len (λ b. b == 58) bytes.now }
 {
@@ -128,7 +128,7 @@ fn word_kind(bytes: &[u8]) -> Kind
     }
 }
 
-// Whether a run is the operator that is so written in capitals and in small letters.
+// Whether a run is the operator that is written like this in capitals and in small letters.
 fn is_operator(profile: Profile, capitals: &str, small: &str, text: &str) -> bool
     ensures { result ≡ is_operator profile capitals.now small.now text.now }
 {
@@ -180,7 +180,7 @@ fn piece_end(text: &str) -> usize
     run(bytes)
 }
 
-// The first token of a text that stands at a place, and the text after it.
+// The first token of a text that begins at a place, and the text after it.
 fn first_token<'a>(profile: Profile, rest: &'a str, place: usize) -> Option<(Token<'a>, &'a str)>
     requires { place + length rest.now < 2 ^ 64 }
     ensures none { IfNone result (All (λ b. IsTrue (is_blank b)) rest.now) }
@@ -204,7 +204,7 @@ fn first_token<'a>(profile: Profile, rest: &'a str, place: usize) -> Option<(Tok
 }
 
 /// The tokens of a text, from the left: what is left of the text, its place, and the profile of
-/// operators that it is read by.
+/// operators by which it is read.
 #[derive(Drop)]
 pub struct TokenCuts<'a> {
     pub(crate) rest: &'a str,

@@ -1,4 +1,4 @@
-//! Why a text is no licence expression.
+//! Why a text isn't a licence expression.
 
 ghost use Rattle.std.specs.Prelude.{◌≡◌, ◌<◌, codes, IfErr, OnOk};
 ghost use Rattle.desk_expr.specs.Faults.{fault_number, fault_name, fault_place};
@@ -6,8 +6,8 @@ ghost use Rattle.desk_expr.specs.Faults.{fault_number, fault_name, fault_place};
 use std::alloc::AllocError;
 use thiserror::Error;
 
-/// Why a text is no licence expression, with the place of the first byte that doesn't fit, counted
-/// from 0.
+/// Why a text isn't a licence expression, with the place of the first byte that doesn't fit,
+/// counted from 0.
 #[derive(Clone, Copy, Debug, PartialEq, Eq, Error)]
 pub enum ParseFault {
     /// There is no token.
@@ -17,7 +17,7 @@ pub enum ParseFault {
     /// reference.
     #[error("no licence id or reference at {0}")]
     BadToken(usize),
-    /// A token that can't stand there, or a text that ends where more is wanted.
+    /// A token that can't be there, or a text that ends where something must follow.
     #[error("unexpected at {0}")]
     Unexpected(usize),
     /// A parenthesis that is still open at the end.
@@ -29,7 +29,7 @@ pub enum ParseFault {
     /// The text is longer than the limit allows.
     #[error("too long from {0} on")]
     TooLong(usize),
-    /// More terms stand there than the limit allows.
+    /// There are more terms than the limit allows.
     #[error("too many terms at {0}")]
     TooManyTerms(usize),
     /// No memory was left.
@@ -38,7 +38,7 @@ pub enum ParseFault {
 }
 
 impl ParseFault {
-    /// The fault's number, by which replies name it: from 1, and 0 for want of memory.
+    /// The fault's number, by which replies name it: from 1, or 0 if no memory was left.
     pub fn number(&self) -> u8
         ensures { result ≡ fault_number self.now }
     {
@@ -70,7 +70,7 @@ impl ParseFault {
         }
     }
 
-    /// The fault's place, and 0 for want of memory.
+    /// The fault's place, or 0 if no memory was left.
     pub fn place(&self) -> usize
         ensures { result ≡ fault_place self.now }
     {
@@ -87,7 +87,7 @@ impl ParseFault {
     }
 }
 
-/// Want of memory, as an error. Any other fault says that the text is no expression, or no term.
+/// Lack of memory, as an error. Any other fault means that the text is no expression, or no term.
 pub fn told(fault: ParseFault) -> Result<(), AllocError>
     ensures text { OnOk result (0 < fault_number fault) }
     ensures memory { IfErr result (λ error. fault ≡ ParseFault.Memory error) }

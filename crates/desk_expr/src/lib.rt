@@ -2,13 +2,13 @@
 //! choice of terms.
 //!
 //! A contract sees an `Expr` as a `Tree`: one term, or All or Any of two or more parts. `Spells`
-//! (specs/Spelling.antt) says which text spells which tree by dividing whole lists of tokens;
-//! `parse` reads once from the left, with a stack of its own, and gives the tree or the first
-//! place that doesn't fit. `check_choice` says whether a set of terms satisfies the tree, each of
-//! them needed.
+//! (specs/Spelling.antt) says which text spells which tree, by dividing whole lists of tokens;
+//! `parse` reads once from the left, with its own stack, and returns the tree or the first place
+//! that doesn't fit. `check_choice` says whether a set of terms satisfies the tree and each of them
+//! is needed.
 //!
-//! Operators are in capitals. `tokens_in`, `parse_in` and `parse_term_in` take a profile, by which
-//! they may be in small letters too.
+//! Operators are in capitals. `tokens_in`, `parse_in` and `parse_term_in` take a profile, which may
+//! allow small letters too.
 #![tactic(auto)]
 
 mod counts;

@@ -8,22 +8,22 @@ use crate::expr::{Expr, Node};
 use crate::term::Term;
 use arrayvec::ArrayVec;
 
-// As many terms as an expression that was read has at most. Of a larger one the others are looked
-// for in the list itself.
+// An expression that was read has at most this many terms. Further terms of a larger one are looked
+// up in the list itself.
 const OWN: usize = 1024;
 
-/// A list of terms, and where those of an expression stand in it first.
+/// A list of terms, and the first place in it of each term of an expression.
 #[derive(Clone, Copy)]
 pub(crate) struct Listed<'a> {
     pub(crate) chosen: &'a [Term],
-    /// The terms of the expression, sorted. Only the speed depends on what they are.
+    /// The terms of the expression, sorted. What they are affects only the speed.
     pub(crate) own: &'a [Option<&'a Term>],
-    /// The first place of each of them, the length of the list where it has none.
+    /// The first place of each of them, or the length of the list if it isn't there.
     pub(crate) places: &'a [usize],
 }
 
 impl Listed<'_> {
-    // The place that is noted for a term, if it is one of the own terms.
+    // The place that is noted for a term, if it is one of the expression's terms.
     fn noted(self, term: &Term) -> Option<usize>
         requires { IsNoted self.chosen.now self.own.now self.places.now }
         ensures there { IfSome result (λ place. place < length self.entry.chosen.now
@@ -46,7 +46,7 @@ impl Listed<'_> {
         }
     }
 
-    /// Whether the term at a place is known to stand before it too.
+    /// Whether the term at a place is known to be listed before it too.
     pub(crate) fn is_copy(self, place: usize) -> bool
         requires noted { IsNoted self.chosen.now self.own.now self.places.now }
         requires within { place < length self.chosen.now }
@@ -58,8 +58,8 @@ impl Listed<'_> {
         }
     }
 
-    /// The places of the next terms that aren't known to be copies, at most 64, and where the list
-    /// goes on behind them.
+    /// The places of the next terms that aren't known to be copies, at most 64, and the place after
+    /// them at which the list continues.
     pub(crate) fn round(self, from: usize) -> (ArrayVec<usize, 64>, usize)
         requires noted { IsNoted self.chosen.now self.own.now self.places.now }
         requires within { from < length self.chosen.now }
@@ -132,7 +132,7 @@ fn names(own: &Option<&Term>, term: &Term) -> bool
     }
 }
 
-// How many of the sorted terms are below one, by halving.
+// How many of the sorted terms are below this one, by binary search.
 fn lower(own: &[Option<&Term>], term: &Term) -> usize
     ensures within { result ≤ length own.now }
     ensures value { result ≡ lower_in own.now term.now }
@@ -165,7 +165,7 @@ fn find(own: &[Option<&Term>], term: &Term) -> Option<usize>
     }
 }
 
-/// Where each own term is listed first.
+/// The first place in the list of each term of the expression.
 pub(crate) fn places_of(chosen: &[Term], own: &[Option<&Term>]) -> [usize; OWN]
     requires { length own.now ≤ 1024 }
     ensures { IsNoted chosen.now own.now result }

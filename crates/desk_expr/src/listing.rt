@@ -9,7 +9,7 @@ use crate::term::Term;
 use std::alloc::{AllocError, Global};
 
 impl Expr {
-    // Adds the terms, from the left, each time that one stands there.
+    // Adds the terms from the left, each as often as it occurs.
     fn collect_terms(&self, terms: &mut Vec<Term>) -> Result<(), AllocError>
         ensures added { OnOk result (terms.new.items ≡ terms.old.items ++ leaves self.now) }
         ensures well_formed { OnOk result (All (λ t. IsTrue (is_term t)) terms.old.items

@@ -10,7 +10,7 @@ use crate::expr::{Expr, Node};
 use crate::term::Term;
 use std::alloc::{AllocError, Global};
 
-/// Where a part of an expression stands.
+/// Where a part of an expression is.
 #[derive(Clone, Copy)]
 pub(crate) enum Place {
     Top,
@@ -45,7 +45,7 @@ fn add_term(text: &mut String, term: &Term) -> Result<(), AllocError>
     Ok(())
 }
 
-// Adds a piece where it is wanted.
+// Adds a piece if it is wanted.
 fn add_if(text: &mut String, wanted: bool, piece: &str) -> Result<(), AllocError>
     ensures { OnOk result (string_bytes text.new
         ≡ string_bytes text.old ++ (if wanted then piece.now else [])) }
@@ -100,7 +100,8 @@ impl Expr {
     }
 }
 
-/// The term as a word, with its exception behind `WITH` if it has one (SPDX 2.3, Annex D.2 to D.4).
+/// The term as a word, followed by `WITH` and its exception if it has one (SPDX 2.3, Annex D.2 to
+/// D.4).
 pub fn print_term(alloc: Global, term: &Term) -> Result<String, AllocError>
     ensures text { IfOk result (λ s. string_bytes s ≡ printed_term term.now) }
     ensures spells { IsTrue (is_term term.now)
@@ -111,8 +112,8 @@ pub fn print_term(alloc: Global, term: &Term) -> Result<String, AllocError>
     Ok(text)
 }
 
-/// The expression as a text that spells it: one space round each operator, an All under an Any
-/// without parentheses, every other All or Any under another node in parentheses.
+/// The expression as a text that spells it: one space on either side of each operator, no
+/// parentheses around an All under an Any, but around every other All or Any under another node.
 pub fn print(alloc: Global, expr: &Expr) -> Result<String, AllocError>
     ensures text { IfOk result (λ s. string_bytes s ≡ printed expr.now) }
     ensures spells { IfOk result (λ s. Spells (string_bytes s) expr.now) }

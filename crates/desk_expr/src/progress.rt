@@ -16,7 +16,7 @@ use crate::word::{Halt, is_bad};
 use desk_base::{Profile, limits};
 use std::alloc::Global;
 
-/// What has been read of a text, and what the limits are about.
+/// What has been read of a text, and what its limits are about.
 #[derive(Drop)]
 pub(crate) struct Progress {
     pub(crate) reader: Reader,
@@ -67,7 +67,7 @@ impl Progress {
         }
     }
 
-    // The tree, where a text of this length ends here.
+    // The tree, if a text of this length can end here.
     fn finish(self, length: usize) -> Result<Expr, ParseFault>
         ensures ok { IfOk result (λ e. (front : List Lexeme) → HasRead front self
             → SpellsTree (symbols front) e) }

@@ -12,15 +12,15 @@ use crate::token::{Kind, Token};
 use crate::word::{Halt, excepted, exception_of, leaf_of, push};
 use std::alloc::Global;
 
-/// An OR list that is being read: the AND lists before the last, and the operands of the last one
-/// before its last operand.
+/// An OR list that is being read: the AND lists before the last one, and the operands of the last
+/// one before its last operand.
 #[derive(Drop)]
 pub(crate) struct Group {
     pub(crate) lists: Vec<Expr>,
     pub(crate) operands: Vec<Expr>,
 }
 
-/// What stands before the next token.
+/// What comes before the next token.
 #[derive(Drop)]
 pub(crate) enum State {
     /// An operand is wanted.
@@ -33,7 +33,7 @@ pub(crate) enum State {
     Done(Expr),
 }
 
-/// The groups that are open, the innermost apart, and what stands before the next token.
+/// The groups that are open, with the innermost one apart, and what comes before the next token.
 #[derive(Drop)]
 pub(crate) struct Reader {
     pub(crate) outer: Vec<Group>,
@@ -41,7 +41,7 @@ pub(crate) struct Reader {
     pub(crate) state: State,
 }
 
-// The tree of an AND list, whose last part is known.
+// The tree of an AND list whose last part is known.
 fn all_of(mut parts: Vec<Expr>, last: Expr) -> Result<Expr, Halt>
     ensures ok { IfOk result (λ e. e ≡ all_of (parts.items ++ last ∷ [])) }
     ensures err { IfErr result (λ h. h ≡ Halt.Memory alloc_error) }
@@ -53,7 +53,7 @@ fn all_of(mut parts: Vec<Expr>, last: Expr) -> Result<Expr, Halt>
     Ok(Expr::all(parts))
 }
 
-// The tree of an OR list, whose last part is known.
+// The tree of an OR list whose last part is known.
 fn any_of(mut parts: Vec<Expr>, last: Expr) -> Result<Expr, Halt>
     ensures ok { IfOk result (λ e. e ≡ any_of (parts.items ++ last ∷ [])) }
     ensures err { IfErr result (λ h. h ≡ Halt.Memory alloc_error) }
@@ -65,7 +65,7 @@ fn any_of(mut parts: Vec<Expr>, last: Expr) -> Result<Expr, Halt>
     Ok(Expr::any(parts))
 }
 
-// The tree of a whole group, whose last operand is known.
+// The tree of a whole group whose last operand is known.
 fn tree_of(inner: Group, operand: Expr) -> Result<Expr, Halt>
     ensures ok { IfOk result (λ e. e ≡ any_of (inner.lists.items ++ all_of
         (inner.operands.items ++ operand ∷ []) ∷ [])) }
@@ -123,7 +123,7 @@ fn operand(
     }
 }
 
-// A word stands there, and perhaps an exception follows.
+// There is a word, and perhaps an exception follows.
 fn word(
     alloc: Global,
     outer: Vec<Group>,
@@ -227,7 +227,7 @@ fn after(
     }
 }
 
-// The tree at the end, where the last operand is known.
+// The tree at the end, if the last operand is known.
 fn whole(mut outer: Vec<Group>, inner: Group, operand: Expr) -> Result<Expr, Halt>
     ensures ok { IfOk result (λ e. (other : Tree)
         → Rest (record { outer = outer; inner = inner; state = State.Done operand }) [] other
@@ -272,7 +272,7 @@ impl Reader {
         }
     }
 
-    // The tree, where the tokens end here.
+    // The tree, if the tokens can end here.
     pub(crate) fn finish(self) -> Result<Expr, Halt>
         ensures ok { IfOk result (λ e. (other : Tree) → Rest self [] other ↔ (e ≡ other)) }
         ensures err { IfErr result (EndsWith self) }

@@ -46,7 +46,7 @@ impl TermTable {
         self.terms.as_slice()
     }
 
-    /// The index of a term among the terms. It takes no memory.
+    /// The index of a term among the terms. The search allocates nothing.
     pub fn place(&self, term: &Term) -> Option<usize>
         ensures found { IfSome result (λ k. slice_get self.now k ≡ Some term.now) }
         ensures none { IfNone result (Contains self.now term.now → ⊥) }

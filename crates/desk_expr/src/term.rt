@@ -12,6 +12,6 @@ pub struct Term {
     pub key: Key,
     /// Whether `+` follows the licence id.
     pub plus: bool,
-    /// The folded exception id that stands after `WITH`.
+    /// The folded exception id that follows `WITH`.
     pub exception: Option<Key>,
 }

@@ -16,7 +16,7 @@ use crate::word::{Halt, excepted, exception_of, is_bad, leaf_of};
 use desk_base::{Profile, limits};
 use std::alloc::Global;
 
-/// What stands before the next token.
+/// What comes before the next token.
 #[derive(Drop)]
 pub(crate) enum TermState {
     /// A word is wanted.
@@ -53,7 +53,7 @@ impl TermState {
         }
     }
 
-    // The term, where a text of this length ends here.
+    // The term, if a text of this length can end here.
     fn finish(self, length: usize) -> Result<Term, ParseFault>
         ensures ok { IfOk result (TermEnds self) }
         ensures err { IfErr result (TermFalls self length) }

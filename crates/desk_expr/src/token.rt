@@ -39,13 +39,13 @@ pub struct Token<'a> {
     pub text: &'a str,
     /// The place of its first byte, counted from 0.
     pub start: usize,
-    /// The place behind its last byte.
+    /// The place after its last byte.
     pub end: usize,
     /// What it is.
     pub kind: Kind,
 }
 
-/// Cuts a text into its tokens: what calls of `next` give until there is none are the tokens of the
+/// Cuts a text into its tokens: what `next` returns until it returns none are the tokens of the
 /// text, in order, each at its place and with its kind. Operators are in capitals.
 pub fn tokens<'a>(text: &'a str) -> TokenCuts<'a>
     ensures rest { result.rest.now ≡ text.now }
@@ -56,7 +56,7 @@ pub fn tokens<'a>(text: &'a str) -> TokenCuts<'a>
     tokens_in(text, Profile::Capitals)
 }
 
-/// Cuts a text into its tokens as `tokens` does, with operators by the profile.
+/// Cuts a text into its tokens as `tokens` does, with operators as the profile has them.
 pub fn tokens_in<'a>(text: &'a str, profile: Profile) -> TokenCuts<'a>
     ensures rest { result.rest.now ≡ text.now }
     ensures place { result.place ≡ 0 }

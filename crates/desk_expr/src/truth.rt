@@ -1,9 +1,9 @@
-//! Whether a choice of terms satisfies an expression, and each of them is needed.
+//! Whether a choice of terms satisfies an expression, and whether each of them is needed.
 //!
-//! No memory is taken. Where each term of the expression is listed is noted first (`listed.rt`), so
-//! of `n` leaves, up to 1,024, and `m` chosen terms `holds` makes some `(n + m) * log n`
-//! comparisons. `check_choice` passes over copies and leaves the other terms out by 64 at once, up
-//! to the first that the expression lacks: some `n * n` comparisons more at most.
+//! No memory is allocated. First `listed.rt` notes where each term of the expression is listed, so
+//! with `n` leaves, up to 1,024, and `m` chosen terms `holds` makes about `(n + m) * log n`
+//! comparisons. `check_choice` skips copies and leaves out the other terms 64 at a time, at the
+//! latest up to the first that isn't in the expression: at most about `n * n` comparisons more.
 
 ghost use Rattle.std.specs.Prelude.{◌≡◌, ◌↔◌, ◌≢◌, ◌<◌, ◌≤◌, ℕ, length, slice_get, Some, IsTrue, IfSome, IfNone, Contains};
 ghost use Rattle.std.specs.Int.{bit_at};
@@ -17,12 +17,12 @@ use crate::expr::{Expr, Node};
 use crate::listed::{Listed, places_of};
 use crate::term::Term;
 
-/// What a choice of terms is worth.
+/// How well a choice of terms satisfies an expression.
 #[derive(Clone, Copy, PartialEq, Eq)]
 pub enum Verdict {
     /// It doesn't satisfy the expression.
     NotEnough,
-    /// It does also without the term at this place, the first such, counted from 0.
+    /// It does so even without the term at this place, the first such place, counted from 0.
     Superfluous(usize),
     /// It satisfies the expression, and no smaller set of its terms does.
     Minimal,
@@ -55,7 +55,7 @@ impl Expr {
         }
     }
 
-    // Bit k tells whether the chosen terms without the one at candidate k satisfy the expression.
+    // Bit k says whether the chosen terms without the one at candidate k satisfy the expression.
     fn holds_without(&self, listed: Listed<'_>, candidates: &[usize]) -> u64
         requires noted { IsNoted listed.chosen.now listed.own.now listed.places.now }
         requires few { length candidates.now ≤ 64 }
@@ -96,7 +96,7 @@ fn is_same(one: &Term, other: &Term) -> bool
     one == other
 }
 
-// Bit k tells whether another term than this one stands at candidate k.
+// Bit k says whether the term at candidate k is another one than this.
 fn others(chosen: &[Term], candidates: &[usize], term: &Term) -> u64
     requires few { length candidates.now ≤ 64 }
     requires within { AreWithin chosen.now candidates.now }
@@ -112,7 +112,7 @@ fn others(chosen: &[Term], candidates: &[usize], term: &Term) -> u64
     marks
 }
 
-// The first of so many bits that is set.
+// The first of this many bits that is set.
 fn first_mark(marks: u64, size: usize) -> Option<usize>
     requires { size ≤ 64 }
     ensures found { IfSome result (λ k. (k < size) × (bit_at marks k ≡ 1)) }
@@ -155,8 +155,8 @@ pub fn holds(expr: &Expr, chosen: &[Term]) -> bool
     expr.holds(listed)
 }
 
-/// Whether the chosen terms satisfy the expression, each of them needed. The list stands for the
-/// set of its terms, so a term that can go goes with all its copies.
+/// Whether the chosen terms satisfy the expression and each of them is needed. The list stands for
+/// the set of its terms, so a term that can go goes with all its copies.
 pub fn check_choice(expr: &Expr, chosen: &[Term]) -> Verdict
     ensures not_enough { (result ≡ Verdict.NotEnough) ↔ ¬ Holds (Contains chosen.now) expr.now }
     ensures superfluous { (i : ℕ) → result ≡ Verdict.Superfluous i

@@ -15,10 +15,10 @@ use crate::token::Kind;
 use desk_base::Key;
 use std::alloc::{AllocError, Global};
 
-/// Why reading goes no further.
+/// Why reading stops.
 #[derive(Clone, Copy)]
 pub(crate) enum Halt {
-    /// The token, or the end, can't stand there.
+    /// The token, or the end, can't be there.
     Unexpected,
     /// A parenthesis is open at the end.
     Unclosed,
@@ -46,7 +46,7 @@ pub(crate) fn is_bad(kind: Kind) -> bool
     matches!(kind, Kind::Bad)
 }
 
-// Want of memory is a cause of its own.
+// Adds an item. Lack of memory is one of the reasons to stop.
 pub(crate) fn push<T: Drop>(list: &mut Vec<T>, item: T) -> Result<(), Halt>
     ensures ok { OnOk result (list.new.items ≡ list.old.items ++ item ∷ []) }
     ensures err { IfErr result (λ h. h ≡ Halt.Memory alloc_error) }
@@ -135,7 +135,7 @@ pub(crate) fn leaf_of(alloc: Global, kind: Kind, text: &str) -> Result<Leaf, Hal
     }
 }
 
-// The exception that a token is after `WITH`.
+// The exception that a token after `WITH` is.
 pub(crate) fn exception_of(alloc: Global, kind: Kind, text: &str) -> Result<Key, Halt>
     requires { IsWordOf kind text.now }
     ensures ok { IfOk result (λ x. (u : Term) × (symbol kind text.now ≡ word u (Some x))) }

@@ -1,8 +1,8 @@
--- A text has a first place of some bytes, or none.
+-- Given bytes have a first place in a text, or none.
 use Rattle.std.proofs.Common.{◌≡◌, ◌≢◌, ◌∙◌, ℕ, ◌<◌, List, [], ◌∷◌, ◌++◌, length, sym, ap, refl, arith, append_assoc, length-append, inl, inr}
 use Rattle.std.proofs.lemmas.Bool.{cases_eq}
 
--- a text begins with some bytes or not
+-- a text begins with these bytes or not
 pub data Front (p t : List ℕ) : Type 0 where
   begins : (ys : List ℕ) → t ≡ p ++ ys → Front p t
   apart : ((ys : List ℕ) → t ≢ p ++ ys) → Front p t
@@ -20,7 +20,7 @@ front (b ∷ p) (c ∷ t) =
       | inr other ↦ apart (λ ys e. other cc)
     ]
 
--- the bytes stand nowhere in a text, or behind what they stand nowhere else in
+-- the bytes are nowhere in a text, or it is cut at their first place
 pub data Closing (p t : List ℕ) : Type 0 where
   open_text : ((xs ys : List ℕ) → t ≢ xs ++ (p ++ ys)) → Closing p t
   closed : (value more : List ℕ) → t ≡ value ++ (p ++ more) → ((xs ys : List ℕ) → value ++ p ≡ xs ++ (p ++ ys) → length ys ≡ 0) → Closing p t
@@ -32,7 +32,7 @@ module _ (p : List ℕ) (some : 0 < length p) where
   first_here : IsFirst []
   first_here xs ys e = let len = ap length e ∙ length-append xs (p ++ ys) in let more = length-append p ys in omega arith
 
-  -- where they don't begin at the first byte, the first place in the rest is the first in the whole
+  -- if they don't begin at the first byte, the first place in the rest is the first in the whole
   first_behind : (c : ℕ) (t v m : List ℕ) → t ≡ v ++ (p ++ m) → ((ys : List ℕ) → c ∷ t ≢ p ++ ys) → IsFirst v → IsFirst (c ∷ v)
   first_behind c t v m e none first [] ys is =
       absurd (none (ys ++ m) (ap (λ l. c ∷ l) (e ∙ sym (append_assoc v p m)) ∙ ap (λ l. l ++ m) is ∙ append_assoc p ys m))

@@ -9,7 +9,7 @@ use Rattle.desk_base.specs.declared.lines.LineEnd.{LineEnd}
 use Rattle.desk_base.specs.declared.lines.LineEnd.TheVariants.{Lf, CrLf, Nothing}
 use Rattle.desk_base.specs.Lines.{IsLine, Ends, end_bytes}
 
--- a list is cut at the first of some byte, or doesn't have it
+-- a list is cut at the first place of a byte, or doesn't have it
 pub data Cut (c : ℕ) (t : List ℕ) : Type 0 where
   never : All (λ b. b ≢ c) t → Cut c t
   first : (a b : List ℕ) → All (λ d. d ≢ c) a → t ≡ a ++ (c ∷ b) → Cut c t
@@ -37,7 +37,7 @@ last_is x b =
     let at : length (x ++ (b ∷ [])) - 1 ≡ length x = omega arith in
     ap (λ i. get_or (x ++ (b ∷ [])) i 0) at ∙ get_or-append_seam x b [] 0
 
--- a list ends by CR or not
+-- a list ends with CR or not
 data CrLast (a : List ℕ) : Type 0 where
   cr : (x : List ℕ) → a ≡ x ++ (13 ∷ []) → CrLast a
   other : slice_index a (length a - 1) ≢ 13 → CrLast a

@@ -1,4 +1,4 @@
--- A piece that was found is one.
+-- What was found is a piece.
 use Rattle.std.proofs.Common.{◌≡◌, ◌≢◌, ◌∙◌, ℕ, suc, ◌+◌, ◌-◌, ◌<◌, List, [], ◌∷◌, ◌++◌, length, get_or, take, drop, sym, ap, refl, arith, Bool, true, false, cond, append_assoc, length-append, take-append-drop}
 use Rattle.std.specs.Prelude.{codes}
 use Rattle.std.specs.List.{prefix_len}
@@ -82,7 +82,7 @@ gap_blank (b ∷ xs) =
     ] in
     cases (is_blank b) refl
 
--- where a value begins with <text>, after its gap
+-- a value that begins with <text>, after its gap
 pub opening_cut : (body front after inner : List ℕ) → body ≡ front ++ (58 ∷ after) → skip_blanks after ≡ codes "<text>" ++ inner → body ≡ opened front (gap_of after) inner
 opening_cut body front after inner e s =
     e ∙ ap (λ l. front ++ (58 ∷ l)) (sym (take-append-drop (prefix_len is_blank after) after) ∙ ap (λ l. gap_of after ++ l) s)

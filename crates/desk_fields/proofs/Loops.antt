@@ -18,7 +18,7 @@ gives_some : (line : ℕ) (g : Option (List ℕ × List ℕ)) (f : Field) → Is
 gives_some line None f h = absurd h
 gives_some line (Some g) f h = (h.0, λ i. Some (sym h.1 i, sym h.2 i))
 
--- one piece more
+-- one more piece
 reached : (line : ℕ) (text : List ℕ) (at : ℕ) (whole : List ℕ) (p : Piece) (end : LineEnd) (found : Option Field) (after : ℕ) (rest : List ℕ)
     → Skips line text at whole → Begins whole p end rest → after ≡ line_after at p → IsGiven at (given p) found → Reaches line text found after rest
 reached line text at whole p end None after rest skips begins behind g =
@@ -45,7 +45,7 @@ passes : (line : ℕ) (p : Piece) (r : Result (List FieldText) DocFault) → giv
 passes line p (Ok fs) none = ap (λ g. Ok (onto line g fs)) none
 passes line p (Err f) none = refl
 
--- what is read behind skipped pieces is read before them
+-- what is read after skipped pieces is read before them
 reads_skipped : (line : ℕ) (text : List ℕ) (at : ℕ) (whole : List ℕ) → Skips line text at whole → (r : Result (List FieldText) DocFault) → Reads at whole r → Reads line text r
 reads_skipped line text at whole here r h = h
 reads_skipped line text at whole (further m w p end rest skips begins none) r h =
@@ -70,7 +70,7 @@ front_append : (fs : List FieldText) (f : FieldText) (r : Result (List FieldText
 front_append fs f (Ok gs) = ap Ok (sym (append_assoc fs (f ∷ []) gs))
 front_append fs f (Err e) = refl
 
--- one field more
+-- one more field
 pub step_field : (whole : List ℕ) (fs : List FieldText) (line : ℕ) (text : List ℕ) (f : FieldText) (after : ℕ) (rest : List ℕ) → IsNext line text f after rest
     → ((r : Result (List FieldText) DocFault) → Reads line text r → Reads 1 whole (with_front fs r))
     → (r : Result (List FieldText) DocFault) → Reads after rest r → Reads 1 whole (with_front (fs ++ (f ∷ [])) r)

@@ -1,4 +1,4 @@
--- A text begins with one piece at most.
+-- A text begins with at most one piece.
 use Rattle.std.proofs.Common.{◌≡◌, ◌≢◌, ◌∙◌, inl, inr, ℕ, ◌+◌, ◌-◌, ◌<◌, ◌≤◌, List, [], ◌∷◌, ◌++◌, length, get_or, take, drop, sym, ap, refl, arith, Bool, true, false, cond, append_assoc, length-append, append-nil, length-take-le, take-append-drop}
 use Rattle.desk_fields.proofs.Founds.{blank_cons}
 use Rattle.std.specs.Prelude.{codes, ◌==◌, ◌||◌}
@@ -18,7 +18,7 @@ use Rattle.desk_fields.proofs.Scans.{tag_first, skip-append}
 use Rattle.desk_base.proofs.Numbers.{three, head_not}
 use Rattle.desk_base.specs.Bytes.{is_blank}
 
--- a front that has no LF and ends with no CR lies within the first line
+-- a front without LF that doesn't end with CR is within the first line
 pub within_lf : (h inner l r : List ℕ) → NoLf h → h ++ (62 ∷ inner) ≡ l ++ (10 ∷ r) → (x : List ℕ) × (l ≡ h ++ (62 ∷ x))
 within_lf [] inner [] r no_lf e = absurd cc
 within_lf [] inner (d ∷ l) r no_lf e = let head : 62 ≡ d = cc in (l, λ i. sym head i ∷ l)
@@ -49,7 +49,7 @@ within_line t h inner l CrLf r no_lf cut line = within_crlf h inner l r no_lf (s
 within_line t h inner l Nothing r no_lf cut line =
     (inner, sym (line.cut ∙ ap (λ x. l ++ x) line.ends.0 ∙ append-nil l) ∙ cut)
 
--- blanks before what is no blank
+-- blanks before a byte that is no blank
 skip_gap : (gap : List ℕ) (b : ℕ) (x : List ℕ) → AllBlank gap → is_blank b ≡ false → skip_blanks (gap ++ (b ∷ x)) ≡ b ∷ x
 skip_gap [] b x h k = ap (λ v. drop (cond v (1 + prefix_len is_blank x) 0) (b ∷ x)) k
 skip_gap (c ∷ gap) b x h k =
@@ -59,7 +59,7 @@ skip_gap (c ∷ gap) b x h k =
     ] in
     cases (is_blank c) refl
 
--- what stands behind <text> is known from the text
+-- what follows <text> is determined by the text
 pub opened_once : (before gap inner front space rest : List ℕ) → IsTagged before → AllBlank gap → IsTagged front → AllBlank space → opened before gap inner ≡ opened front space rest → (before ≡ front) × (gap ≡ space) × (inner ≡ rest)
 opened_once before gap inner front space rest t g u s e =
     let parts = cut_once 58 before (gap ++ (codes "<text>" ++ inner)) front (space ++ (codes "<text>" ++ rest)) t.no_colon u.no_colon e in
@@ -111,7 +111,7 @@ opened_line t before gap inner l e r o line =
     let w = within_line t h inner l e r no_lf cut line in
     (gap ++ (codes "<text>" ++ w.0), w.1 ∙ simp append_assoc refl, (w.0, skip_gap gap 60 (116 ∷ 101 ∷ 120 ∷ 116 ∷ 62 ∷ w.0) o.blank refl))
 
--- what ends at the first </text> is known
+-- what ends at the first </text> is determined
 shorter : (value more v m : List ℕ) → value ++ (codes "</text>" ++ more) ≡ v ++ (codes "</text>" ++ m) → IsFirstEnd v → length value < length v → ⊥
 shorter value more v m e first lt =
     let a = length-append value (codes "</text>" ++ more) in

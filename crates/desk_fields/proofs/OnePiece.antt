@@ -49,7 +49,7 @@ opened_has_tag t f g i l e r o line none =
 pub opened_same : (t f g i b h j : List ℕ) → IsOpened t f g i → IsOpened t b h j → (f ≡ b) × (g ≡ h) × (i ≡ j)
 opened_same t f g i b h j o p = opened_once f g i b h j o.tagged o.blank p.tagged p.blank (sym o.cut ∙ p.cut)
 
--- what stands behind a </text> is a line behind its last byte
+-- what follows a </text> is a line after its last byte
 ends_back : (f l : List ℕ) (e : LineEnd) (r : List ℕ) → 0 < length l → Ends (f ++ l) e r → Ends l e r
 ends_back f l Lf r some h =
     let len = length-append f l in

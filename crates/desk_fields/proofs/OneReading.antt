@@ -1,4 +1,4 @@
--- A text is read in one way.
+-- There is only one way to read a text.
 use Rattle.std.proofs.Common.{◌≡◌, ◌≢◌, ◌∙◌, ℕ, ◌+◌, ◌<◌, List, [], ◌∷◌, ◌++◌, length, sym, subst, ap, refl, arith, length-append}
 use Rattle.std.specs.Prelude.{codes, Result, Ok, Err, count_by, ◌==◌}
 use Rattle.std.proofs.lemmas.List.Elements.{All-cons}
@@ -13,7 +13,7 @@ use Rattle.desk_base.proofs.LinesOnce.{line_once, line_some}
 use Rattle.desk_fields.proofs.Once.{close_once, IsOpened}
 use Rattle.desk_fields.proofs.OnePiece.{true_not_false, bare_line, one_line_line, text_opened, opened_not_bare, opened_not_closed, opened_has_tag, opened_same, tail_line, begins_once}
 
--- no piece begins a text that opens a <text> without a piece
+-- a text that opens a <text> and begins with a piece begins with a text piece
 not_opened : (t : List ℕ) (p : Piece) (e : LineEnd) (r f g i : List ℕ) → Begins t p e r → IsOpened t f g i → (v : List ℕ) × (m : List ℕ) × (x : List ℕ) × (p ≡ text f g v x) × (i ≡ v ++ (codes "</text>" ++ m)) × IsFirstEnd v × AllBlank x × (m ≡ x ++ (end_bytes e ++ r)) × IsLine (62 ∷ m) (62 ∷ x) e r
 not_opened t (bare l) e r f g i b o = absurd (opened_not_bare t f g i l e r o (bare_line t l e r b) b.piece.1)
 not_opened t (one_line c a) e r f g i b o = absurd (opened_not_closed t f g i c a e r o (one_line_line t c a e r b) b.piece.0 b.piece.2)
@@ -27,7 +27,7 @@ no_close i v m none e = none v m e
 open_of : (t f g i : List ℕ) → t ≡ opened f g i → IsTagged f → AllBlank g → IsOpened t f g i
 open_of t f g i a b c = record { cut = a; tagged = b; blank = c }
 
--- a line with more than blanks, behind the > of </text>
+-- a line with more than blanks, after the > of </text>
 behind_line : (m x : List ℕ) (e : LineEnd) (r : List ℕ) → IsLine m x e r → (AllBlank x → ⊥) → IsLine (62 ∷ m) (62 ∷ x) e r
 behind_line m [] e r line some = absurd (some refl)
 behind_line m (c ∷ x) e r line some = record {
@@ -58,7 +58,7 @@ begins_fails line t p e r (AfterText n) b h =
     h.12 (subst AllBlank (sym same) w.6)
 begins_fails line t p e r f b h = absurd h
 
--- what opens a <text> has a tag
+-- a text fails in only one way
 pub fails_once : (line : ℕ) (t : List ℕ) (f g : DocFault) → Fails line t f → Fails line t g → f ≡ g
 fails_once line t (NoColon m) (NoColon n) a b = ap NoColon (a.3 ∙ sym b.3)
 fails_once line t (NoColon m) (OpenText n) a b = absurd (opened_has_tag t b.0 b.1 b.2 a.0 a.1 a.2 (open_of t b.0 b.1 b.2 b.4 b.5 b.6) a.4 a.6)

@@ -21,7 +21,7 @@ use Rattle.desk_base.specs.Bytes.{is_blank}
 drop_next : (n b : ℕ) (xs : List ℕ) → drop (1 + n) (b ∷ xs) ≡ drop n xs
 drop_next n b xs = let e : 1 + n ≡ suc n = omega arith in ap (λ k. drop k (b ∷ xs)) e
 
--- blanks at the front end where the rest begins
+-- if a front has more than blanks, only its own blanks are skipped
 pub skip-append : (xs ys : List ℕ) → 0 < length (skip_blanks xs) → skip_blanks (xs ++ ys) ≡ skip_blanks xs ++ ys
 skip-append [] ys some = absurd (omega arith)
 skip-append (b ∷ xs) ys some =
@@ -32,7 +32,7 @@ skip-append (b ∷ xs) ys some =
       | false ↦ λ h. refl
     ] some
 
--- a tag begins with the first byte of its line that is no blank
+-- a tag begins with the first byte of its line that isn't a blank
 pub tag_first : (before more : List ℕ) → 0 < length (trimmed before) → get_or (trimmed before) 0 0 ≡ get_or (skip_blanks (before ++ more)) 0 0
 tag_first before more some =
     let core = skip_blanks before in
@@ -82,7 +82,7 @@ behind_cut text line inner front b u h low e =
     let n : length front + 1 ≡ length line - length inner = omega arith in
     subst (IsCharBoundary text) n (IsCharBoundary-after_ascii text (length front) u (omega arith) (omega arith))
 
--- no colon, no tag
+-- without a colon there is no tag
 pub no_tag : (line : List ℕ) → ((i : ℕ) → i < length line → get_or line i 0 ≢ 58) → (before after : List ℕ) → All (λ d. d ≢ 58) before → line ≡ before ++ (58 ∷ after) → length (trimmed before) ≡ 0
 no_tag line none before after h e =
     let len = ap length e ∙ length-append before (58 ∷ after) in

@@ -1,5 +1,5 @@
--- A text as a list of pieces, each with its end, the fields that they give, and the fault of the first piece that is none
--- (SPDX 2.3, clause 4.4). The definition speaks of a whole cutting; each byte lies in one piece or one end.
+-- A text as a list of pieces, each with its end, the fields that they give, and the fault at the first place where no piece begins (SPDX 2.3, clause 4.4). The
+-- definition is about a whole cutting: each byte is in one piece or one end.
 use Rattle.std.specs.Prelude.{◌≡◌, ◌≢◌, ℕ, ◌+◌, ◌==◌, false, List, [], ◌∷◌, ◌++◌, length, All, count_by, Option, Some, None, Result, Ok, Err, codes, take, drop, if◌then◌else◌}
 use Rattle.std.specs.Str.{bytes_eq}
 use Rattle.desk_base.specs.declared.lines.LineEnd.{LineEnd}
@@ -9,7 +9,7 @@ use Rattle.desk_fields.specs.Text.{trimmed}
 use Rattle.desk_fields.specs.declared.fault.DocFault.{DocFault}
 use Rattle.desk_fields.specs.declared.fault.DocFault.TheVariants.{NoColon, OpenText, AfterText}
 
--- a field without where it lies in memory
+-- a field, apart from where it is in memory
 pub record FieldText : Type 0 where
   pub line : ℕ
   pub tag : List ℕ
@@ -27,11 +27,11 @@ feeds_in (bare line) = 0
 feeds_in (one_line before after) = 0
 feeds_in (text before gap value tail) = count_by (λ b. b == 10) value
 
--- the line after a piece that begins at a line
+-- the line after a piece that begins on a line
 abbrev pub line_after : ℕ → Piece → ℕ
 line_after line p = line + feeds_in p + 1
 
--- the text at a line begins with no piece: no tag and colon; no </text>; or more than blanks after it
+-- the text from a line on begins with no piece: no tag and colon; no </text>; or more than blanks after it
 abbrev pub Fails : ℕ → List ℕ → DocFault → Type 0
 Fails line whole (NoColon n) =
     (body : List ℕ) × (end : LineEnd) × (rest : List ℕ) × (n ≡ line) × IsLine whole body end rest × (is_bare body ≡ false)
@@ -45,17 +45,17 @@ Fails line whole (AfterText n) =
     × IsLine more tail end rest × (AllBlank tail → ⊥) × (n ≡ line + count_by (λ b. b == 10) value)
 Fails line whole _ = ⊥
 
--- a field, where the piece is one
+-- a field, if the piece has one
 abbrev pub onto : ℕ → Option (List ℕ × List ℕ) → List FieldText → List FieldText
 onto line None fs = fs
 onto line (Some g) fs = record { line = line; tag = g.0; value = g.1 } ∷ fs
 
--- what follows a piece, with its field before
+-- what follows a piece, preceded by its field
 abbrev pub with_piece : ℕ → Piece → Result (List FieldText) DocFault → Result (List FieldText) DocFault
 with_piece line p (Ok fs) = Ok (onto line (given p) fs)
 with_piece line p (Err f) = Err f
 
--- the same with some fields before
+-- the same, preceded by some fields
 abbrev pub with_front : List FieldText → Result (List FieldText) DocFault → Result (List FieldText) DocFault
 with_front fs (Ok gs) = Ok (fs ++ gs)
 with_front fs (Err f) = Err f
@@ -64,7 +64,7 @@ with_front fs (Err f) = Err f
 abbrev pub behind_mark : List ℕ → List ℕ
 behind_mark bytes = if bytes_eq (take 3 bytes) (239 ∷ 187 ∷ 191 ∷ []) then drop 3 bytes else bytes
 
--- the text from a line on is a list of pieces that give these fields, or some pieces and then what begins with none
+-- the text from a line on is a list of pieces that give these fields, or some pieces followed by what begins with none
 pub data Reads : ℕ → List ℕ → Result (List FieldText) DocFault → Type 0 where
   done : (line : ℕ) → Reads line [] (Ok [])
   more : (line : ℕ) (whole : List ℕ) (p : Piece) (end : LineEnd) (rest : List ℕ) (r : Result (List FieldText) DocFault) → Begins whole p end rest → Reads (line_after line p) rest r → Reads line whole (with_piece line p r)
@@ -77,12 +77,12 @@ pub record Cut : Type 0 where
   pub piece : Piece
   pub end : LineEnd
 
--- a text is these pieces, each with its end, and what follows them: each byte of it lies in just one
+-- a text is these pieces, each with its end, and what follows them: each of its bytes is in only one
 abbrev pub AreCuts : List ℕ → List Cut → List ℕ → Type 0
 AreCuts whole [] rest = whole ≡ rest
 AreCuts whole (c ∷ cs) rest = (after : List ℕ) × Begins whole c.piece c.end after × AreCuts after cs rest
 
--- the line behind pieces that begin at a line
+-- the line after pieces that begin on a line
 abbrev pub line_behind : ℕ → List Cut → ℕ
 line_behind line [] = line
 line_behind line (c ∷ cs) = line_behind (line_after line c.piece) cs
@@ -92,7 +92,7 @@ abbrev pub fields_of : ℕ → List Cut → List FieldText
 fields_of line [] = []
 fields_of line (c ∷ cs) = onto line (given c.piece) (fields_of (line_after line c.piece) cs)
 
--- the text from a line on is these pieces and nothing else; or these, and then what begins with none, with its fault
+-- the text from a line on is these pieces and nothing else; or these, followed by what begins with none, with its fault
 abbrev pub IsCutting : ℕ → List ℕ → List Cut → Option DocFault → Type 0
 IsCutting line whole cuts None = AreCuts whole cuts []
 IsCutting line whole cuts (Some fault) = (rest : List ℕ) × AreCuts whole cuts rest × Fails (line_behind line cuts) rest fault

@@ -1,4 +1,4 @@
--- The tags that are read (SPDX 2.3, clauses 6 to 11), those that are read over, and all others.
+-- The tags that are read (SPDX 2.3, clauses 6 to 11), those that are skipped, and all others.
 use Rattle.std.specs.Prelude.{ℕ, Bool, ◌||◌, ◌==◌, List, [], Option, Some, None, unwrap_or, codes, nat_eq, if◌then◌else◌}
 use Rattle.std.specs.List.{starts_with}
 use Rattle.std.specs.Str.{bytes_eq}
@@ -49,7 +49,7 @@ other_tag text =
     else (if bytes_eq text (codes "Relationship") then Some tags.Relationship
     else None)))
 
--- the beginnings of the standard's other tags, and those that have no such beginning
+-- how the standard's other tags begin, and those that begin otherwise
 abbrev pub begins_as_element : List ℕ → Bool
 begins_as_element text =
     starts_with nat_eq text (codes "Package") || starts_with nat_eq text (codes "File")
@@ -77,7 +77,7 @@ tag_of text =
     unwrap_or (document_tag text) (unwrap_or (package_tag text) (unwrap_or (file_tag text) (unwrap_or (other_tag text)
     (if is_read_over text then tags.ReadOver else tags.Unknown))))
 
--- the tag as it stands in a document
+-- the tag as it is in a document
 abbrev pub tag_name : Tag → List ℕ
 tag_name tags.Version = codes "SPDXVersion"
 tag_name tags.DataLicense = codes "DataLicense"

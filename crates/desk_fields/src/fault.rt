@@ -1,4 +1,4 @@
-//! Why bytes are no document.
+//! Why bytes aren't a document.
 
 ghost use Rattle.std.specs.Prelude.{◌≡◌};
 ghost use Rattle.desk_fields.specs.FaultParts.{fault_number, fault_line, fault_tag};
@@ -7,13 +7,13 @@ use crate::Tag;
 use std::alloc::{AllocError, AllocFailed};
 use thiserror::Error;
 
-/// Why bytes are no tag-value document. Most faults have the line of a field, from 1.
+/// Why bytes aren't a tag-value document. Most faults have the line of a field, from 1.
 #[derive(Clone, Copy, Debug, PartialEq, Eq, Error)]
 pub enum DocFault {
     /// Memory ran out.
     #[error("out of memory")]
     Memory,
-    /// The bytes are no UTF-8 text.
+    /// The bytes aren't UTF-8 text.
     #[error("the bytes are no UTF-8 text")]
     NotUtf8,
     /// A line that is neither blank nor a comment has no colon, or no tag before it.
@@ -22,37 +22,38 @@ pub enum DocFault {
     /// A value that begins with `<text>` has no `</text>`; the line of the field.
     #[error("line {0}: `<text>` without `</text>`")]
     OpenText(u64),
-    /// More than blanks follow a `</text>`; the line of the `</text>`.
+    /// Something other than blanks follows a `</text>`; the line of the `</text>`.
     #[error("line {0}: more than blanks after `</text>`")]
     AfterText(u64),
     /// The version isn't SPDX-2.1, SPDX-2.2 or SPDX-2.3.
     #[error("line {0}: not SPDX-2.1, SPDX-2.2 or SPDX-2.3")]
     BadVersion(u64),
-    /// A field that each document or element has isn't there; the line at which the element begins.
+    /// A field that each document or element must have is missing; the line on which it begins.
     #[error("line {0}: no {1:?}")]
     Missing(u64, Tag),
-    /// An identifier isn't of its form.
+    /// An identifier doesn't have its form.
     #[error("line {0}: an identifier of another form")]
     BadId(u64),
-    /// An identifier stands twice.
+    /// An identifier appears twice.
     #[error("line {0}: an identifier that stands before")]
     DuplicateId(u64),
-    /// A field that stands once stands again.
+    /// A field that may occur only once occurs again.
     #[error("line {0}: {1:?} again")]
     Repeated(u64, Tag),
-    /// A relationship isn't of its form.
+    /// A relationship doesn't have its form.
     #[error("line {0}: a relationship of another form")]
     BadRelationship(u64),
     /// The document has more than 4 MiB.
     #[error("more than 4 MiB")]
     TooLarge,
-    /// More than 10,000 packages, files, snippets and extracted licences; the line of the first one too many.
+    /// More than 10,000 packages, files, snippets and extracted licences; the line of the first one
+    /// that is too many.
     #[error("line {0}: more than 10,000 elements")]
     TooManyElements(u64),
 }
 
 impl DocFault {
-    /// The fault's number, from 1, and 0 for want of memory.
+    /// The fault's number, from 1, or 0 if no memory was left.
     pub fn number(&self) -> u32
         ensures { result ≡ fault_number self.now }
     {
@@ -73,7 +74,7 @@ impl DocFault {
         }
     }
 
-    /// The fault's line, and 0 where it has none.
+    /// The fault's line, or 0 if it has none.
     pub fn line(&self) -> u64
         ensures { result ≡ fault_line self.now }
     {
@@ -92,7 +93,7 @@ impl DocFault {
         }
     }
 
-    /// The tag of which the fault speaks.
+    /// The tag that the fault is about.
     pub fn tag(&self) -> Option<Tag>
         ensures { result ≡ fault_tag self.now }
     {

@@ -1,15 +1,16 @@
-//! Tag-value text as a list of fields (SPDX 2.3, clause 4.4; what the tags mean stands in clauses 6
-//! to 12).
+//! Tag-value text as a list of fields (SPDX 2.3, clause 4.4; clauses 6 to 12 say what the tags
+//! mean).
 //!
 //! A line is blank, a comment that begins with `#`, or a field `Tag: value`. A value that begins
-//! with `<text>` runs to the first `</text>`, over lines if need be. A text is cut into such pieces
-//! in one way, and `fields` gives the fields of the whole cutting, or the fault of its first piece
-//! that is none of these:
+//! with `<text>` runs to the first `</text>`, over several lines if need be. There is only one way
+//! to cut a text into such pieces, and `fields` returns the fields of all its pieces, or the fault
+//! of the first that is none of these:
 //!
-//! - the definition `Reads` of `specs/Cutting.antt` holds the cutting, the fields and the fault;
-//! - `one_reading` says that a text has only one;
-//! - a `Scanner` gives the same field by field, and takes no memory (`specs/NextField.antt`);
-//! - `Tag` says which fields are read, and `DocFault` why bytes are no document.
+//! - the definition `Reads` of `specs/Cutting.antt` says which cutting, fields and fault a text
+//!   has;
+//! - `one_reading` says that a text has only one reading;
+//! - a `Scanner` returns the same field by field, and allocates nothing (`specs/NextField.antt`);
+//! - `Tag` says which fields are read, and `DocFault` why bytes aren't a document.
 //!
 //! Lines are numbered from 1. Each tag and each value is a slice of the text.
 #![tactic(auto)]

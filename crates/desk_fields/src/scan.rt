@@ -17,14 +17,13 @@ use crate::text::{first_line, skip_blanks, trimmed};
 pub struct Field<'a> {
     /// The line on which it begins, from 1.
     pub line: u64,
-    /// What stands before the first colon, without blanks at its ends.
+    /// What precedes the first colon, without blanks at its ends.
     pub tag: &'a str,
-    /// What stands between `<text>` and `</text>`, or the rest of the line without blanks at its
-    /// ends.
+    /// What is between `<text>` and `</text>`, or the rest of the line without blanks at its ends.
     pub value: &'a str,
 }
 
-// A piece's field, and where the text goes on.
+// A piece's field, and where the text continues.
 #[derive(Clone, Copy)]
 pub(crate) struct Found<'a> {
     pub field: Option<Field<'a>>,
@@ -32,7 +31,7 @@ pub(crate) struct Found<'a> {
     pub line: u64,
 }
 
-// Whether a line has nothing but blanks, or a comment.
+// Whether a line has only blanks, or a comment.
 fn is_bare(line: &str) -> bool
     ensures { result ≡ is_bare line.now }
 {
@@ -40,7 +39,7 @@ fn is_bare(line: &str) -> bool
     core.is_empty() || core[0] == b'#'
 }
 
-// What stands before and after the first colon of a line that has a tag.
+// What precedes and follows the first colon of a line that has a tag.
 fn around_colon(line: &str) -> Option<(&str, &str)>
     requires { is_bare line.now ≡ false }
     ensures none { IfNone result ((before after : List ℕ) → All (λ b. b ≢ 58) before
@@ -58,7 +57,7 @@ fn around_colon(line: &str) -> Option<(&str, &str)>
     Some((front, after))
 }
 
-// What stands behind the `<text>` with which a value begins.
+// What follows the `<text>` with which a value begins.
 fn behind_opening(after: &str) -> Option<&str>
     ensures none { IfNone result (Opens after.now → ⊥) }
     ensures some { IfSome result (λ r. skip_blanks after.now ≡ codes "<text>" ++ r.now) }
@@ -66,7 +65,7 @@ fn behind_opening(after: &str) -> Option<&str>
     skip_blanks(after).strip_prefix("<text>")
 }
 
-// The end of a text, from where the end of its first line stands.
+// The end of a text, from where a given end of its first line begins.
 fn text_behind<'a>(text: &'a str, line: &str, inner: &str) -> &'a str
     requires line { text.now ≡ line.now ++ drop (length line.now) text.now }
     requires inner { (front : List ℕ) × (b : ℕ) × (b < 128)
@@ -93,7 +92,7 @@ fn line_feeds(text: &str) -> usize
     text.as_bytes().iter().filter(|b| **b == b'\n').count()
 }
 
-// The field in `<text>` that begins a text, with its value's start found.
+// The field in `<text>` with which a text begins, if the start of its value is known.
 fn text_piece<'a>(
     text: &'a str,
     line: u64,
@@ -173,8 +172,8 @@ fn first_piece<'a>(text: &'a str, line: u64) -> Result<Found<'a>, DocFault>
     })
 }
 
-// The first field of a text and where the text goes on behind it, or where the text ends without
-// one.
+// The first field of a text and where the text continues after it, or the end of the text if it has
+// no field.
 pub(crate) fn first_field<'a>(text: &'a str, line: u64) -> Result<Found<'a>, DocFault>
     requires room { line + length text.now < 2 ^ 64 }
     ensures ok { IfOk result (λ f. Reaches line text.now f.field f.line f.rest.now) }

@@ -13,7 +13,7 @@ use std::alloc::Global;
 
 /// The fields of a text, one after another, without a list of them.
 ///
-/// A fault is the last that it gives.
+/// After a fault it returns nothing more.
 #[derive(Drop)]
 pub struct Scanner<'a> {
     /// What isn't cut yet.
@@ -37,7 +37,7 @@ fn behind_mark(text: &str) -> &str
 impl<'a> Scanner<'a> {
     ghost use Rattle.desk_fields.specs.NextField.{FieldGiven, reading, EndsAtFault};
 
-    /// The fields of a text, from the first: what calls of `next` give until there is none.
+    /// The fields of a text, from the first: what `next` returns until it returns none.
     pub fn of(text: &'a str) -> Scanner<'a>
         ensures rest { result.rest.now ≡ behind_mark text.now }
         ensures line { result.line ≡ 1 }

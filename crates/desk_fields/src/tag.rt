@@ -54,9 +54,9 @@ pub enum Tag {
     ExtractedText,
     /// `Relationship`, in any section.
     Relationship,
-    /// Another tag of the standard, which is read over.
+    /// Another tag of the standard, or one that begins like these; it is skipped.
     ReadOver,
-    /// A tag that the standard doesn't have.
+    /// Any other tag.
     Unknown,
 }
 
@@ -120,7 +120,7 @@ fn other_tag(text: &str) -> Option<Tag>
     }
 }
 
-// Whether the text is one of the standard's other tags that begin as none of its kinds do.
+// Whether the text is one of the standard's other tags that begin in none of these ways.
 fn is_date_or_purpose(text: &str) -> bool
     ensures { result ≡ is_date_or_purpose text.now }
 {
@@ -130,7 +130,7 @@ fn is_date_or_purpose(text: &str) -> bool
     }
 }
 
-// Whether the text begins as the standard's tags of packages, files, snippets or licences do.
+// Whether the text begins like the standard's tags of packages, files, snippets or licences.
 fn begins_as_element(text: &[u8]) -> bool
     ensures { result ≡ begins_as_element text.now }
 {
@@ -140,7 +140,7 @@ fn begins_as_element(text: &[u8]) -> bool
         || text.starts_with(b"License")
 }
 
-// Whether the text begins as the standard's remaining tags do.
+// Whether the text begins like the standard's remaining tags.
 fn begins_as_remark(text: &[u8]) -> bool
     ensures { result ≡ begins_as_remark text.now }
 {
@@ -151,14 +151,14 @@ fn begins_as_remark(text: &[u8]) -> bool
         || begins_as_document(text)
 }
 
-// Whether the text begins as the standard's tags of documents do.
+// Whether the text begins like the standard's tags of documents.
 fn begins_as_document(text: &[u8]) -> bool
     ensures { result ≡ begins_as_document text.now }
 {
     text.starts_with(b"Creator") || text.starts_with(b"Document") || text.starts_with(b"SPDXREF")
 }
 
-// Whether the tag is read over.
+// Whether the tag is skipped.
 fn is_read_over(text: &str) -> bool
     ensures { result ≡ is_read_over text.now }
 {
@@ -190,7 +190,7 @@ impl Tag {
         }
     }
 
-    /// The tag as it stands in a document, and nothing for the tags that aren't read.
+    /// The tag as it is in a document, or the empty text for tags that aren't read.
     pub fn name(&self) -> &'static str
         ensures { result.now ≡ tag_name self.now }
     {
@@ -223,7 +223,7 @@ impl Tag {
         }
     }
 
-    /// Whether two fields are read as the same.
+    /// Whether the two are the same.
     pub fn is(&self, other: Tag) -> bool
         ensures { result ≡ same_tag self.now other }
     {

@@ -15,7 +15,7 @@ fn is_blank(b: u8) -> bool
     b == b' ' || b == b'\t'
 }
 
-// How many blanks stand at the front.
+// How many blanks the bytes begin with.
 fn blanks(bytes: &[u8]) -> usize
     ensures { result ≡ prefix_len is_blank bytes.now }
 {
@@ -27,7 +27,7 @@ fn blanks(bytes: &[u8]) -> usize
     bytes.len()
 }
 
-// How much stands before the blanks at the end.
+// How many bytes precede the blanks at the end.
 fn kept(bytes: &[u8]) -> usize
     ensures within { result ≤ length bytes.now }
     ensures value { result ≡ length bytes.now - suffix_len is_blank bytes.now }
@@ -98,7 +98,7 @@ pub(crate) fn first_line(text: &str) -> (&str, LineEnd, &str)
     (front, end, back)
 }
 
-// How many bytes stand before the first blank.
+// How many bytes precede the first blank.
 fn word_len(bytes: &[u8]) -> usize
     ensures within { result ≤ length bytes.now }
     ensures value { result ≡ position_or_len is_blank bytes.now }

@@ -1,4 +1,4 @@
--- A text has one cutting into pieces, and its reading is what that says.
+-- A text has exactly one cutting into pieces, and its reading is what that says.
 use Rattle.std.proofs.Common.{◌≡◌, ◌∙◌, ◌↔◌, ℕ, List, [], ◌∷◌, ap, sym, subst, refl}
 use Rattle.std.specs.Prelude.{Option, Some, None, Result, Ok, Err}
 use Rattle.desk_base.proofs.LinesOnce.{line_some}
@@ -9,7 +9,7 @@ use Rattle.desk_fields.proofs.OnePiece.{begins_once}
 use Rattle.desk_fields.proofs.OneReading.{begins_fails, fails_once, fails_some, not_nothing}
 use Rattle.desk_findings.proofs.EachText.{each_text}
 
--- a cutting of a text that says so
+-- a cutting of a text with this result
 pub record CutFor (line : ℕ) (whole : List ℕ) (r : Result (List FieldText) DocFault) : Type 0 where
   pub cuts : List Cut
   pub fault : Option DocFault

@@ -37,7 +37,7 @@ field_more gives kind after p n xs i d found new inside is_after is_n is_new =
     ∙ ap (λ m. found ++ (gives (record { section = kind_after (section_begun e.tag) kind; packages = m; entry = e }) ++ flat_map gives (fields_in (kind_after (section_begun e.tag) kind) m rest))) is_n
     ∙ ap (λ l. found ++ flat_map gives (fields_in kind p l)) (sym (seen_more entry_text xs i d inside))
 
--- what one item more gives, behind what those before it give
+-- what one more item gives, after what those before it give
 pub gathered_more : {X Y : Type 0} (view : X → Y) (gives : Y → List Finding) (xs : List X) (i : ℕ) (d : X) (start found new : List Finding) → i < length xs
     → found ≡ start ++ flat_map gives (map view (take i xs)) → new ≡ found ++ gives (view (get_or xs i d)) → new ≡ start ++ flat_map gives (map view (take (i + 1) xs))
 gathered_more view gives xs i d start found new inside before is =

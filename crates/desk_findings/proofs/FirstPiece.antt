@@ -25,7 +25,7 @@ pub data Step (line : ℕ) (t : List ℕ) : Type 0 where
 stepped : (line : ℕ) (t : List ℕ) (p : Piece) (end : LineEnd) (rest : List ℕ) → Begins t p end rest → Step line t
 stepped line t p end rest b = piece p end rest b (line_shorter t (bytes_of p) end rest b.cut b.ends)
 
--- a <text> that is closed, and the line behind it
+-- a <text> that is closed, and the line after it
 tail_step : (line : ℕ) (t before gap inner value more : List ℕ) → IsOpened t before gap inner → inner ≡ value ++ (codes "</text>" ++ more) → IsFirstEnd value → HasLine more → Step line t
 tail_step line t before gap inner value more o cut last h =
     elim (cases_eq (length (skip_blanks h.line)) 0) [

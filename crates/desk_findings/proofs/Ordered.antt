@@ -1,4 +1,4 @@
--- A list has one order by a total order that tells all apart.
+-- A list has one order by a total order that distinguishes all items.
 use Rattle.std.proofs.Common.{◌≡◌, ◌∙◌, ℕ, zero, suc, ◌+◌, ◌<◌, Bool, true, false, List, [], ◌∷◌, length, sym, subst, ap, refl, arith}
 use Rattle.std.specs.Prelude.{if◌then◌else◌, slice_index_or}
 use Rattle.std.specs.Cmp.{IsTotalOrder, upto}
@@ -28,7 +28,7 @@ module _ {X : Type 0} (R : X → X → Ordering) (total : IsTotalOrder R) where
   abbrev UpTo : X → X → Type 0
   UpTo x y = is_gt (R x y) ≡ false
 
-  -- it is up to each of some
+  -- it is up to each of these
   abbrev EachFrom : X → List X → Type 0
   EachFrom x [] = Unit {0}
   EachFrom x (y ∷ ys) = UpTo x y × EachFrom x ys
@@ -84,7 +84,7 @@ module _ {X : Type 0} (R : X → X → Ordering) (total : IsTotalOrder R) where
   sort_permutes [] = IsPermutation-refl []
   sort_permutes (x ∷ xs) = IsPermutation-trans (x ∷ xs) (x ∷ sort xs) (put x (sort xs)) (IsPermutation-cons x xs (sort xs) (sort_permutes xs)) (put_permutes x (sort xs))
 
-  -- ascending, told by places
+  -- ascending, by places
 
   next_place : (k : ℕ) → suc (k + 1) ≡ suc k + 1
   next_place k = omega arith
@@ -107,9 +107,9 @@ module _ {X : Type 0} (R : X → X → Ordering) (total : IsTotalOrder R) where
   pub sorted_list : (xs : List X) → (ys : List X) × IsPermutation xs ys × IsSorted R ys
   sorted_list xs = (sort xs, sort_permutes xs, λ k d low within. sorted_at (sort xs) (sort_ascends xs) k d within)
 
-  -- ---- and only one, where what ties is the same
+  -- ---- and only one, if items that tie are the same
 
-  -- how many tie with one
+  -- 1 for an item that ties with another
   abbrev ties : X → X → ℕ
   ties x y = if is_eq (R x y) then 1 else 0
 

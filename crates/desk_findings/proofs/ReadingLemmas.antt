@@ -8,7 +8,7 @@ use Rattle.desk_expr.specs.Tree.{Tree}
 use Rattle.desk_expr.specs.Spelling.{SpellsBy, SpellsWithinBy}
 use Rattle.desk_findings.specs.Fields.{IsRead}
 
--- where the text spells one tree at most, a value that spells one is read as it
+-- if the text spells at most one tree, a value that spells one is read as it
 pub read_as : (profile : Profile) (text : List ℕ) (e : Tree) (o : Option Tree) → SpellsWithinBy profile text e → IsRead profile text o → ((a b : Tree) → SpellsBy profile text a → SpellsBy profile text b → a ≡ b) → Some e ≡ o
 read_as profile text e None spelled is only = absurd (is e spelled)
 read_as profile text e (Some a) spelled is only = ap (λ t. Some t) (only e a (spelled.1, spelled.2, spelled.3) (is.1, is.2, is.3))
@@ -17,7 +17,7 @@ pub read_as_none : (profile : Profile) (text : List ℕ) (o : Option Tree) → (
 read_as_none profile text None never is = refl
 read_as_none profile text (Some e) never is = absurd (never e is)
 
--- lists with the same members pass a test alike
+-- lists with the same members pass or fail a test together
 same_test : (a b : Bool) → (a ≡ true → b ≡ true) → (b ≡ true → a ≡ true) → a ≡ b
 same_test true true f g = refl
 same_test false false f g = refl

@@ -1,4 +1,4 @@
--- Each definition cuts a document as `parts` does: a field that begins no section stays in the part at hand, any other opens one.
+-- Each definition cuts a document as `parts` does: a field that begins no section stays in the current part, any other begins one.
 use Rattle.std.proofs.Common.{◌≡◌, ◌∙◌, ◌⊎◌, inl, inr, ℕ, ◌+◌, Bool, true, false, cond, List, [], ◌∷◌, ◌++◌, map, filter, sym, subst, ap, refl, append_assoc, append-nil, ⊎_elim}
 use Rattle.std.specs.Prelude.{Option, Some, None, is_some, not, reverse}
 use Rattle.std.specs.List.{flat_map}
@@ -92,11 +92,11 @@ opens kind e es is = record {
   of_file = (begins_what e.tag).1 ∙ ap (is_of is_file) is;
 }
 
--- a fact of all documents: of none, and of one field more, which stays in the part at hand or opens one
+-- a fact about all documents: about an empty one, and about one with one more field, which stays in the current part or begins one
 over : (P : List EntryText → Type 0) (e : EntryText) (es : List EntryText) → (Inside e es → P (e ∷ es)) → ((kind : SectionKind) → Opens kind e es → P (e ∷ es)) → P (e ∷ es)
 over P e es stays begins_one = ⊎_elim (λ is. stays (inside e es is)) (λ o. begins_one o.0 (opens o.0 e es o.1)) (by_begun (section_begun e.tag))
 
--- the parts behind the document's own
+-- the parts after the document's own
 abbrev later : List EntryText → List Part
 later es = map part_of (sections_of es)
 
@@ -171,7 +171,7 @@ listed_later kind n (e ∷ es) =
 pub findings : (es : List EntryText) → findings_fields es ≡ listed 0 (parts es)
 findings es = listed_later kinds.Document 0 es
 
--- ---- the last part, by one field after the other
+-- ---- the last part, by one field after another
 
 abbrev grown : Option SectionKind → Part → EntryText → Part
 grown None p e = record { kind = p.kind; fields = p.fields ++ (e ∷ []) }

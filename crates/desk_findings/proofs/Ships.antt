@@ -1,4 +1,4 @@
--- What ships: each document has a least set of elements that do, and one; so one mark for each package, and one list of ids.
+-- What ships: each document has exactly one least set of elements that do; so there is one mark for each package, and one list of ids.
 use Rattle.std.proofs.Common.{◌≡◌, ◌∙◌, ◌⊎◌, inl, inr, ℕ, zero, suc, ◌+◌, Bool, true, false, cond, List, [], ◌∷◌, length, map, filter, sym, subst, refl, arith}
 use Rattle.std.proofs.lemmas.Bool.{cases_Bool}
 use Rattle.std.proofs.lemmas.Cmp.{nat_list_cmp_total, on_total}
@@ -20,7 +20,7 @@ use Rattle.desk_findings.proofs.Ordered.{sorted_list}
 use Rattle.desk_findings.specs.Ids.{id_at}
 use Rattle.desk_tagvalue.specs.Parts.{DocumentText}
 
--- ---- a least set that is closed under some arrows: one arrow more either leads on from the set, or leaves it
+-- ---- a least set that is closed under some arrows: one more arrow either leads on from the set, or doesn't begin in it
 
 contains_cases : (x : Arrow) (xs : List Arrow) (q : Arrow) → Contains (x ∷ xs) q → (x ≡ q) ⊎ Contains xs q
 contains_cases x xs q (zero, within, is) = inl is
@@ -32,7 +32,7 @@ contains_here x xs = (zero, omega arith, refl)
 contains_there : (x : Arrow) (xs : List Arrow) (q : Arrow) → Contains xs q → Contains (x ∷ xs) q
 contains_there x xs q at = (suc at.0, omega (arith, at.1), at.2)
 
--- the starts, and where an arrow leads
+-- the starts, and the place to which an arrow leads
 abbrev and_to : (ℕ → Bool) → ℕ → ℕ → Bool
 and_to start to a = start a || (a == to)
 

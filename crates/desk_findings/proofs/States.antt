@@ -1,4 +1,4 @@
--- The code of each package has a state, and one: the files of a package are one list.
+-- The code of each package has exactly one state: the files of a package are one list.
 use Rattle.std.proofs.Common.{◌≡◌, ◌≢◌, ◌⊎◌, inl, inr, ℕ, zero, suc, ◌<◌, true, false, List, [], ◌∷◌, length, Option, Some, None, sym, subst, ap, refl, arith}
 use Rattle.std.specs.Prelude.{◌==◌, nat_eq, if◌then◌else◌, Contains, slice_get}
 use Rattle.std.specs.Ordering.{nat_cmp}

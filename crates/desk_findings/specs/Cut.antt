@@ -1,4 +1,4 @@
--- A document as its parts (SPDX 2.3, clauses 6 to 10): its own fields, then each section, and what other definitions say of them.
+-- A document as its parts (SPDX 2.3, clauses 6 to 10): its own fields, then each section, and what other definitions say about them.
 use Rattle.std.specs.Prelude.{ℕ, ◌+◌, Bool, List, [], ◌∷◌, ◌++◌, map, filter, if◌then◌else◌}
 use Rattle.desk_fields.specs.declared.tag.Tag.TheVariants as tags
 use Rattle.desk_tagvalue.specs.declared.sections.SectionKind.{SectionKind}
@@ -49,7 +49,7 @@ packages_of es = map part_of (filter (begins_with tags.PackageName) (sections_of
 abbrev pub files_of : List EntryText → List Part
 files_of es = map part_of (filter (begins_with tags.FileName) (sections_of es))
 
--- each file in the last package before it, where so many packages and files stand before
+-- each file in the last package before it, after this many packages and files
 abbrev pub owned : ℕ → ℕ → List Part → List Arrow
 owned packages files [] = []
 owned packages files (p ∷ ps) =
@@ -57,11 +57,11 @@ owned packages files (p ∷ ps) =
     else (if is_file_part p then onto_package packages files (owned packages (files + 1) ps)
     else owned packages files ps)
 
--- how many packages have begun with a part, where so many had before
+-- how many packages have begun with a part, if this many had begun before
 abbrev pub begun : ℕ → Part → ℕ
 begun packages p = if is_package_part p then packages + 1 else packages
 
--- each field in its part, where so many packages have begun
+-- each field in its part, after this many packages have begun
 abbrev pub field_at : SectionKind → ℕ → EntryText → FieldAt
 field_at kind packages e = record { section = kind; packages = packages; entry = e }
 

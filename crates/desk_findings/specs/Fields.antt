@@ -1,4 +1,4 @@
--- The fields of a document in their sections, and what single fields tell.
+-- The fields of a document in their sections, and what single fields say.
 use Rattle.std.specs.Prelude.{ℕ, ◌+◌, ◌-◌, ◌&&◌, ◌||◌, ◌==◌, not, nat_eq, Bool, true, false, List, [], ◌∷◌, Option, Some, None, is_none, length, codes, if◌then◌else◌, slice_get}
 use Rattle.std.specs.List.{list_any, starts_with}
 use Rattle.std.specs.Str.{bytes_eq}
@@ -23,11 +23,11 @@ use Rattle.desk_bom.specs.declared.state.CodeState.TheVariants as states
 
 -- ---- licence fields (clauses 7.13, 7.15, 8.5, 8.6; Annex D)
 
--- one word alone
+-- only this word
 abbrev pub is_only_word : List ℕ → List ℕ → Bool
 is_only_word word text = bytes_eq (first_word text) word && length (skip_blanks (after_word text)) == 0
 
--- NONE or NOASSERTION alone, which tells of no licence
+-- only NONE or NOASSERTION, which names no licence
 abbrev pub is_no_licence : List ℕ → Bool
 is_no_licence text = is_only_word (codes "NONE") text || is_only_word (codes "NOASSERTION") text
 
@@ -58,7 +58,7 @@ pub record FieldAt : Type 0 where
 abbrev pub packages_after : ℕ → EntryText → ℕ
 packages_after n e = if same_tag e.tag tags.PackageName then n + 1 else n
 
--- the fields of a text, where the last before them stood in a section, and so many packages had begun
+-- the fields of a text, if the last field before them was in a section of this kind, and this many packages had begun
 abbrev pub fields_in : SectionKind → ℕ → List EntryText → List FieldAt
 fields_in kind n [] = []
 fields_in kind n (e ∷ es) =
@@ -75,7 +75,7 @@ is_unknown f = same_tag f.entry.tag tags.Unknown
 abbrev pub is_misplaced : FieldAt → Bool
 is_misplaced f = not (is_placed f.section f.entry.tag)
 
--- a licence field that holds no expression, NONE or NOASSERTION
+-- a licence field whose value is no expression and neither NONE nor NOASSERTION
 abbrev pub is_bad_expression : (List ℕ → Option Tree) → FieldAt → Bool
 is_bad_expression reads f =
     is_licence_field f.entry.tag && is_placed f.section f.entry.tag && not (is_no_licence f.entry.value) && is_none (reads f.entry.value)
@@ -109,7 +109,7 @@ abbrev pub flag_of : Option PackageText → Option (List ℕ)
 flag_of None = None
 flag_of (Some p) = p.files_analyzed
 
--- a code where FilesAnalyzed is false
+-- a code although FilesAnalyzed is false
 abbrev pub is_unwanted_code : DocumentText → FieldAt → Bool
 is_unwanted_code d f = is_field tags.VerificationCode f && is_unanalyzed (flag_of (slice_get d.packages (f.packages - 1)))
 

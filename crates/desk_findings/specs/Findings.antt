@@ -17,7 +17,7 @@ use Rattle.desk_model.specs.declared.finding.MissingField.TheVariants as missing
 use Rattle.desk_findings.specs.Kinds.{noted, finding_order}
 use Rattle.desk_findings.specs.Fields.{FieldAt, fields_in, is_unknown, is_misplaced, is_bad_expression, is_undefined_use, is_bad_digest, is_bad_code, differs, is_unwanted_code, is_bad_flag}
 
--- of a field
+-- those of a field
 abbrev pub field_findings : (List ℕ → Option Tree) → (ℕ → CodeState) → DocumentText → FieldAt → List Finding
 field_findings reads state d f =
     noted (is_unknown f) f.entry.line kinds.UnknownTag
@@ -30,15 +30,15 @@ field_findings reads state d f =
     ++ (noted (is_bad_flag f) f.entry.line kinds.BadFlag
     ++ noted (is_undefined_use reads d f) f.entry.line kinds.UndefinedRef)))))))
 
--- an identifier of this document, of which it has no element
+-- an identifier of this document that none of its elements has
 abbrev pub is_lost : DocumentText → List ℕ → Bool
 is_lost d id = starts_with nat_eq id (codes "SPDXRef-") && is_none (element_named d id)
 
--- of a relationship
+-- those of a relationship
 abbrev pub edge_findings : DocumentText → EdgeText → List Finding
 edge_findings d e = noted (is_lost d e.left || is_lost d e.right) e.line kinds.Dangling
 
--- of fields that aren't there
+-- those of fields that are missing
 abbrev pub missing_of_document : DocumentText → List Finding
 missing_of_document d =
     noted (is_none (value_of tags.DataLicense d.entries)) 1 (kinds.MissingField missing.DataLicense)
@@ -54,7 +54,7 @@ missing_of_file f = noted (is_none f.sha1) f.line (kinds.MissingField missing.Ch
 abbrev pub missing_of_extracted : ExtractedText → List Finding
 missing_of_extracted x = noted (is_none x.text) x.line (kinds.MissingField missing.ExtractedText)
 
--- all that isn't as the standard has it
+-- everything that isn't as the standard has it
 abbrev pub all_findings : (List ℕ → Option Tree) → (ℕ → CodeState) → DocumentText → List Finding
 all_findings reads state d =
     flat_map (field_findings reads state d) (fields_in sections.Document 0 d.entries)
@@ -64,12 +64,12 @@ all_findings reads state d =
     ++ (flat_map missing_of_file d.files
     ++ flat_map missing_of_extracted d.extracted))))
 
--- the states of the codes of all packages; where there is no package, there is no code
+-- the states of the codes of all packages; if there is no package, there is no code
 pub record AreStates (d : DocumentText) (state : ℕ → CodeState) : Type 0 where
   pub of_packages : (k : ℕ) → k < length d.packages → IsState d k (state k)
   pub past_packages : (k : ℕ) → length d.packages ≤ k → state k ≡ Absent
 
--- each of these once, by line, by kind and in the stated order
+-- each of these once, by line, by kind, and in the stated order
 pub record AreFindings (reads : List ℕ → Option Tree) (d : DocumentText) (found : List Finding) : Type 0 where
   pub state : ℕ → CodeState
   pub states : AreStates d state

@@ -15,7 +15,7 @@ finding_order a b =
 abbrev pub finding_key : Finding → ℕ × ℕ × ℕ
 finding_key f = (f.line, kind_number f.kind, place_in_kind f.kind)
 
--- a finding, where it holds
+-- a finding, if it holds
 abbrev pub noted : Bool → ℕ → FindingKind → List Finding
 noted true line kind = record { line = line; kind = kind } ∷ []
 noted false line kind = []

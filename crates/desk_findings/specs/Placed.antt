@@ -1,4 +1,4 @@
--- A field in its section, without where it lies in memory.
+-- A field in its section, apart from where it is in memory.
 use Rattle.desk_tagvalue.specs.Entries.{entry_text}
 use Rattle.desk_findings.specs.declared.field.Placed.{Placed}
 use Rattle.desk_findings.specs.Fields.{FieldAt}

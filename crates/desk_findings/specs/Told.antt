@@ -1,4 +1,4 @@
--- What the value of a licence field tells, which was read.
+-- What the value of a licence field that was read says.
 use Rattle.std.specs.Prelude.{◌≡◌, ℕ, ◌&&◌, List, Option, is_none}
 use Rattle.std.specs.BTreeSet.{BTreeSet}
 use denote.Ref.{Bor}
@@ -13,12 +13,12 @@ use Rattle.desk_findings.specs.declared.document.Told.{Told}
 use Rattle.desk_findings.specs.Fields.{IsReading, uses_undefined}
 use Rattle.desk_findings.specs.Known.{Defines}
 
--- whether it is no expression by the profile of operators, and whether a package concludes by it what no extracted licence defines
+-- whether it isn't an expression by the profile of operators, and whether it is a package's conclusion that uses what no extracted licence defines
 pub record Tells (profile : Profile) (defined : BTreeSet (Bor (List ℕ))) (tag : Tag) (value : List ℕ) (l : Licence) : Type 0 where
   pub bad : (reads : List ℕ → Option Tree) → IsReading profile reads → l.is_bad ≡ is_none (reads value)
   pub undefined : (reads : List ℕ → Option Tree) → IsReading profile reads → (d : DocumentText) → Defines d defined
       → l.is_undefined ≡ (same_tag tag tags.PackageConcluded && uses_undefined d (reads value))
 
--- the same of what was told last
+-- the same for the one that was read last
 abbrev pub IsTold : Profile → BTreeSet (Bor (List ℕ)) → Told → Type 0
 IsTold profile defined t = Tells profile defined t.tag t.value.now t.licence

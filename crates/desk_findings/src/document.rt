@@ -51,15 +51,15 @@ struct Known<'a> {
     states: Vec<CodeState>,
 }
 
-/// What a licence field tells.
+/// What a licence field says.
 #[derive(Clone, Copy)]
 pub(crate) struct Licence {
     is_bad: bool,
     is_undefined: bool,
 }
 
-/// The licence field whose value was read last, and what it told. In a document many a licence
-/// stands again and again, and one that equals it isn't read anew.
+/// The licence field whose value was read last, and what it said. In a document the same licence
+/// often occurs many times, and one that equals the last one isn't read again.
 #[derive(Clone, Copy)]
 pub(crate) struct Told<'a> {
     tag: Tag,
@@ -128,7 +128,7 @@ fn uses_undefined_in(
     uses_undefined(alloc, defined, expr)
 }
 
-// What a value tells that is read in a licence field.
+// What a value that is read in a licence field says.
 fn licence_read(alloc: Global, known: &Known, tag: Tag, value: &str) -> Result<Licence, AllocError>
     ensures { IfOk result (Tells known.now.profile known.now.defined tag value.now) }
 {
@@ -144,7 +144,7 @@ fn licence_read(alloc: Global, known: &Known, tag: Tag, value: &str) -> Result<L
     }
 }
 
-// What was told last, where it was of the same tag and value.
+// What the last one said, if it had the same tag and value.
 fn told_again(last: Option<Told<'_>>, tag: Tag, value: &str) -> Option<Licence>
     ensures { IfSome result (λ l. (t : Told) × (last.entry ≡ Some t) × (t.tag ≡ tag)
         × (t.value.now ≡ value.now) × (t.licence ≡ l)) }
@@ -155,7 +155,7 @@ fn told_again(last: Option<Told<'_>>, tag: Tag, value: &str) -> Option<Licence>
     }
 }
 
-// What a value tells in a licence field, which is read unless it is the one that was read last.
+// What a value in a licence field says, which is read unless it is the one that was read last.
 fn licence_told<'a>(
     alloc: Global,
     known: &Known,
@@ -179,7 +179,7 @@ fn licence_told<'a>(
     Ok(licence)
 }
 
-// What a licence field tells.
+// What a licence field says.
 fn licence_of<'a>(
     alloc: Global,
     known: &Known,
@@ -204,8 +204,8 @@ fn licence_of<'a>(
     licence_told(alloc, known, last, tag, field.entry.value)
 }
 
-// Adds the findings of a field: of its tag and section, of licences, of digests, of codes and of
-// flags.
+// Adds the findings of a field: those of its tag and section, of licences, of digests, of codes and
+// of flags.
 fn add_of_field<'a>(
     alloc: Global,
     found: &mut Vec<Finding>,
@@ -332,8 +332,8 @@ fn gathered(
     Ok(found)
 }
 
-/// All that isn't as the standard has it in a document, by line, by kind, and for missing fields in
-/// the order of `MissingField`. Licence fields are read by the profile of operators.
+/// Everything in a document that isn't as the standard has it, by line, by kind, and for missing
+/// fields in the order of `MissingField`. Licence fields are read by the profile of operators.
 pub fn findings_in(
     alloc: Global,
     document: &Document,
@@ -349,7 +349,7 @@ pub fn findings_in(
     Ok(found)
 }
 
-/// The same where operators are in capitals.
+/// The same with operators in capitals.
 pub fn findings(alloc: Global, document: &Document) -> Result<Vec<Finding>, AllocError>
     ensures { (reads : List ℕ → Option Tree) → IsReading Capitals reads
         → IfOk result (λ v. AreFindings reads (document_text document.now) v.items) }

@@ -15,7 +15,7 @@ use desk_tagvalue::behind;
 use std::alloc::{AllocError, Global};
 use std::collections::BTreeSet;
 
-// Whether a text is one word alone.
+// Whether a text is only this word.
 fn is_only_word(word: &str, text: &str) -> bool
     ensures { result ≡ is_only_word word.now text.now }
 {
@@ -23,14 +23,14 @@ fn is_only_word(word: &str, text: &str) -> bool
     first == word && skip_blanks(after).is_empty()
 }
 
-/// Whether a value is `NONE` or `NOASSERTION` alone.
+/// Whether a value is only `NONE` or `NOASSERTION`.
 pub fn is_no_licence(text: &str) -> bool
     ensures { result ≡ is_no_licence text.now }
 {
     is_only_word("NONE", text) || is_only_word("NOASSERTION", text)
 }
 
-// Want of memory is told as such; any other fault says that there is no expression.
+// Lack of memory is reported as such; any other fault means that there is no expression.
 fn told(fault: ParseFault) -> Result<(), AllocError>
     ensures { OnOk result (fault ≡ ParseFault.Memory alloc_error → ⊥) }
 {

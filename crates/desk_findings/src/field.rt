@@ -1,4 +1,4 @@
-//! What single fields tell, each in its section.
+//! What single fields say, each in its section.
 
 ghost use Rattle.std.specs.Prelude.{◌≡◌, map, ℕ, slice_index_or};
 ghost use Rattle.desk_tagvalue.specs.Documents.{document_text};
@@ -11,7 +11,7 @@ use desk_bom::{CodeState, is_code, is_unanalyzed};
 use desk_fields::Tag;
 use desk_tagvalue::{Document, Entry, SectionKind, is_placed, sha1_digits};
 
-/// A field, the section in which it stands, and how many packages have begun up to it.
+/// A field, the section that it is in, and how many packages have begun up to it.
 #[derive(Clone, Copy)]
 pub(crate) struct Placed<'a> {
     pub section: SectionKind,
@@ -92,7 +92,7 @@ pub(crate) fn differs(states: &[CodeState], field: &Placed) -> bool
     }
 }
 
-/// Whether the field is a code where `FilesAnalyzed` is false.
+/// Whether the field is a code although `FilesAnalyzed` is false.
 pub(crate) fn is_unwanted_code(document: &Document, field: &Placed) -> bool
     ensures { result ≡ is_unwanted_code (document_text document.now) (placed_text field.now) }
 {

@@ -6,14 +6,15 @@ ghost use Rattle.desk_findings.specs.Kinds.{finding_key, noted};
 use desk_model::{Finding, FindingKind};
 use std::alloc::AllocError;
 
-/// By what findings are sorted: the line, the kind, and the place among findings of the kind.
+/// The key by which findings are sorted: the line, the kind, and the place among findings of the
+/// kind.
 pub(crate) fn key(finding: &Finding) -> (u32, u8, u8)
     ensures { result ≡ finding_key finding.now }
 {
     (finding.line, finding.kind.number(), finding.kind.place())
 }
 
-/// Notes a finding where it holds.
+/// Notes a finding if it holds.
 pub(crate) fn note(
     found: &mut Vec<Finding>,
     holds: bool,

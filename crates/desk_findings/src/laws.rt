@@ -1,12 +1,12 @@
-//! Laws of what a document says of a bill of materials (SPDX 2.3), each the contract of a function
-//! with an empty body.
+//! Laws of what a document says about a bill of materials (SPDX 2.3), each the contract of a
+//! function with an empty body.
 //!
 //! The code of clause 7.9 is a relation of `desk_bom`: some order of the digests' texts is sorted,
-//! and the code is that of the texts so joined. `code_exists` says that digests have such a code.
-//! The state of a package's code is a relation too, of some list of the package's files:
-//! `state_exists` says that it has one. That there is no other is said by the laws of `desk_bom`.
-//! What a document ships is said by the least set of elements: `what_ships_is_one_list` says that
-//! there is one and no other.
+//! and the code is that of the texts joined in it. `code_exists` says that digests have such a
+//! code. The state of a package's code is also a relation, over some list of the package's files:
+//! `state_exists` says that it has one. The laws of `desk_bom` say that there is no other. What a
+//! document ships is defined by the least set of elements: `what_ships_is_one_list` says that there
+//! is exactly one.
 //!
 //! The sections of a document are one cutting, whichever definition cuts
 //! (`sections_are_one_cutting`).
@@ -30,8 +30,8 @@ pub fn state_exists()
     ensures { (d : DocumentText) (k : ℕ) → k < length d.packages → (s : CodeState) × IsState d k s }
 {}
 
-/// What a document ships is one list, and there is one: one mark for each package in the order of
-/// the document, and one list of ids in the order of ids.
+/// What a document ships is exactly one list: one mark for each package in the order of the
+/// document, and one list of ids in the order of ids.
 pub fn what_ships_is_one_list()
     ensures marks { (d : DocumentText) → (marks : List Bool) × AreShippingMarks d marks }
     ensures one_marks { (d : DocumentText) (a b : List Bool) → AreShippingMarks d a

@@ -1,14 +1,14 @@
-//! What in a document isn't as SPDX 2.3 has it, and yet is no fault: tags that aren't known,
-//! licence fields that hold no expression, codes that differ, relationships that lead nowhere, and
-//! the rest of `FindingKind`.
+//! What in a document isn't as SPDX 2.3 has it, but is no fault: unknown tags, licence fields
+//! without an expression, codes that differ, relationships that lead nowhere, and the rest of
+//! `FindingKind`.
 //!
-//! `findings_in` gives them all, by line and by kind, and `findings` the same where operators are
-//! in capitals. The definition `AreFindings` of `specs/Findings.antt` lists each kind in the
-//! standard's words; which values are licence expressions by a profile of operators is a reading
-//! (`IsReading`).
+//! `findings_in` returns them all, by line and by kind, and `findings` does so with operators in
+//! capitals. The definition `AreFindings` of `specs/Findings.antt` lists each kind in the
+//! standard's words; which values are licence expressions by a profile of operators is given by a
+//! reading (`IsReading`).
 //!
-//! `reading_laws` and `laws` say that what documents say is defined for each: all bytes have a
-//! reading, what ships is one list, and digests have a code.
+//! `reading_laws` and `laws` say that what documents say is defined for each of them: all bytes
+//! have a reading, what ships is one list, and digests have a code.
 #![tactic(auto)]
 
 mod document;

@@ -1,4 +1,4 @@
-//! Fields that a document should have and hasn't, and relationships that lead nowhere.
+//! Fields that a document should have but doesn't, and relationships that lead nowhere.
 
 ghost use Rattle.std.specs.Prelude.{◌≡◌, ◌++◌, OnOk, map, is_none, ◌||◌};
 ghost use Rattle.desk_findings.specs.Kinds.{noted};
@@ -64,7 +64,7 @@ fn is_absent(entries: &[Entry], tag: Tag) -> bool
     true
 }
 
-// Adds the finding of a field of the document, where no field has the tag.
+// Adds the finding about a field of the document, if no field has the tag.
 fn add_absent(
     found: &mut Vec<Finding>,
     entries: &[Entry],

@@ -148,7 +148,7 @@ same_package r p r' p' d d' e =
 same_key : (r p : List ℕ) (d : ℕ) → is_package_of r d p r d p ≡ true
 same_key r p d = rw (same_text r, same_number d, same_text p) refl
 
--- a row of one package is none of another
+-- a row of one package is not one of another
 ruled_out : (r p r' p' : List ℕ) (d d' : ℕ) (row : ChoiceRow) (b : Bool) → is_package_of r d p r' d' p' ≡ false → is_choice_of r d p row ≡ true → is_choice_of r' d' p' row ≡ b → b ≡ false
 ruled_out r p r' p' d d' row false e f g = refl
 ruled_out r p r' p' d d' row true e f g =

@@ -1,4 +1,4 @@
--- Conclusions and adoptions: the last one counts, and none is recorded for a package that a choice is held for.
+-- Conclusions and adoptions: the last one counts, and none is recorded for a package for which a choice is held.
 use Rattle.std.proofs.Common.{◌≡◌, ℕ, Bool, true, false, cond, List, [], ◌∷◌, Some, None, refl, ap, ◌∙◌, subst}
 use Rattle.std.specs.Prelude.{if◌then◌else◌, filter, find, not, ◌&&◌, ◌||◌, ◌==◌}
 use Rattle.std.specs.List.{list_any}
@@ -18,7 +18,7 @@ use Rattle.desk_base.proofs.Bools.{and_left, and_right, both}
 use Rattle.desk_base.proofs.Texts.{texts_equal, same_text}
 use Rattle.desk_base.proofs.Numbers.{numbers_equal, same_number}
 
--- A row instead of those at its key
+-- A row instead of those with its key
 
 found_put : {A : Type 0} (below : A → A → Bool) (test : A → Bool) (x : A) (xs : List A) → test x ≡ true → list_any test xs ≡ false → find test (put below x xs) ≡ Some x
 found_put below test x [] e none = rw e refl
@@ -54,7 +54,7 @@ none_left at (x ∷ xs) = step (none_left at xs) (at x) refl
     step rest true e = rest
     step rest false e = rw e rest
 
--- a test that rules the other one out finds what it found before
+-- a test that rules out the other one finds what it found before
 kept_by : {A : Type 0} (test at : A → Bool) → ((x : A) → test x ≡ true → at x ≡ false) → (xs : List A) → find test (filter (λ y. not (at y)) xs) ≡ find test xs
 kept_by test at apart [] = refl
 kept_by test at apart (x ∷ xs) = step (kept_by test at apart xs) (at x) (test x) refl refl
@@ -82,7 +82,7 @@ key_number d d' p p' e = numbers_equal d' d (and_left (d' == d) (bytes_eq p' p) 
 pub key_text : (d d' : ℕ) (p p' : List ℕ) → ((d' == d) && bytes_eq p' p) ≡ true → p' ≡ p
 key_text d d' p p' e = texts_equal p' p (and_right (d' == d) (bytes_eq p' p) e)
 
--- a row at one key is at no other
+-- a row with one key has no other
 other_key : (d d' n : ℕ) (p p' q : List ℕ) (b : Bool) → ((d' == d) && bytes_eq p' p) ≡ false → ((n == d) && bytes_eq q p) ≡ true → ((n == d') && bytes_eq q p') ≡ b → b ≡ false
 other_key d d' n p p' q false e f g = refl
 other_key d d' n p p' q true e f g =

@@ -1,4 +1,4 @@
--- Each duty is counted once among those that stand somewhere.
+-- Each duty is counted once, by its state.
 use Rattle.std.proofs.Common.{◌≡◌, ◌+◌, cond, List, [], ◌∷◌, length, refl, arith}
 use Rattle.std.specs.Prelude.{count_by}
 use Rattle.std.proofs.lemmas.List.Sums.{sum_by-cons}

@@ -1,4 +1,4 @@
--- Lists in which nothing stands twice.
+-- Lists in which nothing occurs twice.
 use Rattle.std.proofs.Common.{◌≡◌, Bool, true, false, cond, List, [], ◌∷◌, ◌++◌, map, sym, refl, ap, ◌∙◌, subst, inl, inr}
 use Rattle.std.specs.Prelude.{filter, if◌then◌else◌}
 use Rattle.std.specs.List.{flat_map}
@@ -35,7 +35,7 @@ distinct-filter {A} key test (x ∷ xs) a =
       | false ↦ distinct-filter key test xs a.1
     ]
 
--- lists of things whose keys tell from which list each comes
+-- lists of things whose keys show from which list each comes
 pub distinct-flat_map : {A B K L : Type 0} (f : A → List B) (key : B → K) (part : K → L) (of : A → L) (xs : List A) → ((x : A) (z : B) → IsIn z (f x) → part (key z) ≡ of x) → AreDistinct (map of xs) → ((x : A) → IsIn x xs → AreDistinct (map key (f x))) → AreDistinct (map key (flat_map f xs))
 distinct-flat_map f key part of [] tells a each = tt
 distinct-flat_map {A} {B} {K} {L} f key part of (x ∷ xs) tells a each =
@@ -48,7 +48,7 @@ distinct-flat_map {A} {B} {K} {L} f key part of (x ∷ xs) tells a each =
     a.0 (subst (λ l. IsIn l (map of xs)) same (in_map of at.0 xs at.1))) in
     subst AreDistinct (sym (map-append key (f x) (flat_map f xs))) (distinct-append (map key (f x)) (map key (flat_map f xs)) (each x (inl refl)) rest apart)
 
--- what stands in a list once something was put in its place
+-- what is in a list after something was put in its place
 pub from_put : {A : Type 0} (below : A → A → Bool) (z x : A) (xs : List A) → IsIn z (put below x xs) → IsIn z (x ∷ xs)
 from_put below z x [] m = m
 from_put below z x (y ∷ ys) m =

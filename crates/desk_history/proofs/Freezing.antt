@@ -105,7 +105,7 @@ pub unmoved : (w : Readings) (h : List Command) (q : ℕ) → length (raised w h
 unmoved w [] q lt = refl
 unmoved w (c ∷ h) q lt = rw (unmoved w h q (let le = raised_fewer w c h in omega arith), unmoved_by w h c q lt) refl
 
--- numbers from a list's end on
+-- the numbers of a second list continue those of the first
 pub numbered-append : {A : Type 0} (n : ℕ) (xs ys : List A) → enumerate_from n (xs ++ ys) ≡ enumerate_from n xs ++ enumerate_from (n + length xs) ys
 numbered-append n [] ys = rw (add-zero n) refl
 numbered-append n (x ∷ xs) ys = ap (λ zs. (n, x) ∷ zs) (numbered-append (n + 1) xs ys ∙ ap (λ k. enumerate_from (n + 1) xs ++ enumerate_from k ys) (omega arith))

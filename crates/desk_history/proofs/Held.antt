@@ -1,4 +1,4 @@
--- What is held for a package is a minimal set for its conclusion now, and what a release was frozen with was so at its freeze.
+-- What is held for a package is a minimal set for its conclusion now, and what a release was frozen with was one at its freeze.
 use Rattle.std.proofs.Common.{◌≡◌, ℕ, ◌+◌, Bool, true, false, List, [], ◌∷◌, ◌++◌, length, map, Option, Some, None, sym, refl, ap, ◌∙◌, subst, inl, inr}
 use Rattle.std.specs.Prelude.{find, is_some, IsTrue, if◌then◌else◌, unwrap_or}
 use Rattle.std.specs.List.{filter_map}
@@ -26,7 +26,7 @@ use Rattle.desk_model.specs.declared.row.PackageRow.{PackageRow}
 use Rattle.desk_model.specs.declared.command.Command.{Command}
 use Rattle.desk_model.specs.declared.command.Command.TheVariants.{Import, Choose, Unchoose, Freeze, Withdraw, Conclude}
 
--- what is found stays found when more comes behind it
+-- what is found is still found when more comes after it
 found_before : {A : Type 0} (test : A → Bool) (xs ys : List A) (x : A) → find test xs ≡ Some x → find test (xs ++ ys) ≡ Some x
 found_before test xs ys x e = find-append test xs ys ∙ ap (λ o. option_or o (find test ys)) e
 
@@ -77,7 +77,7 @@ held_step w h r p r' p' d d' texts terms true same recorded before e =
     inner x y e = cc
 held_step w h r p r' p' d d' texts terms false same recorded before e = held_later w (Choose r' d' p' texts) h d p terms refl (before e)
 
--- no choice any more
+-- no choice is left
 none_held : (terms : List (List ℕ)) → Some [] ≡ Some terms → terms ≡ []
 none_held [] e = refl
 none_held (t ∷ ts) e = cc
@@ -171,7 +171,7 @@ frozen_in w [] f m = absurd m
 frozen_in w (Freeze r day ∷ h) f m = elim (in_cases f (frozen_at w h r) (frozen w h) m) [ inl n ↦ frozen_by_freeze w h r day f n | inr l ↦ later_frozen w (Freeze r day) h f (frozen_in w h f l) ]
 frozen_in w (c ∷ h) f m = later_frozen w c h f (frozen_in w h f m)
 
--- the terms that a release was frozen with were held then, and so a minimal set
+-- the terms that a release was frozen with were held then, so they were a minimal set
 some_in : (x : List ℕ) (xs : List (List ℕ)) → IsIn x xs → xs ≡ [] → ⊥
 some_in x [] m e = m
 some_in x (y ∷ ys) m e = cc

@@ -26,7 +26,7 @@ use Rattle.desk_history.proofs.Opening.{is_some-map}
 use Rattle.desk_history.proofs.Rows.{list_any-in_order}
 use Rattle.desk_base.proofs.Texts.{text_tells}
 
--- What is held stands in the table of choices
+-- What is held is in the table of choices
 
 not_any : {A : Type 0} (test : A → Bool) (xs : List A) → list_any test xs ≡ false → filter test xs ≡ []
 not_any test [] e = refl
@@ -87,7 +87,7 @@ held_opened w (Withdraw r' day text ∷ h) r d p t ts ok e = step (λ f. held_op
     step rest false e = rest e
 held_opened w (c ∷ h) r d p t ts ok e = opened_stays c h r (held_opened w h r d p t ts ok.1 e)
 
--- So a first opened one holds it
+-- So there is one that was opened first
 
 among : (rows : List ChoiceRow) (h : List Command) (d : ℕ) (p r : List ℕ) (ns : List (List ℕ)) → list_any (λ n. bytes_eq n r) ns ≡ true → list_any (is_choice_of r d p) rows ≡ true → list_any (holds rows d p) (map (release_row h) ns) ≡ true
 among rows h d p r [] there held = cc
@@ -136,7 +136,7 @@ unheld w h d p text r t ts ok recorded e =
     let none = recorded_unheld (concluding w h d p text) recorded in
     cc
 
--- The conclusion in force stays, where a command doesn't conclude for the package
+-- The conclusion in force stays if a command doesn't conclude for the package
 
 inner : {A : Type 0} (a b : A) → Some a ≡ Some b → a ≡ b
 inner a b e = cc

@@ -1,4 +1,4 @@
--- Tables that stand as the reading lists them.
+-- Tables that are in the order in which the reading lists them.
 use Rattle.std.proofs.Common.{◌≡◌, ℕ, ◌+◌, ◌≤◌, List, [], ◌∷◌, length, map, refl, ap, arith, length-append, inl, inr}
 use Rattle.std.specs.Prelude.{Result, Ok, Err}
 use Rattle.std.specs.Result.{result_ok}

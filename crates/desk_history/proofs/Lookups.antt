@@ -24,7 +24,7 @@ use Rattle.desk_base.proofs.Texts.{text_tells}
 
 -- Releases
 
--- a name is among those opened where it has a form
+-- a name is among those opened if it has a form
 opened-form : (h : List Command) (r : List ℕ) → list_any (λ n. bytes_eq n r) (opened h) ≡ is_some (form_of h r)
 opened-form [] r = refl
 opened-form (OpenRelease n form ∷ h) r =
@@ -70,7 +70,7 @@ length-releases h = length-map (names h) (release_row h) ∙ length-in_order tex
 
 -- Rules
 
--- rules of later revisions are none of an earlier one
+-- rules of later revisions aren't rules of an earlier one
 none_of : (n m : ℕ) (rules : List Rule) → (n == m) ≡ false → filter (is_rule_of m) (map (rule_row n) rules) ≡ []
 none_of n m [] e = refl
 none_of n m (r ∷ rs) e = rw (e, none_of n m rs e) refl

@@ -30,7 +30,7 @@ record Chosen (w : Readings) (conclusion : PackageRow → Option Conclusion) (ro
   concludes : conclusion row ≡ Some concluded
   minimal : w.verdict concluded.profile concluded.text terms ≡ Minimal
 
--- terms on which nothing is refused
+-- terms for which nothing is refused
 chosen_by : (w : Readings) (conclusion : PackageRow → Option Conclusion) (terms : List (List ℕ)) (row_found : Option PackageRow) (o : Option Conclusion) → option_and_then conclusion row_found ≡ o → is_some row_found ≡ true
     → option_and_then (unconcluded o) row_found ≡ None → option_and_then not_enough (verdict_on w o terms) ≡ None → option_and_then (not_minimal terms) (verdict_on w o terms) ≡ None → Chosen w conclusion row_found terms
 chosen_by w conclusion terms None o is known concluded enough minimal = absurd (cc)

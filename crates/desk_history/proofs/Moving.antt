@@ -85,7 +85,7 @@ pub length-change_rows : (q : ℕ) (ms : List Move) → length (change_rows q ms
 length-change_rows q [] = refl
 length-change_rows q (m ∷ ms) = omega (arith, length-append (change_rows q ms) (change_row q (length ms + 1) m ∷ []), length-change_rows q ms)
 
--- they are those of no other duty
+-- they are not rows of any other duty
 filter-change_rows : (q n : ℕ) (ms : List Move) → filter (is_change_of q) (change_rows n ms) ≡ (if n == q then change_rows n ms else [])
 filter-change_rows q n [] = grind (arith, nat_tests)
 filter-change_rows q n (m ∷ ms) =
@@ -142,7 +142,7 @@ abbrev pub new_row : ℕ → List Move → Option Move → List ChangeRow
 new_row q ms None = []
 new_row q ms (Some m) = change_row q (length ms + 1) m ∷ []
 
--- the rows of the moves of some duties, moved before so
+-- the rows of the moves of some duties, after these earlier moves
 abbrev pub new_rows : (ℕ → List Move) → (ℕ → Option Move) → List (ℕ × Owed) → List ChangeRow
 new_rows before move ds = flat_map (λ d. new_row d.0 (before d.0) (move d.0)) ds
 
@@ -155,7 +155,7 @@ changes_of before ds = flat_map (λ d. change_rows d.0 (before d.0)) ds
 abbrev pub after : (ℕ → List Move) → (ℕ → Option Move) → ℕ → List Move
 after before move q = with_move (move q) (before q)
 
--- changes of later duties alone
+-- only changes of later duties
 abbrev beyond : ℕ → List ChangeRow → Bool
 beyond n rows = list_all (λ row. nat_lt n row.duty) rows
 

@@ -1,4 +1,4 @@
--- The number of a duty, by the freeze that raises it; and that it stays.
+-- The number of a duty, by the freeze that raises it; and that it stays the same.
 use Rattle.std.proofs.Common.{◌≡◌, ℕ, ◌+◌, List, [], ◌∷◌, ◌++◌, length, sym, refl, ap, subst, inl, inr}
 use Rattle.std.specs.List.{enumerate_from}
 use Rattle.desk_model.specs.Lists.{IsIn}
@@ -11,7 +11,7 @@ use Rattle.desk_model.specs.declared.row.Owed.{Owed}
 use Rattle.desk_model.specs.declared.command.Command.{Command}
 use Rattle.desk_model.specs.declared.command.Command.TheVariants.{Freeze}
 
--- a freeze numbers its duties on from those before it
+-- a freeze continues the numbers of the duties before it
 numbered-freeze : (w : Readings) (h : List Command) (r day : List ℕ) → numbered w (Freeze r day ∷ h) ≡ numbered w h ++ enumerate_from (1 + length (raised w h)) (owed_at w h r)
 numbered-freeze w h r day = numbered-append 1 (raised w h) (owed_at w h r)
 

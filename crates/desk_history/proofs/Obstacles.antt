@@ -1,4 +1,4 @@
--- What stands in the way of a freeze, from tables.
+-- What keeps a release from being frozen, from tables.
 use Rattle.std.proofs.Common.{◌≡◌, ◌∙◌, ℕ, List, [], length, ap}
 use Rattle.std.specs.Prelude.{Option, unwrap_or}
 use Rattle.desk_model.specs.Readings.{Readings}

@@ -1,4 +1,4 @@
--- What the opening of a release and an attachment leave.
+-- The tables after the opening of a release and after an attachment.
 use Rattle.std.proofs.Common.{◌≡◌, ℕ, ◌+◌, Bool, true, false, List, [], ◌∷◌, length, map, Option, Some, None, sym, refl, ap, ◌∙◌, inl, inr}
 use Rattle.std.specs.Prelude.{if◌then◌else◌, is_some, IsTrue, not}
 use Rattle.std.specs.List.{list_any}
@@ -27,7 +27,7 @@ pub record IsUntouched (h : List Command) (r : List ℕ) : Type 0 where
   pub state : latest (state_given r) h ≡ None
   pub revision : revision_of h r ≡ 0
 
--- a freeze is recorded only of a release that is open
+-- a freeze is recorded only for a release that is open
 pub frozen_open : (day : List ℕ) (found : Freezing) → IsTrue (is_recorded (freeze_answer day found)) → found.state ≡ Some IsOpen
 frozen_open day found e =
     let one = past (unless (is_day day) why.BadDay) _ e in
@@ -35,7 +35,7 @@ frozen_open day found e =
     let three = past (option_and_then unready found.state) _ two.1 in
     is_ready found.state (is_so (is_some found.state) why.UnknownRelease two.0) three.0
 
--- a withdrawal only of one that was opened
+-- a withdrawal only for one that was opened
 withdrawn_known : (day text : List ℕ) (found : Withdrawing) → IsTrue (is_recorded (withdraw_answer day text found)) → is_some found.state ≡ true
 withdrawn_known day text found e =
     let one = past (unless (is_day day) why.BadDay) _ e in
@@ -50,7 +50,7 @@ pub is_some-map : {A B : Type 0} (f : A → B) (o : Option A) → is_some (optio
 is_some-map f None = refl
 is_some-map f (Some x) = refl
 
--- so it is another one
+-- so it isn't this one
 another : (h : List Command) (r r' : List ℕ) → is_some (release_state h r') ≡ true → is_some (form_of h r) ≡ false → bytes_eq r' r ≡ false
 another h r r' there none =
     let known : is_some (form_of h r') ≡ true = sym (is_some-map (λ form. state_of h r') (form_of h r')) ∙ there in
@@ -76,7 +76,7 @@ pub not_so : (b : Bool) → not b ≡ true → b ≡ false
 not_so false e = refl
 not_so true e = cc
 
--- a release is opened only where its name is free
+-- a release is opened only if its name is free
 pub open_free : (name form : List ℕ) (found : Opening) → IsTrue (is_recorded (open_answer name form found)) → found.is_taken ≡ false
 open_free name form found e =
     let one = past (unless (is_release_name name) why.BadName) _ e in

@@ -12,7 +12,7 @@ pub ascends-in_order : {A : Type 0} (below : A → A → Bool) → IsOrder below
 ascends-in_order below o [] = refl
 ascends-in_order below o (x ∷ xs) = ascends-put below o x (in_order below xs) (ascends-in_order below o xs)
 
--- a row below all of some goes before them
+-- a row below all of these precedes them
 abbrev pub under : {A : Type 0} → (A → A → Bool) → A → List A → Bool
 under below x zs = list_all (below x) zs
 
@@ -30,7 +30,7 @@ under_over below o test x y (z ∷ zs) e all =
       | false ↦ rest
     ]
 
--- the row in its place, where it passes
+-- the row in its place, if it passes
 abbrev pub put_if : {A : Type 0} → (A → A → Bool) → Bool → A → List A → List A
 put_if below kept x ys = if kept then put below x ys else ys
 

@@ -49,7 +49,7 @@ Key = List ℕ × ℕ × List ℕ × List ℕ × List ℕ
 abbrev pub owed_key : Owed → Key
 owed_key d = (d.release, d.document, d.package_id, d.term, d.code)
 
--- Terms: those of a choice rise
+-- Terms: those of a choice are sorted
 
 not_below_itself : (x : List ℕ) → text_below x x ≡ false
 not_below_itself x = ap is_lt (tied_itself nat_list_cmp_total x)
@@ -148,7 +148,7 @@ belongs w (Import bytes profile ∷ h) p m =
     ]
 belongs w (c ∷ h) p m = belongs w h p m
 
--- a reading by which no document has two packages with one id
+-- a reading by which no document has two packages with the same id
 abbrev pub HasOwnIds : Readings → Type 0
 HasOwnIds w = (bytes : List ℕ) (document : Document) → w.document bytes ≡ Ok document → AreDistinct (map (λ p. p.id) document.packages)
 
@@ -271,7 +271,7 @@ raised_closed w (Freeze r day ∷ h) d m =
 raised_closed w (Withdraw r day text ∷ h) d m = closed_still (bytes_eq r d.release) Withdrawn (latest (state_given d.release) h) (λ e. cc) (raised_closed w h d m)
 raised_closed w (c ∷ h) d m = raised_closed w h d m
 
--- a freeze is recorded only of a release that is open
+-- a freeze is recorded only for a release that is open
 pub open_by : (s : ReleaseState) (form : Option (List ℕ)) → option_map (λ (form : List ℕ). s) form ≡ Some IsOpen → s ≡ IsOpen
 open_by s None e = cc
 open_by s (Some form) e = cc

@@ -42,7 +42,7 @@ in_all n l k le e = grind (arith, nat_tests)
 pub changes-found : (w : Readings) (h : List Command) (n : ℕ) → in_range 1 n (length (raised w h)) ≡ true → filter (is_change_of n) (all_changes w h) ≡ changes w h n
 changes-found w h n e = changes-numbered w h n 1 (raised w h) ∙ rw e refl
 
--- what is told of some duties, each with its changes
+-- the lines of some duties, each with its changes
 told_from : {A : Type 0} (tell : List ChangeRow → DutyRow → A) (p : DutyRow → Bool) (w : Readings) (h : List Command) (n : ℕ) (xs : List Owed) → 1 ≤ n → n + length xs ≡ 1 + length (raised w h)
     → map (λ row. tell (filter (is_change_of row.number) (all_changes w h)) row) (filter p (map (λ (d : ℕ × Owed). duty_row (place w h d.0) d) (enumerate_from n xs)))
     ≡ map (λ row. tell (changes w h row.number) row) (filter p (map (λ (d : ℕ × Owed). duty_row (place w h d.0) d) (enumerate_from n xs)))
@@ -66,7 +66,7 @@ lines-found w h r = told_from (λ rows row. duty_line (λ q. rows) row) (is_duty
 open-found : (w : Readings) (h : List Command) (row : ReleaseRow) → open_found (tables w h) row ≡ open_duties (changes w h) (duties w h) row
 open-found w h row = told_from (λ rows duty. open_duty (λ q. rows) duty) (is_open_of row.name) w h 1 (raised w h) (omega arith) refl
 
--- the changes of a duty are told just where it is known
+-- the changes of a duty are listed if and only if it is known
 is_mapped : {A B : Type 0} (f : A → B) (o : Option A) → is_some (option_map f o) ≡ is_some o
 is_mapped f None = refl
 is_mapped f (Some x) = refl

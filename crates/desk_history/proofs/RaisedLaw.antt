@@ -1,4 +1,4 @@
--- A duty is raised exactly where a freeze of its release raises it.
+-- A duty is raised if and only if a freeze of its release raises it.
 use Rattle.std.proofs.Common.{◌≡◌, ℕ, List, [], ◌∷◌, ◌++◌, map, Option, Some, None, sym, refl, ap, ◌∙◌, subst, inl, inr}
 use Rattle.std.specs.Prelude.{unwrap_or}
 use Rattle.desk_model.specs.Lists.{IsIn}

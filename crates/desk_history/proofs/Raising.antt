@@ -1,4 +1,4 @@
--- What a freeze raises rises by document, package, term and code.
+-- What a freeze raises is sorted by document, package, term and code.
 use Rattle.std.proofs.Common.{◌≡◌, ◌≢◌, ℕ, ◌+◌, Bool, true, false, cond, List, [], ◌∷◌, ◌++◌, length, Option, Some, None, sym, refl, ap, ◌∙◌, subst, arith}
 use Rattle.std.specs.Prelude.{filter, nat_lt, not, ◌||◌, ◌==◌, unwrap_or, Result, Ok, Err}
 use Rattle.std.specs.List.{enumerate_from, filter_map}
@@ -75,7 +75,7 @@ owed_is_order =
     order_of (then_total (on_total (λ owed. owed.document) nat_cmp_total) (then_total (on_total (λ owed. owed.package_id) nat_list_cmp_total)
     (then_total (on_total (λ owed. owed.term) nat_list_cmp_total) (on_total (λ owed. owed.code) nat_list_cmp_total))))
 
--- ---- codes, terms and packages rise
+-- ---- codes, terms and packages are sorted
 
 codes_of : (w : Readings) → ListsInOrder w → (text : List ℕ) (rule : Rule) (read : Result Catalogue CatalogueFault) → w.catalogue text ≡ read → IsIn rule (rules_in (result_ok read)) → Rises text_below rule.codes
 codes_of w lists text rule (Ok catalogue) e m = lists.codes text catalogue rule e m

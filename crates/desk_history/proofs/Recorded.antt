@@ -1,4 +1,4 @@
--- A recorded command stands behind none of its refusals.
+-- None of a recorded command's refusals applied.
 use Rattle.std.proofs.Common.{◌≡◌, Bool, true, false, Option, Some, None, refl}
 use Rattle.std.specs.Prelude.{IsTrue, is_some}
 use Rattle.std.specs.Option.{option_and_then}
@@ -8,7 +8,7 @@ use Rattle.desk_model.specs.declared.refusal.Refusal.{Refusal}
 use Rattle.desk_model.specs.declared.state.ReleaseState.{ReleaseState}
 use Rattle.desk_model.specs.declared.state.ReleaseState.TheVariants.{IsOpen, Frozen, Withdrawn}
 
--- the first of its refusals doesn't apply, and it is recorded behind the others
+-- the first of its refusals doesn't apply, and it is recorded after the others
 pub past : (o : Option Refusal) (a : Answer) → IsTrue (is_recorded (refused_or o a)) → (o ≡ None) × IsTrue (is_recorded a)
 past None a e = (refl, e)
 past (Some refusal) a e = absurd (cc)

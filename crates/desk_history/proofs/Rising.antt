@@ -1,4 +1,4 @@
--- Rows that rise: each goes before all that stand behind it.
+-- Sorted rows: each precedes all that come after it.
 use Rattle.std.proofs.Common.{◌≡◌, ◌≢◌, ℕ, ◌+◌, ◌<◌, ◌≤◌, Bool, true, false, cond, List, [], ◌∷◌, ◌++◌, length, map, sym, refl, ap, subst, arith, inl, inr}
 use Rattle.std.specs.Prelude.{filter, nat_lt}
 use Rattle.std.specs.List.{enumerate_from, flat_map}
@@ -17,7 +17,7 @@ use Rattle.desk_model.proofs.Orders.{IsOrder}
 pub smaller : (a b : ℕ) → a < b → nat_cmp a b ≡ Less
 smaller a b lt = let e : nat_lt a b ≡ true = grind (arith, nat_tests) in rw e refl
 
--- an order that tells of the first part of a key, or else of the rest
+-- an order by the first part of a key, or else by the rest
 pub first_less : (o p : Ordering) → o ≡ Less → is_lt (ordering_then o p) ≡ true
 first_less o p e = rw e refl
 
@@ -48,19 +48,19 @@ rises-filter below test (x ∷ xs) up =
       | false ↦ rises-filter below test xs up.1
     ]
 
--- rises by one order, of which each is in another
+-- sorted by one order, and so by another that contains it
 pub rises-by : {A : Type 0} (below under : A → A → Bool) (xs : List A) → ((x y : A) → IsIn x xs → IsIn y xs → below x y ≡ true → under x y ≡ true) → Rises below xs → Rises under xs
 rises-by below under [] same up = tt
 rises-by below under (x ∷ xs) same up = (λ y m. same x y (inl refl) (inr m) (up.0 y m), rises-by below under xs (λ y z m n. same y z (inr m) (inr n)) up.1)
 
--- lists of what stands in order, each of which rises
+-- lists of what is in order, each of which is sorted
 pub rises-flat_map : {A B : Type 0} (f : A → List B) (below : A → A → Bool) (under : B → B → Bool) (xs : List A) → Rises below xs → ((x : A) → IsIn x xs → Rises under (f x)) → ((x y : A) (u v : B) → below x y ≡ true → IsIn u (f x) → IsIn v (f y) → under u v ≡ true) → Rises under (flat_map f xs)
 rises-flat_map f below under [] up each apart = tt
 rises-flat_map f below under (x ∷ xs) up each apart =
     rises-append under (f x) (flat_map f xs) (each x (inl refl)) (rises-flat_map f below under xs up.1 (λ y m. each y (inr m)) apart)
     (λ u v m n. let at = from_flat_map f v xs n in apart x at.0 u v (up.0 at.0 at.1) m at.2)
 
--- rows in order, of which no two share a key
+-- rows in order, no two of which have the same key
 pub rises-apart : {A K : Type 0} (below under : A → A → Bool) (key : A → K) (xs : List A) → Ascends below xs → AreDistinct (map key xs) → ((x y : A) → IsIn x xs → IsIn y xs → below y x ≡ false → key x ≢ key y → under x y ≡ true) → Rises under xs
 rises-apart below under key [] up a each = tt
 rises-apart below under key (x ∷ xs) up a each = (
@@ -78,7 +78,7 @@ in_numbered {A} n (x ∷ xs) d m =
       | inr later ↦ (let at = in_numbered (n + 1) xs d later in (omega (arith, at.0), inr at.1))
     ]
 
--- of two that rise, the one with the smaller number goes before the other
+-- of two that are sorted, the one with the smaller number comes first
 pub smaller_first : {A : Type 0} (below : A → A → Bool) (n : ℕ) (xs : List A) (a b : ℕ × A) → Rises below xs → IsIn a (enumerate_from n xs) → IsIn b (enumerate_from n xs) → a.0 < b.0 → below a.1 b.1 ≡ true
 smaller_first below n [] a b up k l lt = absurd k
 smaller_first {A} below n (x ∷ xs) a b up k l lt =
@@ -98,7 +98,7 @@ none_before : {A : Type 0} (below : A → A → Bool) → IsOrder below → (x :
 none_before below o x [] all = refl
 none_before below o x (y ∷ ys) all = let no : below y x ≡ false = o.asym x y (all y (inl refl)) in rw no (none_before below o x ys (λ z m. all z (inr m)))
 
--- the number of one that rises, by those that go before it
+-- the number of one that is sorted, by those before it
 pub counted : {A : Type 0} (below : A → A → Bool) → IsOrder below → (n : ℕ) (xs : List A) (d : ℕ × A) → Rises below xs → IsIn d (enumerate_from n xs) → d.0 ≡ n + length (filter (λ y. below y d.1) xs)
 counted below o n [] d up m = absurd m
 counted {A} below o n (x ∷ xs) d up m =

@@ -109,7 +109,7 @@ put-past below x [] zs none = refl
 put-past below x (y ∷ ys) zs none =
     rw (or_left (below x y) (list_any (below x) ys) none, put-past below x ys zs (or_right (below x y) (list_any (below x) ys) none)) refl
 
--- some rows more
+-- some more rows
 pub in_order-append : {A : Type 0} (below : A → A → Bool) (xs ys : List A) → in_order below (xs ++ ys) ≡ put_all below xs (in_order below ys)
 in_order-append below [] ys = refl
 in_order-append below (x ∷ xs) ys = ap (put below x) (in_order-append below xs ys)

@@ -1,4 +1,4 @@
--- The tables stand in the order of their keys.
+-- The tables are sorted by their keys.
 use Rattle.std.proofs.Common.{◌≡◌, ℕ, ◌+◌, ◌≤◌, ◌<◌, Bool, true, false, List, [], ◌∷◌, ◌++◌, length, map, sym, refl, ap, ◌∙◌, subst, arith, length-append, inl, inr}
 use Rattle.std.specs.Prelude.{nat_lt, not, ◌==◌, ◌&&◌, ◌||◌}
 use Rattle.std.specs.List.{enumerate_from, flat_map, filter_map}
@@ -62,7 +62,7 @@ ascends_map f below under same (x ∷ xs) up = (
   ascends_map f below under same xs up.1,
 )
 
--- rows that were put behind others
+-- rows that were added at the end
 
 joined : {A : Type 0} (below : A → A → Bool) (xs ys : List A) → Ascends below xs → Ascends below ys → ((x y : A) → IsIn x xs → IsIn y ys → below y x ≡ false) → Ascends below (xs ++ ys)
 joined below [] ys up more after = more

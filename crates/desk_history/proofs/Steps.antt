@@ -132,7 +132,7 @@ noted_ok w h c false e ok = ok
 pub IsHistory-noted : (w : Readings) (h : List Command) (c : Command) → IsHistory w h → IsHistory w (noted w h c)
 IsHistory-noted w h c ok = noted_ok w h c (is_recorded (answer w h c)) refl ok
 
--- the same of the rows that a store keeps
+-- the same for the rows that a store keeps
 pub at_history : (w : Readings) (h : List Command) (c : Command) (t : Tables) → IsHistory w h → t ≡ tables w h → rows_noted w t c ≡ tables w (noted w h c)
 at_history w h c t ok e = ap (λ u. rows_noted w u c) e ∙ step-rows w h c ok
 

@@ -1,4 +1,4 @@
--- The last change of a duty tells where it stands.
+-- The last change of a duty gives its state.
 use Rattle.std.proofs.Common.{◌≡◌, ℕ, ◌+◌, Bool, true, false, List, [], ◌∷◌, ◌++◌, length, Option, Some, None, sym, refl, ap, ◌∙◌, subst, arith, length-append, add-one, inl, inr}
 use Rattle.std.specs.Prelude.{◌&&◌, nat_lt, nat_le}
 use Rattle.std.specs.List.{enumerate_from, last_or}
@@ -55,7 +55,7 @@ raised_moved w (Freeze r day ∷ h) q e =
     freeze_moves w h r day q (in_range 1 q (length (raised w h))) refl (ap (in_range 1 q) (sym (length-append (raised w h) (owed_at w h r))) ∙ e) (raised_moved w h q)
 raised_moved w (c ∷ h) q e = still_moved w h q c (raised_moved w h q e)
 
--- the numbers of some
+-- the numbers of a list's items
 first_in : (n q k : ℕ) → n ≡ q → in_range n q (k + 1) ≡ true
 first_in n q k e = grind (arith, nat_tests)
 

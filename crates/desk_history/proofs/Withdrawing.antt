@@ -1,4 +1,4 @@
--- What a withdrawal and the end of waivers leave.
+-- The tables after a withdrawal and after the end of waivers.
 use Rattle.std.proofs.Common.{◌≡◌, ℕ, ◌+◌, ◌≤◌, Bool, true, false, cond, List, [], ◌∷◌, ◌++◌, length, map, Option, Some, None, sym, refl, ap, ◌∙◌, arith, inl, inr}
 use Rattle.std.specs.Prelude.{find, filter, ◌&&◌, ◌==◌, not}
 use Rattle.std.specs.List.{enumerate_from, last_or}
@@ -58,7 +58,7 @@ filter_found : (f g : ℕ × Owed → Bool) (n : ℕ) (xs : List Owed) → ((d :
 filter_found f g n [] same = refl
 filter_found f g n (x ∷ xs) same = rw (same (n, x) (first_found n x xs), filter_found f g (n + 1) xs (λ d e. same d (later_found n x xs d e))) refl
 
--- and values on those that pass a test
+-- and values that agree on those that pass a test
 mapped_found : {B : Type 0} (f g : ℕ × Owed → B) (test : ℕ × Owed → Bool) (n : ℕ) (xs : List Owed) → ((d : ℕ × Owed) → Found n xs d → f d ≡ g d) → map f (filter test (enumerate_from n xs)) ≡ map g (filter test (enumerate_from n xs))
 mapped_found f g test n [] same = refl
 mapped_found f g test n (x ∷ xs) same =
@@ -77,7 +77,7 @@ filter-filter f g (x ∷ xs) =
       | false ↦ filter-filter f g xs
     ]
 
--- Where the duties of a history stand
+-- The states of a history's duties
 
 found_range : (w : Readings) (h : List Command) (d : ℕ × Owed) → Found 1 (raised w h) d → in_range 1 d.0 (length (raised w h)) ≡ true
 found_range w h d e = sym (known_at w h d.0) ∙ ap (λ (o : Option (ℕ × Owed)). elim o [ Some x ↦ true | None ↦ false ]) e
@@ -207,6 +207,6 @@ ended-duties w h day = duties_that w h (is_ended_by w h day) (ending day) _ (end
 pub ended-changes : (w : Readings) (h : List Command) (day : List ℕ) → all_changes w (CloseDay day ∷ h) ≡ put_all change_below (ended_rows day (ended_found (tables w h) day)) (all_changes w h)
 ended-changes w h day = changes_that w h (is_ended_by w h day) (ending day) _ (ended-rows w h day)
 
--- so many
+-- how many end
 pub ended-count : (w : Readings) (h : List Command) (day : List ℕ) → length (ended_found (tables w h) day) ≡ length (filter (λ (d : ℕ × Owed). has_ended day (place w h d.0) (end_after (moves w h d.0))) (numbered w h))
 ended-count w h day = ap length (ended-standings w h day) ∙ length-map (filter (λ (d : ℕ × Owed). is_ended_by w h day d.0) (numbered w h)) (stands w h)

@@ -105,11 +105,11 @@ release_state_found t duty = option_map_or (λ row. unwrap_or (state_found t row
 abbrev pub end_found : Tables → ℕ → Option (List ℕ)
 end_found t q = option_and_then (λ change. change.last_day) (last_or None (filter (is_change_of q) t.changes))
 
--- where a duty stands
+-- the state of a duty, and how many changes it has
 abbrev pub standing_found : Tables → DutyRow → Standing
 standing_found t row = record { number = row.number; state = row.state; steps = steps_found t row.number }
 
--- where the duties of a release stand
+-- the same for the duties of a release
 abbrev pub standings_found : Tables → List ℕ → List Standing
 standings_found t r = map (standing_found t) (filter (is_duty_of r) t.duty)
 
@@ -117,7 +117,7 @@ standings_found t r = map (standing_found t) (filter (is_duty_of r) t.duty)
 abbrev pub ends : Tables → List ℕ → DutyRow → Bool
 ends t day row = has_ended day row.state (end_found t row.number)
 
--- where the duties stand whose waivers end
+-- the same for the duties whose waivers end
 abbrev pub ended_found : Tables → List ℕ → List Standing
 ended_found t day = map (standing_found t) (filter (ends t day) t.duty)
 
@@ -131,7 +131,7 @@ owed_found w t r = owed_for w t.adoption (rules_found t) (form_found t r) r (cho
 abbrev pub frozen_found : Readings → Tables → List ℕ → List FrozenRow
 frozen_found w t r = frozen_for w t.adoption (rules_found t) (form_found t r) r (choice_found t r) (shipped_found t r)
 
--- a document stands
+-- a document was imported
 abbrev pub stands_document : Tables → ℕ → Bool
 stands_document t d = is_some (find (is_document d) t.document)
 
@@ -317,11 +317,11 @@ noted_by a c t = if is_recorded a then applied c t else t
 abbrev pub rows_noted : Readings → Tables → Command → Tables
 rows_noted w t c = noted_by (answer_from w t c) (change_for w t c) t
 
--- What a store tells of an import with a namespace: its number, and whether its bytes are these
+-- What a store reports about an import with a namespace: its number, and whether its bytes are these
 abbrev pub known_import : List ℕ → DocumentRow → ℕ × Bool
 known_import bytes row = (row.number, bytes_eq row.bytes bytes)
 
--- and of a document
+-- and about a document
 abbrev pub known_document : DocumentRow → ℕ × Profile
 known_document row = (row.number, row.profile)
 
@@ -333,7 +333,7 @@ line_found t row = duty_line (λ q. filter (is_change_of q) t.changes) row
 abbrev pub open_found : Tables → ReleaseRow → List OpenDuty
 open_found t row = open_duties (λ q. filter (is_change_of q) t.changes) t.duty row
 
--- what stands against a package that a release with this form ships
+-- the refusals for a package that a release with this form ships
 abbrev pub refusals_found : Readings → Tables → List ℕ → List ℕ → PackageRow → List Refusal
 refusals_found w t r form p = package_refusals w t.adoption (rules_found t) form (conclusion_found w t p) (choice_found t r p) p
 

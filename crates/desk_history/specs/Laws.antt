@@ -59,8 +59,8 @@ pub record IsHeldMinimal (w : Readings) (h : List Command) (d : ℕ) (p : List �
   pub set : terms ≡ sorted_set listed
   pub minimal : w.verdict concluded.profile concluded.text listed ≡ Minimal
 
--- A duty with its number: a freeze of a release stands in the history and raises it, and what a freeze raises is numbered on from all
--- that the freezes before it raised.
+-- A duty with its number: a freeze of a release is in the history and raises it, and the numbers of what a freeze raises continue after all that the freezes
+-- before it raised.
 pub record IsNumbered (w : Readings) (h : List Command) (d : ℕ × Owed) : Type 0 where
   pub later : List Command
   pub before : List Command
@@ -69,8 +69,8 @@ pub record IsNumbered (w : Readings) (h : List Command) (d : ℕ × Owed) : Type
   pub split : h ≡ later ++ Freeze release day ∷ before
   pub raises : IsIn d (enumerate_from (1 + length (raised w before)) (owed_at w before release))
 
--- A term that a release was frozen with: a freeze of the release stands in the history, and before it a document that ships the package
--- was attached, the term was held for it, and the catalogue then in force had a rule for the term's adopted form.
+-- A term that a release was frozen with: a freeze of the release is in the history, and before it a document that ships the package was attached, the term was
+-- held for it, and the catalogue then in force had a rule for the term's adopted form.
 pub record IsFrozenTerm (w : Readings) (h : List Command) (f : FrozenRow) : Type 0 where
   pub later : List Command
   pub before : List Command
@@ -85,7 +85,7 @@ pub record IsFrozenTerm (w : Readings) (h : List Command) (f : FrozenRow) : Type
   pub ruled : rule_adopted w (adoptions w before) (rules_in (in_force w before)) (unwrap_or (form_of before f.release) []) row.document f.term ≡ Some rule
   pub spelled : f.rule ≡ rule.spelled
 
--- no row stands behind one that it goes before
+-- no row comes after one that it should precede
 abbrev pub Ascends : {A : Type 0} → (A → A → Bool) → List A → Type 0
 Ascends below [] = Unit {0}
 Ascends below (x ∷ xs) = ((y : _) → IsIn y xs → below y x ≡ false) × Ascends below xs
@@ -99,8 +99,8 @@ document_below a b = nat_lt a.number b.number
 abbrev pub duty_below : DutyRow → DutyRow → Bool
 duty_below a b = nat_lt a.number b.number
 
--- revisions, documents and duties by number, conclusions by document and package, adoptions by document and reference, releases by name, attached documents by release and number, chosen and frozen terms by
--- release, document, package and term, changes by duty and step
+-- revisions, documents and duties by number, conclusions by document and package, adoptions by document and reference, releases by name, attached documents by
+-- release and number, chosen and frozen terms by release, document, package and term, changes by duty and step
 pub record AreSorted (t : Tables) : Type 0 where
   pub catalogue : Ascends revision_below t.catalogue
   pub document : Ascends document_below t.document
@@ -113,7 +113,7 @@ pub record AreSorted (t : Tables) : Type 0 where
   pub duty : Ascends duty_below t.duty
   pub changes : Ascends change_below t.changes
 
--- no two of some are the same
+-- no two of these are the same
 abbrev pub AreDistinct : {A : Type 0} → List A → Type 0
 AreDistinct [] = Unit {0}
 AreDistinct (x ∷ xs) = (¬ IsIn x xs) × AreDistinct xs
@@ -122,16 +122,16 @@ AreDistinct (x ∷ xs) = (¬ IsIn x xs) × AreDistinct xs
 abbrev pub key_of : DutyRow → List ℕ × ℕ × List ℕ × List ℕ × List ℕ
 key_of duty = (duty.release, duty.document, duty.package_id, duty.term, duty.code)
 
--- a reading that lists nothing twice: the packages of a document have different ids, the codes of a rule are different
+-- a reading that lists nothing twice: the packages of a document have different ids, and the codes of a rule are different
 pub record ListsOnce (w : Readings) : Type 0 where
   pub packages : (bytes : List ℕ) (document : Document) → w.document bytes ≡ Ok document → AreDistinct (map (λ p. p.id) document.packages)
   pub codes : (text : List ℕ) (catalogue : Catalogue) (rule : Rule) → w.catalogue text ≡ Ok catalogue → IsIn rule catalogue.rules → AreDistinct rule.codes
 
--- a duty stands where the last of its changes left it
+-- the state of a duty is the one in which the last of its changes left it
 abbrev pub IsToldBy : List ChangeRow → DutyRow → Type 0
 IsToldBy changes duty = option_map (λ change. state_after change.word) (last_or None (filter (is_change_of duty.number) changes)) ≡ Some duty.state
 
--- the last move of a duty is a waiver, whose last day is before this day
+-- the last move of a duty is a waiver whose last day is before this day
 pub record IsOver (w : Readings) (h : List Command) (day : List ℕ) (q : ℕ) : Type 0 where
   pub last : Move
   pub before : List Move
@@ -141,7 +141,7 @@ pub record IsOver (w : Readings) (h : List Command) (day : List ℕ) (q : ℕ) :
   pub until : last.last_day ≡ Some end
   pub over : is_before end day ≡ true
 
--- each row goes before all that stand behind it: some rows in order, of which no two share a place
+-- each row precedes all that come after it: rows in order, no two of which have the same place
 abbrev pub Rises : {A : Type 0} → (A → A → Bool) → List A → Type 0
 Rises below [] = Unit {0}
 Rises below (x ∷ xs) = ((y : _) → IsIn y xs → below x y ≡ true) × Rises below xs
@@ -153,7 +153,7 @@ package_below a b = text_below a.id b.id
 abbrev pub reference_below : Reference → Reference → Bool
 reference_below a b = text_below a.id b.id
 
--- a reading that lists in order, nothing twice: the rules of a catalogue, the codes of a rule, the packages and the references of a document
+-- a reading that lists in order, and nothing twice: the rules of a catalogue, the codes of a rule, the packages and the references of a document
 pub record ListsInOrder (w : Readings) : Type 0 where
   pub rules : (text : List ℕ) (catalogue : Catalogue) → w.catalogue text ≡ Ok catalogue → Rises (below_by rule_order) catalogue.rules
   pub codes : (text : List ℕ) (catalogue : Catalogue) (rule : Rule) → w.catalogue text ≡ Ok catalogue → IsIn rule catalogue.rules → Rises text_below rule.codes
@@ -168,7 +168,7 @@ rule_row_order =
 abbrev pub extracted_order : ExtractedRow → ExtractedRow → Ordering
 extracted_order = then_cmp (on (λ row. row.document) nat_cmp) (on (λ row. row.reference) (slice_cmp nat_cmp))
 
--- rules by revision, term and form, packages by document and id, extracted licences by document and reference, no two at one key
+-- rules by revision, term and form, packages by document and id, extracted licences by document and reference, no two with one key
 pub record AreSortedAsListed (t : Tables) : Type 0 where
   pub rule : Rises (below_by rule_row_order) t.rule
   pub packages : Rises (below_by package_order) t.packages
@@ -186,12 +186,12 @@ duty_order =
     then_cmp (on (λ duty. duty.document) nat_cmp) (then_cmp (on (λ duty. duty.package_id) (slice_cmp nat_cmp))
     (then_cmp (on (λ duty. duty.term) (slice_cmp nat_cmp)) (on (λ duty. duty.code) (slice_cmp nat_cmp))))
 
--- of two duties of one release the one with the smaller number is before the other
+-- of two duties of one release the one with the smaller number comes first
 abbrev pub AreNumberedInOrder : List DutyRow → Type 0
 AreNumberedInOrder duties = (a b : DutyRow) → IsIn a duties → IsIn b duties → a.release ≡ b.release → a.number < b.number → below_by duty_order a b ≡ true
 
--- A duty with its number: a freeze of its release stands in the history and raises it, and its number is one more than the duties of the
--- freezes before it and those of its own freeze that go before it.
+-- A duty with its number: a freeze of its release is in the history and raises it, and its number is one more than the number of duties that the freezes before
+-- it raised or that come before it in its own freeze.
 pub record IsCounted (w : Readings) (h : List Command) (d : ℕ × Owed) : Type 0 where
   pub later : List Command
   pub before : List Command

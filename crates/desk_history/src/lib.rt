@@ -1,6 +1,6 @@
 //! The laws of the recorded history, each as the contract of a function with an empty body: they
-//! say in the subject's own words what the definitions of `desk_model` come to. In `proofs/` stand
-//! the lemmas by which the desk's code, which sees rows alone, keeps the tables of a history.
+//! say in the subject's own words what the definitions of `desk_model` amount to. `proofs/` has the
+//! lemmas by which the desk's code, which sees only rows, keeps the tables of a history.
 #![tactic(auto)]
 
 ghost use Rattle.std.specs.Prelude.{◌≡◌, ◌⊎◌, true, false, ℕ, ◌+◌, ◌++◌, [], ◌∷◌, List, map, filter};
@@ -24,7 +24,7 @@ ghost use Rattle.desk_history.specs.Laws.{IsOver, AreNumberedInOrder, AreSortedA
 ghost use Rattle.desk_model.specs.declared.state.DutyState.TheVariants.{IsOpen, Met, Withdrawn};
 ghost use Rattle.desk_model.specs.declared.command.Command.TheVariants.{Choose, CloseDay, Withdraw};
 
-/// A duty is raised exactly where a freeze of its release stands in the history, and before it a
+/// A duty is raised if and only if a freeze of its release is in the history, and before it a
 /// document that ships the package was attached, the term was chosen for it, and the catalogue in
 /// force owed the code for the term's adopted form.
 pub fn raised_exactly()
@@ -34,9 +34,9 @@ pub fn raised_exactly()
         → IsRaised w h d }
 {}
 
-/// The duties with their numbers are those of the freezes of the history, each freeze's numbered
-/// on, from 1, from all that the freezes before it raised. A number that was given stands, whatever
-/// is recorded later.
+/// The duties with their numbers are those of the freezes of the history. Numbers begin at 1, and
+/// each freeze continues after all that the freezes before it raised. A number that was given
+/// stays, whatever is recorded later.
 pub fn duties_are_numbered_on()
     ensures held { (w : Readings) (h : List Command) (d : ℕ × Owed)
         → IsNumbered w h d → IsIn d (numbered w h) }
@@ -46,10 +46,11 @@ pub fn duties_are_numbered_on()
         → IsIn d (numbered w before) → IsIn d (numbered w (later ++ before)) }
 {}
 
-/// What a freeze raises rises by document, package, term and code, no two at one key, where the
+/// What a freeze raises is sorted by document, package, term and code, no two with one key, if the
 /// reading of texts lists packages and codes in order (`order`). So of two duties of one release
-/// the one with the smaller number is before the other (`numbers`), and a duty's number is one more
-/// than the duties of earlier freezes and those of its own freeze that come before it (`counts`).
+/// the one with the smaller number comes first (`numbers`), and a duty's number is one more than
+/// the number of duties that earlier freezes raised or that come before it in its own freeze
+/// (`counts`).
 pub fn freezes_raise_in_order()
     ensures order { (w : Readings) (h : List Command) (r : List ℕ)
         → ListsInOrder w → IsHistory w h → Rises (below_by owed_order) (owed_at w h r) }
@@ -67,8 +68,8 @@ pub fn choices_are_minimal()
 {}
 
 /// A choice that is held for a package is a minimal set of terms for the expression that is
-/// concluded for the package now, and not only was one when it was made. Nothing is held where
-/// nothing was chosen.
+/// concluded for the package now, not only for that of the time when it was made. Nothing is held
+/// if nothing was chosen.
 pub fn held_choices_are_minimal()
     ensures { (w : Readings) (h : List Command) (r : List ℕ) (d : ℕ) (p : List ℕ)
         → IsHistory w h → (choice w h r d p ≡ [] → ⊥) → IsHeldMinimal w h d p (choice w h r d p) }
@@ -85,14 +86,14 @@ pub fn frozen_terms_were_held()
         (choice w is.before f.release is.row.document is.row.id) }
 {}
 
-/// The choice that stands for a package is the last one.
+/// The choice in force for a package is the last one.
 pub fn last_choice_stands()
     ensures { (w : Readings) (h : List Command) (r : List ℕ) (d : ℕ) (p : List ℕ)
         → filter (is_choice_of r d p) (standing w h) ≡ map (choice_row r d p) (choice w h r d p) }
 {}
 
-/// What the office concluded last for a package is its conclusion, and what a reference of a
-/// document was adopted as last its licence.
+/// The last conclusion of the office for a package is its conclusion, and the last licence that a
+/// reference of a document was adopted as is its licence.
 pub fn last_conclusions_and_adoptions_stand()
     ensures conclusions { (h : List Command) (d : ℕ) (p : List ℕ)
         → office_text (conclusions h) d p ≡ latest (text_given d p) h }
@@ -100,23 +101,23 @@ pub fn last_conclusions_and_adoptions_stand()
         → licence_for (adoptions w h) d reference ≡ latest (licence_given w d reference) h }
 {}
 
-/// The duties of a release that are open, met, waived and withdrawn make all that it raised.
+/// The duties of a release that are open, met, waived and withdrawn add up to all that it raised.
 pub fn totals_add_up()
     ensures { (w : Readings) (h : List Command) (r : List ℕ) → let totals = totals_of (duties_of w h r) in
         totals.raised ≡ totals.still_open + totals.met + totals.waived + totals.withdrawn }
 {}
 
-/// No two duties of the table have the same key, where the reading of texts lists no package of a
-/// document and no code of a rule twice: a release is frozen once, a document attached once, and a
-/// choice is a set of terms.
+/// No two duties of the table have the same key, if the reading of texts lists no package of a
+/// document and no code of a rule twice: a release is frozen once, a document is attached once, and
+/// a choice is a set of terms.
 pub fn keys_are_distinct()
     ensures { (w : Readings) (h : List Command) → ListsOnce w → IsHistory w h → let t = tables w h in
         AreDistinct (map key_of t.duty) }
 {}
 
-/// A duty of the table stands where the last of its changes in the table left it: open after it was
-/// raised, reopened or its waiver ended, met after a Meet, waived after a Waive, withdrawn after a
-/// withdrawal.
+/// The state of a duty in the table is the one in which the last of its changes in the table left
+/// it: open after it was raised, reopened or its waiver ended, met after a Meet, waived after a
+/// Waive, withdrawn after a withdrawal.
 pub fn each_place_is_told()
     ensures { (w : Readings) (h : List Command) (duty : DutyRow) → let t = tables w h in
         IsIn duty t.duty → IsToldBy t.changes duty }
@@ -134,8 +135,8 @@ pub fn withdrawals_leave_met_duties()
         → choice w (Withdraw r day text ∷ h) r d p ≡ [] }
 {}
 
-/// A CloseDay moves a duty only where its last move is a waiver whose last day is before that day,
-/// and opens it there.
+/// A CloseDay moves a duty only if its last move is a waiver whose last day is before that day, and
+/// then opens it.
 pub fn waivers_end_after_their_last_day()
     ensures ends { (w : Readings) (h : List Command) (day : List ℕ) (q : ℕ)
         → IsOver w h day q → place w (CloseDay day ∷ h) q ≡ IsOpen }
@@ -143,18 +144,17 @@ pub fn waivers_end_after_their_last_day()
         → (moves w (CloseDay day ∷ h) q ≡ moves w h q) ⊎ IsOver w h day q }
 {}
 
-/// The tables of each list of commands, for each reading of texts, stand in the order of their
-/// keys: no row stands behind one that it goes before. The rules of a revision, and a document's
-/// packages and references, stand in the order in which texts list them
-/// (`listed_tables_are_sorted`).
+/// The tables of each list of commands, for each reading of texts, are sorted by their keys: no row
+/// comes after one that it should precede. The rules of a revision, and a document's packages and
+/// references, are in the order in which texts list them (`listed_tables_are_sorted`).
 pub fn tables_are_sorted()
     ensures { (w : Readings) (h : List Command) → AreSorted (tables w h) }
 {}
 
-/// The rules of all revisions stand by revision, term and form, the packages of all documents by
-/// document and id, and the extracted licences by document and reference, no two at one key, where
-/// the reading of texts lists each catalogue's rules and each document's packages and references
-/// so.
+/// The rules of all revisions are sorted by revision, term and form, the packages of all documents
+/// by document and id, and the extracted licences by document and reference, no two with one key,
+/// if the reading of texts lists each catalogue's rules and each document's packages and references
+/// in such an order.
 pub fn listed_tables_are_sorted()
     ensures { (w : Readings) (h : List Command) → ListsInOrder w → AreSortedAsListed (tables w h) }
 {}

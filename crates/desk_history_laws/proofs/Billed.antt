@@ -85,7 +85,7 @@ last_text (c ∷ h) = last_text h
 
 -- ---- the frozen terms of a package
 
--- rows that rise are in order
+-- sorted rows stay as they are when they are put in order
 put_first : {A : Type 0} (below : A → A → Bool) (x : A) (ys : List A) → ((y : A) → IsIn y ys → below x y ≡ true)
     → put below x ys ≡ x ∷ ys
 put_first below x [] all = refl
@@ -209,7 +209,7 @@ none_before w (Withdraw r' day text ∷ h) r d p e =
     none_before w h r d p (open_before (bytes_eq r' r) Withdrawn (latest (state_given r) h) (λ f. cc) e).1
 none_before w (c ∷ h) r d p e = none_before w h r d p e
 
--- at the freeze they are those of the terms that are chosen for it
+-- at the freeze they are those for the terms that are chosen for it
 terms_frozen : (w : Readings) (h : List Command) (r day : List ℕ) (p : PackageRow) → ListsPackagesOnce w → IsHistory w h
     → state_of h r ≡ IsOpen → IsIn p (shipped w h r)
     → terms_at w (Freeze r day ∷ h) r p ≡ rows_for w h r p (choice w h r p.document p.id)

@@ -56,9 +56,9 @@ use Rattle.desk_history_laws.proofs.FrozenRows.{still_closed}
 use Rattle.desk_history_laws.proofs.Members.{from_filter, from_filter_map, from_sorted}
 use Rattle.desk_history_laws.proofs.Releases.{attaches, from_shipped}
 
--- ---- rows behind others
+-- ---- rows after others
 
--- what is found, with none of its kind behind
+-- what is found, if none of its kind follows
 pub find_kept : {A : Type 0} (test : A → Bool) (xs ys : List A) → find test ys ≡ None → find test (xs ++ ys) ≡ find test xs
 find_kept test [] ys none = none
 find_kept test (x ∷ xs) ys none = ap (λ o. cond (test x) (Some x) o) (find_kept test xs ys none)
@@ -84,7 +84,7 @@ flat_map_within f g (x ∷ xs) same = rw (same x (inl refl), flat_map_within f g
 later_number : (n d : ℕ) → d ≤ n → (n + 1 == d) ≡ false
 later_number n d le = grind (arith, nat_tests)
 
--- ---- what a frozen release rests on was recorded
+-- ---- what a frozen release depends on was recorded
 
 -- a document that was imported
 found_last : {A : Type 0} (test : A → Bool) (xs : List A) (x : A) → is_some (find test (xs ++ x ∷ [])) ≡ true
@@ -350,7 +350,7 @@ named_by d e reference id o (Some x) (inr (inl same)) = cc
 named_by d e reference id o (Some x) (inr (inr m)) = absurd m
 named_by d e reference id o None (inr m) = absurd m
 
--- of a row of a package's frozen terms
+-- the document of a row of a package's frozen terms
 row_document : (r : List ℕ) (d : ℕ) (p : List ℕ) (row : FrozenRow) → is_frozen_of r d p row ≡ true → row.document ≡ d
 row_document r d p row e =
     let front = and_left (bytes_eq row.release r && (row.document == d)) (bytes_eq row.package_id p) e in
@@ -435,7 +435,7 @@ before_freeze : (b : Bool) (o : Option ReleaseState) → b ≡ false
 before_freeze true o other e = cc
 before_freeze false o other e = e
 
--- a release that is frozen and was frozen earlier was so all the time
+-- a release that is frozen, and wasn't open before the last command, was frozen then
 frozen_before : (w : Readings) (c : Command) (h : List Command) (r : List ℕ) → IsTrue (is_recorded (answer w h c))
     → state_of h r ≢ IsOpen → state_of (c ∷ h) r ≡ Frozen → state_of h r ≡ Frozen
 frozen_before w (Freeze r' day) h r recorded closed e =

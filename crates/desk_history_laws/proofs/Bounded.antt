@@ -47,7 +47,7 @@ use Rattle.desk_history_laws.proofs.Orders.{from_order}
 use Rattle.desk_history_laws.proofs.Releases.{from_shipped}
 use Rattle.desk_history_laws.proofs.Runs.{IsRun, runs}
 
--- the laws that stand below
+-- the laws on which these rest
 pub record Laws : Type 0 where
   pub from_set : FromSet
   pub chosen : ChosenRows
@@ -58,7 +58,7 @@ pub record Laws : Type 0 where
 
 -- ---- what releases were frozen with
 
--- a package that a release shipped before these commands is of a document that stands after them
+-- a package that a release shipped before these commands is of a document that exists after them
 shipped_within : (w : Readings) (h later before : List Command) (r day : List ℕ) (p : PackageRow) → h ≡ later ++ Freeze r day ∷ before → IsIn p (packages w before) → p.document ≤ length (documents w h)
 shipped_within w h later before r day p split m =
     let stood = packages_within w before p m in

@@ -1,4 +1,4 @@
--- Rows name what stands, and there is no more of it than may be.
+-- Rows name what exists, and there is no more of it than may be.
 use Rattle.std.proofs.Common.{◌≡◌, ℕ, ◌+◌, ◌≤◌, ◌<◌, Bool, true, false, List, [], ◌∷◌, ◌++◌, length, map, Option, Some, None, refl, ap, subst, arith, length-append, inl, inr}
 use Rattle.std.specs.Prelude.{IsTrue, is_some, Result, Ok, Err, find, nat_lt, not, ◌||◌, ◌==◌, if◌then◌else◌}
 use Rattle.std.specs.List.{list_any}
@@ -93,7 +93,7 @@ few_opened w (c ∷ h) ok = few_opened w h ok.1
 
 -- ---- what is loaded and imported
 
--- rows that were appended together with what they name
+-- rows that were added together with what they name
 behind : {A : Type 0} (number : A → ℕ) (n m : ℕ) (old new : List A) → n ≤ m → ((x : A) → IsIn x old → number x ≤ n) → ((x : A) → IsIn x new → number x ≤ m) → (x : A) → IsIn x (old ++ new) → number x ≤ m
 behind number n m old new le was is x m' = elim (in_cases x old new m') [ inl l ↦ omega (arith, was x l) | inr r ↦ is x r ]
 
@@ -128,7 +128,7 @@ documents_within w (Import bytes profile ∷ h) row m =
     (λ x here. elim here [ inl same ↦ omega (arith, next_document w h bytes profile, ap (λ (row : DocumentRow). row.number) same) | inr none ↦ absurd none ]) row m
 documents_within w (c ∷ h) row m = documents_within w h row m
 
--- the parts of one document more have its number
+-- the parts of one more document have its number
 parts_within : (w : Readings) (h : List Command) (bytes : List ℕ) (profile : Profile) {Row Part : Type 0} (number : Row → ℕ)
     (of : Part → Row) → ((x : Part) → number (of x) ≡ length (documents w h) + 1) → (old : List Row) (new : List Part)
     → ((row : Row) → IsIn row old → number row ≤ length (documents w h)) → (row : Row) → IsIn row (old ++ map of new)
@@ -237,7 +237,7 @@ some_has {A} test (x ∷ xs) e = go (test x) refl e (some_has test xs)
     go true is any later = (x, inl refl, is)
     go false is any later = let at = later any in (at.0, inr at.1, at.2)
 
--- a document that is attached stands
+-- a document that is attached exists
 pub attachment_within : (w : Readings) (h : List Command) → IsHistory w h → (r : List ℕ) (d : ℕ) → list_any (is_attachment r d) (attached h) ≡ true → d ≤ length (documents w h)
 attachment_within w h ok r d e =
     let at = some_has (is_attachment r d) (attached h) e in

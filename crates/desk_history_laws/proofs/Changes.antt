@@ -46,7 +46,7 @@ use Rattle.desk_history_laws.proofs.Runs.{ends_well, IsRun, runs, started}
 abbrev stored_moves : ℕ → List Move → List StoredChange
 stored_moves q ms = map change_stored (change_rows q ms)
 
--- one move more is one row more
+-- one more move is one more row
 stored_push : (q : ℕ) (m : Move) (ms : List Move) → stored_moves q (m ∷ ms) ≡ stored_moves q ms ++ change_stored (change_row q (length ms + 1) m) ∷ []
 stored_push q m ms = map-append change_stored (change_rows q ms) (change_row q (length ms + 1) m ∷ [])
 
@@ -173,7 +173,7 @@ go_on_push s row next [] e f = rw f refl
 go_on_push s row next (r ∷ rows) e f =
     both (goes_on s row r) (go_on s r (rows ++ next ∷ [])) (and_left (goes_on s row r) (go_on s r rows) e) (go_on_push s r next rows (and_right (goes_on s row r) (go_on s r rows) e) f)
 
--- rows that start with a raising and go on from each other
+-- rows that start with a raising and follow from each other
 abbrev AreGoing : Snapshot → List StoredChange → Type 0
 AreGoing s [] = ⊥
 AreGoing s (row ∷ rows) = (is_raising row ≡ true) × (go_on s row rows ≡ true)

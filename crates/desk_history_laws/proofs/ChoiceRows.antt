@@ -1,4 +1,4 @@
--- What the office decided and what is held meet their condition.
+-- What the office decided and what is held meets its condition.
 use Rattle.std.proofs.Common.{◌≡◌, ℕ, true, List, [], map, subst}
 use Rattle.desk_model.specs.Lists.{IsIn}
 use Rattle.desk_model.specs.Readings.{Readings}
@@ -17,7 +17,7 @@ use Rattle.desk_history_laws.proofs.Concluded.{expressions, licences, places}
 use Rattle.desk_history_laws.proofs.HeldRows.{choice_held, FromSet, held_for, SetsRise, Stands}
 use Rattle.desk_history_laws.proofs.Kept.{ChosenRows, FrozenHeld, HeldFrozen, kept_terms, RowsOfChosen, WereHeld}
 
--- the laws that stand below
+-- the laws on which these rest
 pub record Laws : Type 0 where
   pub stands : Stands
   pub from_set : FromSet

@@ -69,7 +69,7 @@ set_spells (x ∷ xs) (t ∷ ts) are =
     let put = put_spells x t (sorted_set xs) rest.0 are.0 rest.1 in
     (put.0, put.1, chained put.0 (t ∷ rest.0) (t ∷ ts) put.2 (with_first t rest.0 ts rest.2))
 
--- what is minimal is so of any list of the same terms
+-- what is minimal is also minimal as any other list of the same terms
 pub minimal_alike : (ts us : List Term) (e : Tree) → AreSame us ts → IsMinimal ts e → IsMinimal us e
 minimal_alike ts us e same minimal = (
   holds_more (Contains ts) (Contains us) (λ t at. (same t).1 at) e minimal.0,

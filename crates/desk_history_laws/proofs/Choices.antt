@@ -35,7 +35,7 @@ last-choice w (Withdraw r' day text ∷ h) r d p =
     ∙ ap (terms_left w) (sym (last-filter (decides r d p) (Withdraw r' day text) h))
 last-choice w (c ∷ h) r d p = last-choice w h r d p ∙ ap (terms_left w) (sym (last-filter (decides r d p) c h))
 
--- the rows of the choices that stand
+-- the rows of the choices in force
 
 abbrev pub Stands : Type 0
 Stands = (w : Readings) (h : List Command) (r : List ℕ) (d : ℕ) (p : List ℕ) → filter (is_choice_of r d p) (standing w h) ≡ map (choice_row r d p) (choice w h r d p)

@@ -1,4 +1,4 @@
--- The office's conclusions are expressions, its adoptions go from references to licences, and places are those of the opening.
+-- The office's conclusions are expressions, its adoptions go from references to licences, and places are those in the order of opening.
 use Rattle.std.proofs.Common.{◌≡◌, ℕ, ◌+◌, Bool, true, false, List, [], ◌∷◌, ◌++◌, length, map, Option, Some, None, refl, sym, ap, ◌∙◌, subst, add-one, arith, inl, inr}
 use Rattle.std.specs.Prelude.{ℤ, pos, IsTrue, is_some, not, filter, ◌&&◌, unwrap_or, IsPermutation}
 use Rattle.std.specs.List.{list_all, flat_map}
@@ -44,7 +44,7 @@ use Rattle.desk_history_laws.proofs.Parts.{ordered_parts}
 use Rattle.desk_history_laws.proofs.Recorded.{opened_form}
 use Rattle.desk_history_laws.proofs.Duties.{still_opened}
 
--- a row in place of what stood at its key, or one that stood before
+-- a row in place of what had its key, or one that was there before
 pub from_replaced : {A : Type 0} (below : A → A → Bool) (at : A → Bool) (x z : A) (xs : List A) → (P : A → Type 0) → P x → (IsIn z xs → P z) → IsIn z (replaced below at x xs) → P z
 from_replaced below at x z xs P new old m =
     elim (from_put below x z (filter (λ y. not (at y)) xs) m) [

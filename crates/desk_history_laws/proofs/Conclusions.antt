@@ -1,4 +1,4 @@
--- The rows of conclusions and adoptions are the last of each.
+-- The rows of conclusions and adoptions are the last ones of each.
 use Rattle.std.proofs.Common.{◌≡◌, ◌⊎◌, ℕ, Bool, true, false, List, [], ◌∷◌, Option, Some, None, sym, refl, ap, ◌∙◌, subst, inl, inr}
 use Rattle.std.specs.Prelude.{◌&&◌, ◌==◌, unwrap_or, if◌then◌else◌}
 use Rattle.std.specs.Str.{bytes_eq}
@@ -18,7 +18,7 @@ use Rattle.desk_history_laws.specs.Filters.{last_given}
 use Rattle.desk_history_laws.proofs.Given.{latest-last}
 use Rattle.desk_history_laws.proofs.Members.{in_replaced, from_replaced}
 
--- one key is another one exactly where that is the first
+-- one key is another one if and only if that is the first
 turned : (d d' : ℕ) (p p' : List ℕ) → ((d' == d) && bytes_eq p' p) ≡ true → ((d == d') && bytes_eq p p') ≡ true
 turned d d' p p' e =
     both (d == d') (bytes_eq p p')

@@ -51,7 +51,7 @@ digit_step n m x y dx dy =
       ]
     ]
 
--- digits of one length, behind what stands before them
+-- digits of the same length, after numbers that precede them
 digits : (n m : ℕ) (xs ys : List ℕ) → length xs ≡ length ys → list_all is_ascii_digit xs ≡ true → list_all is_ascii_digit ys ≡ true
     → ordering_then (nat_cmp n m) (slice_cmp nat_cmp xs ys) ≡ nat_cmp (number_from n xs) (number_from m ys)
 digits n m [] [] e dx dy = then_equal (nat_cmp n m)
@@ -62,7 +62,7 @@ digits n m (x ∷ xs) (y ∷ ys) e dx dy =
     ∙ (ap (λ o. ordering_then o (slice_cmp nat_cmp xs ys)) (digit_step n m x y (and_left (is_ascii_digit x) (list_all is_ascii_digit xs) dx) (and_left (is_ascii_digit y) (list_all is_ascii_digit ys) dy))
     ∙ digits (n * 10 + (x - 48)) (m * 10 + (y - 48)) xs ys (omega (arith, e)) (and_right (is_ascii_digit x) (list_all is_ascii_digit xs) dx) (and_right (is_ascii_digit y) (list_all is_ascii_digit ys) dy))
 
--- some truth values that hold together
+-- truth values that all hold
 four_hold : (a b c d e : Bool) → (a && (b && (c && (d && e)))) ≡ true → ((a && (b && (c && (d && true)))) ≡ true) × (e ≡ true)
 four_hold true true true true e is = (refl, is)
 four_hold true true true false e is = cc
@@ -123,7 +123,7 @@ ten day long is = absurd (omega (arith, long))
 written : (day : List ℕ) → is_day day ≡ true → IsWritten day
 written day is = ten day (numbers_equal (length day) 10 (and_left (length day == 10) _ is)) is
 
--- the same at equal lengths, piece by piece
+-- the same for equal lengths, piece by piece
 slice_cmp-append : (xs ys us vs : List ℕ) → length xs ≡ length ys → slice_cmp nat_cmp (xs ++ us) (ys ++ vs) ≡ ordering_then (slice_cmp nat_cmp xs ys) (slice_cmp nat_cmp us vs)
 slice_cmp-append [] [] us vs e = refl
 slice_cmp-append [] (y ∷ ys) us vs e = absurd (omega (arith, e))
@@ -132,7 +132,7 @@ slice_cmp-append (x ∷ xs) (y ∷ ys) us vs e =
     ap (ordering_then (nat_cmp x y)) (slice_cmp-append xs ys us vs (omega (arith, e)))
     ∙ sym (assoc (nat_cmp x y) (slice_cmp nat_cmp xs ys) (slice_cmp nat_cmp us vs))
 
--- digits of one length compare as their numbers
+-- digits of the same length compare as their numbers
 as_numbers : (xs ys : List ℕ) → length xs ≡ length ys → list_all is_ascii_digit xs ≡ true → list_all is_ascii_digit ys ≡ true → slice_cmp nat_cmp xs ys ≡ nat_cmp (number_from 0 xs) (number_from 0 ys)
 as_numbers xs ys e dx dy = digits 0 0 xs ys e dx dy
 

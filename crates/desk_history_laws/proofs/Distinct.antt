@@ -1,4 +1,4 @@
--- No two rows of a table have one key.
+-- No two rows of a table have the same key.
 use Rattle.std.proofs.Common.{◌≡◌, ℕ, ◌+◌, ◌≤◌, Bool, true, false, cond, List, [], ◌∷◌, length, map, Option, Some, None, sym, refl, ap, ◌∙◌, subst, arith, inl, inr}
 use Rattle.std.specs.Prelude.{IsTrue, is_some, filter, find, not, ◌||◌, nat_lt, if◌then◌else◌, Result, Ok, Err}
 use Rattle.std.specs.List.{list_any, enumerate_from}
@@ -57,7 +57,7 @@ use Rattle.desk_history_laws.proofs.Concluded.{has_form}
 
 -- ---- lists whose keys are distinct
 
--- rows that are told by their keys
+-- rows that their keys determine
 pub distinct_by : {A B : Type 0} (key : A → B) (xs : List A) → ((x y : A) → IsIn x xs → IsIn y xs → key x ≡ key y → x ≡ y) → AreDistinct xs → AreDistinct (map key xs)
 distinct_by key [] same a = tt
 distinct_by key (x ∷ xs) same a = (
@@ -91,7 +91,7 @@ distinct_kept key test (x ∷ xs) a =
       | false ↦ distinct_kept key test xs a.1
     ]
 
--- a row in place of those at its key
+-- a row in place of those with its key
 distinct_replaced : {A B : Type 0} (key : A → B) (below : A → A → Bool) (at : A → Bool) (x : A) (xs : List A) → ((y : A) → key y ≡ key x → at y ≡ true) → AreDistinct (map key xs)
     → AreDistinct (map key (replaced below at x xs))
 distinct_replaced key below at x xs tells a =
@@ -118,7 +118,7 @@ distinct_numbers key row same n (x ∷ xs) = (
   distinct_numbers key row same (n + 1) xs,
 )
 
--- ---- tables that rise by their keys
+-- ---- tables that are sorted by their keys
 
 pub distinct_rules : (rows : List RuleRow) → Rises (below_by rule_row_order) rows → AreDistinct (map rule_key rows)
 distinct_rules rows up = distinct_rises rule_key (below_by rule_row_order) rows never up
@@ -180,7 +180,7 @@ pub distinct_frozen_terms : (rows : List FrozenRow) → Rises (below_by frozen_o
 distinct_frozen_terms rows up =
     distinct_terms (λ (row : FrozenRow). row.release) (λ (row : FrozenRow). row.document) (λ (row : FrozenRow). row.package_id) (λ (row : FrozenRow). row.term) rows up
 
--- ---- conclusions and adoptions: the last one stands in place of those before it
+-- ---- conclusions and adoptions: the last one replaces those before it
 
 pub distinct_conclusions : (h : List Command) → AreDistinct (map conclusion_key (conclusions h))
 distinct_conclusions [] = tt
@@ -250,7 +250,7 @@ none_named name (row ∷ rows) none m = go (bytes_eq row.namespace name) refl no
     go false is e (inl same) later = let own : bytes_eq row.namespace name ≡ true = ap (λ t. bytes_eq t name) same ∙ same_text name in cc
     go false is e (inr n) later = later e n
 
--- an Import that is recorded is of no document that stands
+-- an Import that is recorded is of a new document
 pub is_new : (bytes : List ℕ) (found : Importing) (read : Result Document DocumentFault) → IsTrue (is_recorded (import_answer read bytes found))
     → find (has_namespace (namespace_in (result_ok read))) found.documents ≡ None
 is_new bytes found (Err fault) e = cc
@@ -314,7 +314,7 @@ place_within (n ∷ ns) r = go (bytes_eq n r) (place_within ns r)
     go true le = omega arith
     go false le = omega (arith, le)
 
--- two names that were opened at one place are one
+-- two names that were opened at the same place are equal
 one_place : (ns : List (List ℕ)) (r s : List ℕ) → IsIn r ns → IsIn s ns → place_in ns r ≡ place_in ns s → r ≡ s
 one_place [] r s a b e = absurd a
 one_place (n ∷ ns) r s a b e =

@@ -1,4 +1,4 @@
--- The duties: their numbers, their releases, and where they stand.
+-- The duties: their numbers, their releases, and their states.
 use Rattle.std.proofs.Common.{◌≡◌, ◌≢◌, ℕ, ◌+◌, ◌<◌, ◌≤◌, Bool, true, false, List, [], ◌∷◌, ◌++◌, length, map, Option, Some, None, refl, sym, ap, ◌∙◌, subst, arith, length-append, inl, inr}
 use Rattle.std.specs.Prelude.{pos, IsTrue, is_some, not, nat_lt, nat_le, ◌&&◌, ◌||◌, ◌==◌, ◌⊎◌, find, unwrap_or, if◌then◌else◌}
 use Rattle.std.specs.List.{list_all, list_any, enumerate_from}
@@ -158,9 +158,9 @@ are_numbered w h ok = record {
       subst (λ (row : StoredDuty). was_frozen (snapshot_of (tables w h)) row.release ≡ true) at.same (found_frozen w h at.duty.1.release was));
 }
 
--- ---- where duties stand by the state of their release
+-- ---- the states of duties, by the state of their release
 
--- a withdrawn release has no open or waived duty, any other one no withdrawn one
+-- a withdrawn release has no open or waived duty, any other one has no withdrawn one
 abbrev pub suits : ReleaseState → DutyState → Bool
 suits release.Withdrawn stands.IsOpen = false
 suits release.Withdrawn stands.Waived = false
@@ -168,7 +168,7 @@ suits release.Withdrawn state = true
 suits state stands.Withdrawn = false
 suits state other = true
 
--- a duty that is moved by a command, or not
+-- a duty that a command moves, or not
 moved_where : (P : DutyState → Type 0) (b : Bool) (m : Move) (ms : List Move) → (b ≡ false → P (place_after ms)) → (b ≡ true → P (state_after m.word)) → P (place_after (with_move (move_if b m) ms))
 moved_where P true m ms old new = new refl
 moved_where P false m ms old new = old refl
@@ -319,7 +319,7 @@ suited w (CloseDay day ∷ h) ok d m =
     suits_ended (state_of h d.1.release) p old (and_left (is_waived p) (option_map_or (λ last. is_before last day) end false) e))
 suited w (c ∷ h) ok d m = suited w h ok.1 d m
 
--- the same of the rows
+-- the same for the rows
 stands_by : (of : StoredRelease) (row : StoredDuty) (s : ReleaseState) (p : DutyState) → of.state ≡ release_state_name s → row.state ≡ duty_state_name p → suits s p ≡ true → stands_as of row ≡ true
 stands_by of row s p e f suit = rw (e, f) (by_names s p suit)
   where

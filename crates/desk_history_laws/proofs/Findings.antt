@@ -86,7 +86,7 @@ same_state d s t h j k = elim (cases_lt k (length d.packages)) [
 one_states : (d : DocumentText) (s t : ℕ → CodeState) → AreStates d s → AreStates d t → s ≡ t
 one_states d s t h j = λ i k. same_state d s t h j k i
 
--- ---- the order of findings tells all apart
+-- ---- the order of findings distinguishes them all
 
 abbrev missing_at : ℕ → MissingField
 missing_at place = get_or (fields.DataLicense ∷ fields.Creator ∷ fields.Created ∷ fields.DownloadLocation ∷ fields.Checksum ∷ fields.ExtractedText ∷ []) place fields.DataLicense

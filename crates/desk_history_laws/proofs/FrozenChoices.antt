@@ -198,7 +198,7 @@ ruled w h r day p term recorded ships chosen =
     none_first (map (unruled w licences rules form p) terms) (unruled w licences rules form p term) of_terms (in_map (unruled w licences rules form p) term terms chosen) in
     there (rule_adopted w licences rules form p.document term) (is_so (is_some (rule_adopted w licences rules form p.document term)) (why.NoRule p.document p.id term) of_term)
 
--- ---- nothing is chosen behind the freeze
+-- ---- nothing is chosen after the freeze
 
 pub record FrozenAt (w : Readings) (h : List Command) (r : List ℕ) : Type 0 where
   pub later : List Command
@@ -220,7 +220,7 @@ frozen_later w c h r stays at = record {
   same = λ d p. stays d p ∙ at.same d p;
 }
 
--- a release that is open is another one
+-- a release that is open isn't this one
 pub other_release : (h : List Command) (r r' : List ℕ) → state_of h r' ≡ IsOpen → state_of h r ≡ Frozen → bytes_eq r' r ≡ false
 other_release h r r' opened frozen =
     elim (text_tells r' r) [

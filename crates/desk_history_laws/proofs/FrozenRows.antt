@@ -67,7 +67,7 @@ pub closed_behind : (later before : List Command) (r day : List ℕ) → state_o
 closed_behind [] before r day = rw (same_text r) (λ e. cc)
 closed_behind (c ∷ later) before r day = still_closed c (later ++ Freeze r day ∷ before) r (closed_behind later before r day)
 
--- no other freeze of the release stands before it or behind it
+-- there is no other freeze of the release before or after it
 one_freeze : (w : Readings) (r day day' : List ℕ) (later before later' before' : List Command) → IsHistory w (later ++ Freeze r day ∷ before)
     → later ++ Freeze r day ∷ before ≡ later' ++ Freeze r day' ∷ before' → before ≡ before'
 one_freeze w r day day' [] before [] before' ok e = cc

@@ -8,7 +8,7 @@ use Rattle.desk_model.specs.Lists.{latest, or_else}
 use Rattle.desk_model.specs.declared.command.Command.{Command}
 use Rattle.desk_history_laws.specs.Filters.{given, last_given}
 
--- what the newest command gives stands last
+-- what the newest command gives comes last
 pub given-cons : {A : Type 0} (f : Command → Option A) (c : Command) (h : List Command) → given f (c ∷ h) ≡ given f h ++ cons_option (f c) []
 given-cons f c h = ap (filter_map f) (reverse-append (c ∷ []) h) ∙ filter_map-append f (reverse h) (c ∷ [])
 
@@ -56,7 +56,7 @@ last-filter test c h =
     ∙ (ap (last_or None) (filter-append test (reverse h) (c ∷ []))
     ∙ push_last c (filter test (reverse h)) (test c))
 
--- the last of a list the other way round
+-- the last of a reversed list
 pub last-reverse : {A : Type 0} (x : A) (xs : List A) → last_or None (reverse (x ∷ xs)) ≡ Some x
 last-reverse x xs = ap (last_or None) (reverse-append (x ∷ []) xs) ∙ last_or-push None (reverse xs) (Some x)
 

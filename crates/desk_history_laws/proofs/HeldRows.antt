@@ -1,4 +1,4 @@
--- What is held for a package: of which release, of what is attached and shipped, and for which conclusion.
+-- What is held for a package: in which release, of what is attached and shipped, and for which conclusion.
 use Rattle.std.proofs.Common.{◌≡◌, ℕ, ◌+◌, Bool, true, false, List, [], ◌∷◌, length, map, Option, Some, None, refl, sym, ap, ◌∙◌, subst, inl, inr}
 use Rattle.std.specs.Prelude.{pos, IsTrue, is_some, not, filter, find, ◌&&◌, ◌||◌, ◌==◌, unwrap_or, if◌then◌else◌}
 use Rattle.std.specs.List.{cons_option, filter_map, list_all, list_any}
@@ -54,7 +54,7 @@ use Rattle.desk_history_laws.proofs.Duties.{opened_release, still_opened}
 use Rattle.desk_history_laws.proofs.Orders.{map_rises, order_same}
 use Rattle.desk_history_laws.proofs.Recorded.{known_by}
 
--- ---- what a recorded Choose saw, and what stays of it
+-- ---- what a recorded Choose saw, and what remains of it
 
 pub record HeldFor (w : Readings) (h : List Command) (r : List ℕ) (d : ℕ) (p : List ℕ) (term : List ℕ) : Type 0 where
   pub opened : is_some (form_of h r) ≡ true
@@ -196,7 +196,7 @@ held_for from_set w (Withdraw r' day text ∷ h) r d p term ok m =
     held_more w (Withdraw r' day text) h r d p term kept.0 (held_for from_set w h r d p term ok.1 kept.1)
 held_for from_set w (c ∷ h) r d p term ok m = held_more w c h r d p term refl (held_for from_set w h r d p term ok.1 m)
 
--- the terms of a package rise
+-- the terms of a package are sorted
 
 abbrev pub SetsRise : Type 0
 SetsRise = (texts : List (List ℕ)) → Rises text_below (sorted_set texts)

@@ -93,7 +93,7 @@ references_stored n (Some d) = all d.references
     all [] = refl
     all (r ∷ rs) = ap (λ rows. stored_extracted (pos n) r ∷ rows) (all rs)
 
--- the parts of one document more
+-- the parts of one more document
 one_document : {Row Part Doc Stored : Type 0} (f : Row → Stored) (by : Part → List Stored) (of : Doc → Part) (old new : List Row)
     (rows : List Doc) (row : Doc) → map f old ≡ flat_map by (map of rows) → map f new ≡ by (of row)
     → map f (old ++ new) ≡ flat_map by (map of (rows ++ row ∷ []))

@@ -53,7 +53,7 @@ use Rattle.desk_history_laws.proofs.HeldRows.{choice_rises, SetsRise, Stands}
 abbrev choice_of : FrozenRow → ChoiceRow
 choice_of f = record { release = f.release; document = f.document; package_id = f.package_id; term = f.term }
 
--- ---- rows at one key
+-- ---- rows with the same key
 
 choice_total : IsTotalOrder choice_order
 choice_total =
@@ -75,7 +75,7 @@ same_row x y e =
 same_choice : (x y : ChoiceRow) → below_by choice_order x y ≡ false → below_by choice_order y x ≡ false → x ≡ y
 same_choice x y e f = same_row x y (ties choice_total x y e f)
 
--- ---- no choice stands twice
+-- ---- no choice is there twice
 
 own : (row : ChoiceRow) → key.is_choice_of row.release row.document row.package_id row ≡ true
 own row = rw (same_text row.release, same_number row.document, same_text row.package_id) refl
@@ -163,7 +163,7 @@ pub frozen_rises : SetsRise → WereHeld → (w : Readings) → ListsPackagesOnc
 frozen_rises sets held w once h ok =
     order_rises (below_by frozen_order) frozen_is_order choice_of (λ x y e f. same_choice (choice_of x) (choice_of y) e f) (frozen w h) (distinct_frozen sets held w once h ok)
 
--- ---- both lists are one
+-- ---- both lists are equal
 
 abbrev pub ChosenRows : Type 0
 ChosenRows = (w : Readings) (h : List Command) (row : ChoiceRow) → IsIn row (choices w h) → IsIn row.term (choice w h row.release row.document row.package_id)

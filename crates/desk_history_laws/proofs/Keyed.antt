@@ -1,4 +1,4 @@
--- The tables of a recorded history have keys of their own.
+-- No two rows of a recorded history's tables have the same key.
 use Rattle.std.proofs.Common.{◌≡◌, ℕ, List, map, sym, subst}
 use Rattle.std.specs.List.{enumerate_from}
 use Rattle.desk_model.specs.Answers.{IsHistory}
@@ -19,7 +19,7 @@ use Rattle.desk_history_laws.proofs.Distinct.{distinct_adoptions, distinct_attac
 use Rattle.desk_history_laws.proofs.HeldRows.{SetsRise, Stands}
 use Rattle.desk_history_laws.proofs.Kept.{choices_rise, frozen_rises, WereHeld}
 
--- the laws that stand below
+-- the laws on which these rest
 pub record Laws : Type 0 where
   pub listed : (w : Readings) (h : List Command) → ListsInOrder w → AreSortedAsListed (tables w h)
   pub owed : (w : Readings) (h : List Command) → ListsOnce w → IsHistory w h → let t = tables w h in AreDistinct (map key_of t.duty)

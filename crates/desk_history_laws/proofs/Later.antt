@@ -1,4 +1,4 @@
--- What a freeze saw of its release and of the rules stands in every later history.
+-- What a freeze saw of its release and of the rules is in every later history.
 use Rattle.std.proofs.Common.{◌≡◌, ◌≢◌, ℕ, ◌+◌, Bool, true, false, List, [], ◌∷◌, ◌++◌, length, map, Option, Some, None, refl, sym, ap, ◌∙◌, inl, inr}
 use Rattle.std.specs.Prelude.{is_some, if◌then◌else◌}
 use Rattle.std.specs.Result.{result_ok}
@@ -17,12 +17,12 @@ use Rattle.desk_history.proofs.OwnKeys.{open_at}
 use Rattle.desk_history_laws.proofs.Recorded.{opened_form}
 use Rattle.desk_history_laws.proofs.FrozenRows.{still_closed}
 
--- a history from its first commands on
+-- the first commands of a history are a history
 pub history_before : (w : Readings) (later h : List Command) → IsHistory w (later ++ h) → IsHistory w h
 history_before w [] h ok = ok
 history_before w (c ∷ later) h ok = history_before w later h ok.1
 
--- ---- a frozen release is frozen no more
+-- ---- a frozen release isn't frozen again
 
 pub closed_behind : (later h : List Command) (r day : List ℕ) → state_of (later ++ Freeze r day ∷ h) r ≢ IsOpen
 closed_behind [] h r day = rw (same_text r) (λ e. cc)

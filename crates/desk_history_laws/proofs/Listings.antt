@@ -1,5 +1,4 @@
--- The sets of terms that the expression of a value is true under: each value has one listing, one list of terms, and by each cost one
--- cheapest set or none.
+-- The sets of terms under which the expression of a value is true: each value has one listing, one list of terms, and by each cost one cheapest set or none.
 use Rattle.std.proofs.Common.{◌≡◌, ◌∙◌, ◌⊎◌, inl, inr, ℕ, List, [], map, Option, Some, None, sym, subst, ap, refl}
 use Rattle.std.specs.Prelude.{Result, Ok, Err}
 use Rattle.desk_base.specs.declared.profile.Profile.{Profile}

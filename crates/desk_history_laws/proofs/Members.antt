@@ -95,7 +95,7 @@ from_sorted below z [] m = m
 from_sorted below z (x ∷ xs) m =
     elim (from_put below x z (in_order below xs) m) [ inl same ↦ inl same | inr n ↦ inr (from_sorted below z xs n) ]
 
--- a row in place of what stands at its key
+-- a row in place of what has its key
 pub in_replaced : {A : Type 0} (below : A → A → Bool) (at : A → Bool) (x z : A) (ys : List A) → (x ≡ z) ⊎ ((at z ≡ false) × IsIn z ys) → IsIn z (replaced below at x ys)
 in_replaced below at x z ys m =
     in_put below x z (filter (λ y. not (at y)) ys)

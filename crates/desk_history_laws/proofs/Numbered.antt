@@ -1,11 +1,11 @@
--- Numbers from 1 on.
+-- Numbers from 1.
 use Rattle.std.proofs.Common.{◌≡◌, ℕ, ◌+◌, List, [], ◌∷◌, ◌++◌, length, map, ap, ◌∙◌, sym, arith, append-nil, append_assoc}
 use Rattle.std.specs.Prelude.{ℤ, pos}
 use Rattle.std.specs.List.{enumerate_from, flat_map}
 use Rattle.std.proofs.lemmas.List.{map-append, length-map}
 use Rattle.desk_snapshot.specs.Rows.{AreFrom}
 
--- one more number behind some
+-- one more number after some
 pub from_push : (n : ℕ) (ms : List ℤ) (m : ℕ) → AreFrom n ms → m ≡ n + length ms → AreFrom n (ms ++ pos m ∷ [])
 from_push n [] m from e = (ap pos (e ∙ omega arith), tt)
 from_push n (k ∷ ms) m from e = (from.0, from_push (n + 1) ms m from.1 (e ∙ omega arith))

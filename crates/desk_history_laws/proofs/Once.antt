@@ -37,7 +37,7 @@ use Rattle.desk_texts.proofs.Halving.{rises_put, map_map}
 use Rattle.desk_model.specs.Keys.{rule_order}
 use Rattle.desk_base.specs.Results.{then_read}
 
--- ---- texts that rise are different
+-- ---- sorted texts are different
 
 pub each_in : {A : Type 0} (P : A → Type 0) (x : A) (xs : List A) → IsIn x xs → Each P xs → P x
 each_in P x [] m each = absurd m
@@ -55,7 +55,7 @@ pub rises_sorted : {A : Type 0} (id : A → List ℕ) (xs : List A) → Rises (m
 rises_sorted id [] = tt
 rises_sorted id (x ∷ xs) = rises_put id x (sorted_by id xs) (rises_sorted id xs)
 
--- a set of texts is the texts sorted by themselves
+-- a set of texts is the texts, sorted
 
 put-same : (x : List ℕ) (xs : List (List ℕ)) → map (λ y. y) (put_by (λ y. y) x xs) ≡ put_new x (map (λ y. y) xs)
 put-same x [] = refl

@@ -27,7 +27,7 @@ use Rattle.desk_history_laws.proofs.Once.{each_in, rises_sorted, sorted-same, id
 use Rattle.desk_history_laws.proofs.Ships.{something_kept}
 use Rattle.desk_texts.proofs.Halving.{map_map}
 
--- what rises by its ids
+-- what is sorted by its ids
 by_ids : {A : Type 0} (id : A → List ℕ) (xs : List A) → Rises (map id xs) → law.Rises (λ a b. text_below (id a) (id b)) xs
 by_ids id [] up = tt
 by_ids id (x ∷ xs) up = (λ y m. each_in (λ t. text_below (id x) t ≡ true) (id y) (map id xs) (in_map id y xs m) up.0, by_ids id xs up.1)

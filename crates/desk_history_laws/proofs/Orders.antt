@@ -1,4 +1,4 @@
--- Rows put in order by distinct keys rise, and rising lists with the same members are one list.
+-- Rows put in order by distinct keys are sorted, and sorted lists with the same members are equal.
 use Rattle.std.proofs.Common.{◌≡◌, ℕ, Bool, true, false, cond, List, [], ◌∷◌, map, refl, sym, ap, ◌∙◌, subst, arith, inl, inr}
 use Rattle.std.specs.Prelude.{◌⊎◌, filter, if◌then◌else◌}
 use Rattle.std.specs.Ordering.{is_lt, is_eq, nat_cmp, ordering_reverse, ordering_then}
@@ -46,7 +46,7 @@ in_filter test x (y ∷ ys) e m =
     more zs true m = inr m
     more zs false m = m
 
--- ---- rising lists
+-- ---- sorted lists
 
 module _ {A : Type 0} (below : A → A → Bool) (o : IsOrder below) where
   over_rest : (x y : A) (ys : List A) → below x y ≡ true → Rises below (y ∷ ys) → (z : A) → IsIn z (y ∷ ys) → below x z ≡ true
@@ -116,7 +116,7 @@ map_rises f below under keeps (x ∷ xs) up = (
   map_rises f below under keeps xs up.1,
 )
 
--- what rises is in order
+-- what is sorted is in order
 pub order_same : {A : Type 0} (below : A → A → Bool) (xs : List A) → Rises below xs → in_order below xs ≡ xs
 order_same below [] up = refl
 order_same below (x ∷ xs) up = ap (put below x) (order_same below xs up.1) ∙ first xs up.0
@@ -150,7 +150,7 @@ texts_tie x y e = texts_equal x y (sym (is_eq-slice_cmp x y) ∙ ap is_eq e)
 pub numbers_tie : (x y : ℕ) → nat_cmp x y ≡ Equal → x ≡ y
 numbers_tie x y e = grind (arith, nat_tests)
 
--- ---- lists in which nothing stands twice
+-- ---- lists in which nothing occurs twice
 
 pub distinct_map : {A B : Type 0} (f : A → B) (xs : List A) → ((x y : A) → f x ≡ f y → x ≡ y) → AreDistinct xs → AreDistinct (map f xs)
 distinct_map f [] same a = tt
@@ -159,7 +159,7 @@ distinct_map f (x ∷ xs) same a = (
   distinct_map f xs same a.1,
 )
 
--- a list of which the items alike to each one are distinct
+-- a list in which the items that are like any one of them are distinct
 pub distinct_alike : {A : Type 0} (alike : A → A → Bool) → ((x : A) → alike x x ≡ true) → (xs : List A) → ((x : A) → AreDistinct (filter (alike x) xs)) → AreDistinct xs
 distinct_alike alike own [] each = tt
 distinct_alike alike own (x ∷ xs) each = (

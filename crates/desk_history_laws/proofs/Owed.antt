@@ -101,7 +101,7 @@ module _ (w : Readings) (reads : ReadsRules w) (later : List Command) (h : List 
       (chosen_in w h r p))
       (shipped w h r)
 
-  -- a release that was frozen so, and the rule of a frozen term
+  -- a release that was frozen by this, and the rule of a frozen term
   frozen_so : IsHistory w all → WasFrozen all r
   frozen_so ok =
       let old = history_before w later (Freeze r day ∷ h) ok in

@@ -1,4 +1,4 @@
--- What comes of some rows, in any order.
+-- What is made of some rows, in any order.
 use Rattle.std.proofs.Common.{◌≡◌, Bool, true, false, List, [], ◌∷◌, ◌++◌, sym, subst, append_assoc}
 use Rattle.std.specs.Prelude.{IsPermutation, if◌then◌else◌}
 use Rattle.std.specs.List.{flat_map}
@@ -11,7 +11,7 @@ from_same xs ys zs e p = subst (λ us. IsPermutation us zs) (sym e) p
 pub to_same : {A : Type 0} (xs ys zs : List A) → IsPermutation xs ys → ys ≡ zs → IsPermutation xs zs
 to_same xs ys zs p e = subst (λ us. IsPermutation xs us) e p
 
--- what comes of some rows comes of them in order
+-- what is made of some rows is made of them in order
 put_parts : {A B : Type 0} (below : A → A → Bool) (f : A → List B) (x : A) (ys : List A) → IsPermutation (flat_map f (put below x ys)) (f x ++ flat_map f ys)
 put_parts below f x [] = IsPermutation-refl (f x ++ [])
 put_parts below f x (y ∷ ys) =

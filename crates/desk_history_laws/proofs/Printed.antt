@@ -61,7 +61,7 @@ short_exception LicenceOrLater w t x e = absurd (cc)
 short_exception Reference w t x e = absurd (cc)
 short_exception Bad w t x e = absurd (cc)
 
--- ---- runs: a word is one, so a blank stands between two words
+-- ---- runs: a word is one, so there is a blank between two words
 
 record IsRun (text rest : List ℕ) : Type 0 where
   first : ℕ

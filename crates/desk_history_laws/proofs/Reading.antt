@@ -1,4 +1,4 @@
--- A reading that is right, from what decides whether a text is an expression, what terms are to one, and what reads all bytes.
+-- A right reading, from what decides whether a text is an expression, what the verdict on terms is, and what all bytes spell.
 use Rattle.std.proofs.Common.{◌≡◌, ◌∙◌, ◌⊎◌, inl, inr, ℕ, Bool, true, false, List, [], ◌∷◌, Option, Some, None, sym, subst, ap, refl}
 use Rattle.std.proofs.lemmas.Bool.{cases_Bool}
 use Rattle.std.specs.Prelude.{is_some, Result}
@@ -72,7 +72,7 @@ tells_once profile text (Some e) false is says = absurd (says e is)
 tells_once profile text None true is says = absurd (is says.0 says.1)
 tells_once profile text None false is says = refl
 
--- why a value is no expression: it spells a tree or stops, and never both
+-- why a value isn't an expression: it spells a tree or stops, and never both
 faulted_tree : (profile : Profile) (text : List ℕ) → (e : Tree) × SpellsWithinBy profile text e → (f : Option ExpressionFault) × IsFault profile text f
 faulted_tree profile text found = elim (cases_Bool (is_no_licence text)) [
   | inl none ↦ (Some (Unexpected (word_place text)), inr (found, none, refl))
@@ -131,7 +131,7 @@ module _
     pub judged : (profile : Profile) (text : List ℕ) (words : List (List ℕ)) → (v : Verdict) × Judges profile text words v
     judged profile text words = let e = expression_read profile text in let ts = terms_of words in judge profile text words e.0 ts.0 e.1 ts.1
 
-    -- the sets of terms that the expression of a text is true under, its terms, and the cheapest set
+    -- the sets of terms under which the expression of a text is true, its terms, and the cheapest set
     pub sets : (profile : Profile) (text : List ℕ) → (r : Result (List (List (List ℕ))) ListFault) × Lists profile text r
     sets profile text = let e = expression_read profile text in listing_of profile text e.0 e.1
 

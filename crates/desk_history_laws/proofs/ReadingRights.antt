@@ -1,4 +1,4 @@
--- What each right reading keeps.
+-- What each right reading satisfies.
 use Rattle.std.proofs.Common.{◌≡◌, ◌∙◌, ℕ, List, Option, Some, None, sym, subst, ap, refl, inl}
 use Rattle.std.specs.Prelude.{is_none, IsTrue, Result, Ok, Err}
 use Rattle.desk_base.specs.declared.profile.Profile.{Profile}

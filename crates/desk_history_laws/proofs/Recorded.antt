@@ -63,7 +63,7 @@ allows word day text until found e =
       room = less found.steps 999 (is_so (nat_lt found.steps most.changes) (why.Full limit.Changes) seven.0);
     }
 
--- OpenRelease: of a form of the catalogue in force, and of a name that isn't taken
+-- OpenRelease: in a form of the catalogue in force, and with a name that isn't taken
 pub opened_form : (w : Readings) (h : List Command) (r form : List ℕ) → IsTrue (is_recorded (answer w h (OpenRelease r form)))
     → (list_any (bytes_eq form) (opening w h r).forms ≡ true) × (is_some (form_of h r) ≡ false)
 opened_form w h r form e =

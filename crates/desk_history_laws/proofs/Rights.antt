@@ -1,4 +1,4 @@
--- Right readings: there is one, and all tell the same.
+-- Right readings: there is one, and all say the same.
 use Rattle.std.proofs.Common.{◌≡◌, ◌∙◌, ◌⊎◌, inl, inr, ℕ, List, [], ◌∷◌, Option, Some, None, sym, subst, ap, arith}
 use Rattle.std.specs.Prelude.{Contains, Result, is_none}
 use Rattle.desk_expr.specs.declared.term.Term.{Term}
@@ -60,7 +60,7 @@ none_is_minimal profile text (e, _ ∷ _, is, are, minimal) = elim are [ ]
 pub some_chosen : (w : Readings) → AreRight w → (profile : Profile) (text : List ℕ) → w.verdict profile text [] ≡ Minimal → ⊥
 some_chosen w right profile text is = none_is_minimal profile text (minimal_choice w right profile text [] is)
 
--- all right readings tell the same
+-- all right readings say the same
 
 pub same_terms_told : (v w : Readings) → AreRight v → AreRight w → (text : List ℕ) → v.term text ≡ w.term text
 same_terms_told v w a b text = same_term text (v.term text) (w.term text) (a.term text) (b.term text)
@@ -114,7 +114,7 @@ same_fault v w a b profile text =
     let found = faulted profile text in
     a.fault profile text found.0 found.1 ∙ sym (b.fault profile text found.0 found.1)
 
--- a value is an expression where it has no fault
+-- a value is an expression if it has no fault
 told_by_fault : (profile : Profile) (text : List ℕ) (f : Option ExpressionFault) → IsFault profile text f → Tells profile text (is_none f)
 told_by_fault profile text None is = is
 told_by_fault profile text (Some f) is = λ e expression. none e expression is

@@ -41,7 +41,7 @@ use Rattle.desk_history_laws.proofs.Duties.{opened_release}
 use Rattle.desk_history_laws.proofs.Later.{history_before, form_stays, revision_stays, rules_stay}
 use Rattle.desk_history_laws.proofs.Recorded.{freezes}
 
--- ---- rules in order, of which no two share a key
+-- ---- rules in order, no two of which have the same key
 
 pub one_of : {A : Type 0} (below : A → A → Bool) (xs : List A) (x y : A) → Rises below xs → IsIn x xs → IsIn y xs → below x y ≡ false → below y x ≡ false → x ≡ y
 one_of below [] x y up m n e f = absurd m
@@ -100,7 +100,7 @@ in_rows w h rule m =
     let same : row ≡ rule_row n rule = ap (λ (k : ℕ). rule_row k (rule_of row)) revision ∙ ap (rule_row n) at.2 in
     subst (λ (row : RuleRow). IsIn row (rule_rows w h)) same own.0
 
--- the rule that was adopted is one in force, of the form
+-- the rule for an adopted form is one in force, and of this form
 pub rule_form : (rules : List Rule) (form : List ℕ) (rule : Rule) (o : Option (List ℕ)) → option_and_then (λ t. history.rule_for rules t form) o ≡ Some rule → IsIn rule rules × (rule.form ≡ form)
 rule_form rules form rule None e = cc
 rule_form rules form rule (Some t) e =

@@ -1,4 +1,4 @@
--- The moves of a duty go on from each other, and each is such as may be written.
+-- Each move of a duty is allowed after those before it, and each is one that may be written.
 use Rattle.std.proofs.Common.{◌≡◌, ℕ, ◌+◌, ◌<◌, Bool, true, false, List, [], ◌∷◌, length, Option, Some, None, refl, sym, ap, ◌∙◌, subst, arith, inl, inr}
 use Rattle.std.specs.Prelude.{pos, IsTrue, not, nat_lt, nat_le, int_le, ◌&&◌, ◌==◌}
 use Rattle.std.specs.Option.{option_map, option_map_or, option_and_then}
@@ -36,7 +36,7 @@ use Rattle.desk_history_laws.proofs.Steps.{unmoved}
 use Rattle.desk_history.proofs.Recorded.{is_so}
 use Rattle.desk_history.proofs.Told.{is_moved, moved_more}
 
--- a move goes on from those before it
+-- a move is allowed after those before it
 abbrev pub GoesOn : List Move → Move → Type 0
 GoesOn [] m = m.word ≡ word.Raised
 GoesOn (n ∷ ms) m = may_move (state_after n.word) n.last_day m.day m.word ≡ true

@@ -1,4 +1,4 @@
--- What is in a sorted set of texts, and that it rises.
+-- What is in a sorted set of texts, and that it is sorted.
 use Rattle.std.proofs.Common.{◌≡◌, ℕ, Bool, true, false, List, [], ◌∷◌, sym, refl, ap, ◌∙◌, subst, inl, inr}
 use Rattle.std.specs.Prelude.{◌⊎◌, if◌then◌else◌}
 use Rattle.std.specs.Str.{bytes_eq}
@@ -45,7 +45,7 @@ pub from_set : (z : List ℕ) (texts : List (List ℕ)) → IsIn z (sorted_set t
 from_set z [] m = m
 from_set z (x ∷ xs) m = elim (from_put_new x z (sorted_set xs) m) [ inl same ↦ inl same | inr n ↦ inr (from_set z xs n) ]
 
--- ---- it rises
+-- ---- it is sorted
 
 text_order : IsOrder text_below
 text_order = order_of nat_list_cmp_total

@@ -1,4 +1,4 @@
--- What is kept of a document: what ships by the least set of elements that do, which each document has, and one.
+-- What is kept of a document: what ships by the least set of elements that do; each document has one such set.
 use Rattle.std.proofs.Common.{◌≡◌, ◌∙◌, sym, ap, refl}
 use Rattle.std.specs.Prelude.{Result, Ok, Err}
 use Rattle.desk_findings.proofs.Ships.{one_marks, some_marks}

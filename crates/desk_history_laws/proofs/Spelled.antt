@@ -25,7 +25,7 @@ use Rattle.desk_model.specs.declared.refusal.CataloguePart.TheVariants as part
 abbrev Spells : (List ℕ → Option (List ℕ)) → Rule → Type 0
 Spells terms rule = terms rule.spelled ≡ Some rule.term
 
--- a printed term that is no reference is the term
+-- a printed term that isn't a reference is the term
 licence_told : (b : Bool) (printed term : List ℕ) → (if b then None else Some printed) ≡ Some term → printed ≡ term
 licence_told true printed term e = cc
 licence_told false printed term e = cc

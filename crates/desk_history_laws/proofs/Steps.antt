@@ -1,4 +1,4 @@
--- A duty has few changes: so many at most, by where it stands.
+-- A duty has few changes: at most so many for each state.
 use Rattle.std.proofs.Common.{◌≡◌, ◌≢◌, ℕ, ◌+◌, ◌<◌, ◌≤◌, Bool, true, false, cond, List, [], ◌∷◌, ◌++◌, length, Option, Some, None, sym, refl, ap, ◌∙◌, subst, arith, length-append, add-one, inl, inr}
 use Rattle.std.specs.Prelude.{IsTrue, is_some, find, not, nat_lt, nat_le, ◌&&◌, ◌==◌, if◌then◌else◌, unwrap_or}
 use Rattle.std.specs.List.{enumerate_from}
@@ -131,7 +131,7 @@ withdrawn_over : (b : Bool) (o : Option ReleaseState) → unwrap_or o release.Is
 withdrawn_over true o e = refl
 withdrawn_over false o e = e
 
--- a withdrawn release is frozen no more
+-- a withdrawn release isn't frozen again
 state_stays : (w : Readings) (c : Command) (h : List Command) (r : List ℕ) → IsTrue (is_recorded (answer w h c))
     → state_of h r ≡ release.Withdrawn → state_of (c ∷ h) r ≡ release.Withdrawn
 state_stays w (Freeze r' day) h r recorded e =
@@ -202,7 +202,7 @@ not_twice w h r day text q ok recorded mine e =
     let named : is.0.1.release ≡ r = ap (λ (d : ℕ × Owed). d.1.release) same ∙ own.2 in
     standing w h r day text recorded (ap (state_of h) (sym named) ∙ is.2)
 
--- How many moves a duty has where it stands
+-- How many moves a duty has in each state
 
 abbrev Within : DutyState → ℕ → Type 0
 Within stands.IsOpen n = n ≤ 1000

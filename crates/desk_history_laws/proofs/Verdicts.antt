@@ -1,4 +1,4 @@
--- One verdict: what terms are to an expression is said in one way.
+-- There is only one verdict on terms for an expression.
 use Rattle.std.proofs.Common.{◌≡◌, ◌∙◌, inl, inr, ℕ, List, [], ◌∷◌, sym, subst, ap, refl}
 use Rattle.std.proofs.Math.Nat.{eq-or-lt_of_le}
 use Rattle.std.proofs.lemmas.Bool.{cases_lt}
@@ -55,7 +55,7 @@ module _ (e : Tree) (ts : List Term) where
   one_verdict (Superfluous i) NotEnough h k = absurd (k (enough_if_can_go i h.0))
   one_verdict (Superfluous i) (Superfluous j) h k = ap Superfluous (one_first i j h k)
 
--- a value and texts are judged in one way
+-- a value and texts are judged in only one way
 pub judged_once : (profile : Profile) (text : List ℕ) (words : List (List ℕ)) (a b : Verdict) → Judges profile text words a → Judges profile text words b → a ≡ b
 judged_once profile text words a b (inl (e, ts, is, are, v)) (inl (f, us, is', are', v')) =
     let tree : f ≡ e = one_tree profile text f e is' is in

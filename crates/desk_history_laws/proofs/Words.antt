@@ -1,4 +1,4 @@
--- Words that are joined by one blank are told apart.
+-- Words that are joined by one blank can be separated again.
 use Rattle.std.proofs.Common.{◌≡◌, ℕ, Bool, true, false, List, [], ◌∷◌, length, refl, ap, ◌∙◌, All, inl, inr}
 use Rattle.std.specs.Prelude.{◌==◌, filter, nat_lt}
 use Rattle.std.specs.List.{list_all, join_with_byte, slice_split, AllByRecursion}

@@ -1,4 +1,4 @@
--- What a release's bill lists, said of the commands before its freeze alone.
+-- What a release's bill lists, described by the commands before its freeze alone.
 use Rattle.std.specs.Prelude.{◌≡◌, ℕ, List, [], map, Ok, Option, unwrap_or}
 use Rattle.std.specs.List.{filter_map, flat_map}
 use Rattle.std.specs.Option.{option_map}
@@ -16,7 +16,7 @@ use Rattle.desk_model.specs.declared.command.Command.{Command}
 use Rattle.desk_history.specs.Laws.{AreDistinct}
 use Rattle.desk_history_laws.specs.Filters.{last_given}
 
--- a reading by which no document has two packages with one id
+-- a reading by which no document has two packages with the same id
 abbrev pub ListsPackagesOnce : Readings → Type 0
 ListsPackagesOnce w =
     (bytes : List ℕ) (document : Document) → w.document bytes ≡ Ok document → AreDistinct (map (λ p. p.id) document.packages)
@@ -27,7 +27,7 @@ spelled_for w h r p term =
     let form = unwrap_or (form_of h r) [] in
     option_map (λ rule. rule.spelled) (rule_adopted w (adoptions w h) (rules_in (in_force w h)) form p.document term)
 
--- a package with the rules of the terms that are chosen for it, in the order of terms
+-- a package with the rules for the terms that are chosen for it, in the order of terms
 abbrev pub line_for : Readings → List Command → List ℕ → PackageRow → BillLine
 line_for w h r p = record {
   name = p.name;
@@ -36,11 +36,11 @@ line_for w h r p = record {
   copyright = p.copyright;
 }
 
--- the texts that the terms name which are chosen for a package
+-- the texts named by the terms that are chosen for a package
 abbrev pub texts_for : Readings → List Command → List ℕ → PackageRow → List TextOf
 texts_for w h r p = flat_map (texts_named w p.document) (choice w h r p.document p.id)
 
--- the packages that a release ships and the texts of their terms, by the documents and the catalogue that was loaded last
+-- the packages that a release ships and the texts of their terms, from the documents and the catalogue that was loaded last
 abbrev pub bill_for : Readings → List Command → List ℕ → Bill
 bill_for w h r = record {
   release = r;

@@ -1,4 +1,4 @@
--- What a history says by filters and last entries, its commands taken in the order in which they were recorded.
+-- What a history says by filters and last entries, with its commands in the order in which they were recorded.
 use Rattle.std.specs.Prelude.{ℕ, Bool, false, List, [], map, filter, reverse, Option, Some, None}
 use Rattle.std.specs.List.{filter_map, last_or}
 use Rattle.std.specs.Result.{result_ok}
@@ -65,7 +65,7 @@ freezes r _ = false
 
 -- Choices
 
--- a command that says what is chosen for a package in a release: a Choose or an Unchoose of it, or a withdrawal of the release
+-- a command that decides what is chosen for a package in a release: a Choose or an Unchoose of it, or a withdrawal of the release
 abbrev pub decides : List ℕ → ℕ → List ℕ → Command → Bool
 decides r d p (Choose r' d' p' texts) = is_package_of r d p r' d' p'
 decides r d p (Unchoose r' d' p') = is_package_of r d p r' d' p'
@@ -76,7 +76,7 @@ decides r d p _ = false
 abbrev pub last_decision : List ℕ → ℕ → List ℕ → List Command → Option Command
 last_decision r d p h = last_or None (filter (decides r d p) (reverse h))
 
--- what it leaves: the terms of a Choose, and none else
+-- what it leaves: the terms of a Choose, or else none
 abbrev pub terms_left : Readings → Option Command → List (List ℕ)
 terms_left w (Some (Choose r d p texts)) = term_set w texts
 terms_left w _ = []

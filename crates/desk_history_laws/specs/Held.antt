@@ -1,4 +1,4 @@
--- What a release holds for a package, in the words of terms.
+-- What a release holds for a package, in terms of expressions.
 use Rattle.std.specs.Prelude.{◌≡◌, ℕ, List, find, Some}
 use Rattle.desk_expr.specs.declared.term.Term.{Term}
 use Rattle.desk_expr.specs.Meaning.{IsMinimal}

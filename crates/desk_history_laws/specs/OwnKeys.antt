@@ -1,4 +1,4 @@
--- What each row of a table is told by.
+-- The key of each row of a table.
 use Rattle.std.specs.Prelude.{ℕ, List, map}
 use Rattle.desk_model.specs.Tables.{Tables}
 use Rattle.desk_model.specs.declared.row.AdoptionRow.{AdoptionRow}
@@ -39,7 +39,7 @@ frozen_key row = (row.release, row.document, row.package_id, row.term)
 abbrev pub change_key : ChangeRow → ℕ × ℕ
 change_key row = (row.duty, row.step)
 
--- No two rows of a table have one key. A document has its namespace alone too, a release its place, and a duty what it is owed for.
+-- No two rows of a table have the same key. Besides, a document's namespace, a release's place, and what a duty is owed for are unique.
 pub record HaveOwnKeys (t : Tables) : Type 0 where
   pub revisions : AreDistinct (map (λ row. row.revision) t.catalogue)
   pub rules : AreDistinct (map rule_key t.rule)

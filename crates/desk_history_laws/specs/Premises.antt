@@ -1,4 +1,4 @@
--- What a reading of texts must keep for the duties of its histories to be what the frozen terms owe: each right reading does.
+-- What a reading of texts must satisfy so that the duties of its histories are what the frozen terms owe: each right reading does.
 use Rattle.std.specs.Prelude.{◌≡◌, ℕ, List, Some, Ok}
 use Rattle.desk_model.specs.Lists.{IsIn}
 use Rattle.desk_model.specs.Readings.{Readings}

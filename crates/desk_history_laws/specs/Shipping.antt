@@ -1,4 +1,4 @@
--- What a release ships, with no walk over documents.
+-- What a release ships, without going through its documents.
 use Rattle.std.specs.Prelude.{◌≡◌, ℕ, true, List}
 use Rattle.desk_model.specs.Lists.{IsIn}
 use Rattle.desk_model.specs.Readings.{Readings}

@@ -9,8 +9,8 @@ use Rattle.desk_model.specs.declared.row.FrozenRow.{FrozenRow}
 use Rattle.desk_model.specs.declared.command.Command.{Command}
 use Rattle.desk_history.specs.Laws.{IsNumbered}
 
--- A row of the duty table: a freeze raised this duty, and it has the row's number. The row names the duty's release, document, package,
--- term and code and the rule as it is spelled, and the place where the moves of the duty with this number left it.
+-- A row of the duty table: a freeze raised this duty, and it has the row's number. The row has the duty's release, document, package, term and code and the
+-- rule as it is spelled, and the state in which the moves of the duty with this number left it.
 pub record IsDutyRow (w : Readings) (h : List Command) (row : DutyRow) : Type 0 where
   pub duty : Owed
   pub raised : IsRaised w h duty

@@ -1,9 +1,9 @@
 //! The tables of every recorded history are sound: they meet all ten conditions of an audit
 //! (`desk_snapshot`). So an audit finds nothing in what a desk wrote, whatever was recorded, and
-//! what it finds was written by something else.
+//! anything that it finds was written by something else.
 //!
-//! The ten conditions are laws of `snapshots`. Two of them ask something of the reading
-//! of texts; here stands that each right reading keeps it.
+//! The ten conditions are laws of `snapshots`. Two of them require something of the reading of
+//! texts; the law here says that each right reading has it.
 
 ghost use Rattle.std.specs.Prelude.{List};
 ghost use Rattle.desk_model.specs.Answers.{IsHistory};
@@ -17,9 +17,9 @@ ghost use Rattle.desk_snapshot.specs.declared.fault.AuditFault.{AuditFault};
 ghost use Rattle.desk_history_laws.specs.Premises.{ReadsRules};
 ghost use Rattle.desk_history_laws.specs.ChoicePremises.{ReadsChoices};
 
-/// A right reading tells of catalogues, documents and expressions what an audit rests on: rules are
-/// listed in order and their terms are those that their spellings spell, a printed term spells
-/// itself, and a minimal list of terms is minimal as a set.
+/// What a right reading says about catalogues, documents and expressions is what an audit requires:
+/// rules are listed in order and their terms are those that their spellings spell, a printed term
+/// spells itself, and a minimal list of terms is minimal as a set.
 pub fn right_readings_tell_what_audits_ask()
     ensures rules { (w : Readings) → AreRight w → ReadsRules w }
     ensures choices { (w : Readings) → AreRight w → ReadsChoices w }
@@ -33,9 +33,9 @@ pub fn right_readings_tell_what_audits_ask()
 }
 
 /// The tables of every recorded history meet all ten conditions of an audit, by each right reading
-/// of texts. A condition that asked more than what the desk keeps, such as choices that are minimal
-/// for the conclusion of their day or rules that are found in the catalogue in force, would not be
-/// met.
+/// of texts. A condition that required more than what the desk keeps, such as choices that are
+/// minimal for the conclusion of their day or rules that are found in the catalogue in force, would
+/// not be met.
 pub fn histories_are_sound()
     ensures { (w : Readings) (h : List Command) → AreRight w → IsHistory w h
         → (f : AuditFault) → Meets w (snapshot_of (tables w h)) f }

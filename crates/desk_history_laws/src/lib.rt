@@ -1,29 +1,29 @@
-//! Laws of the recorded history, of what texts say and of what an audit asks, each the contract of a
-//! function with an empty body.
+//! Laws of the recorded history, of what texts say and of what an audit requires, each the contract
+//! of a function with an empty body.
 //!
-//! The definitions of `desk_model` go over the commands from the newest to the oldest. Here the
+//! The definitions of `desk_model` go through the commands from the newest to the oldest. Here the
 //! same is said by filters and last entries, with the commands in the order in which they were
 //! recorded: which documents, revisions and rules there are, which choices, conclusions and
-//! adoptions stand, and how each duty was moved. The rows of duties and of frozen terms are said
-//! both ways, each field named, a frozen release's choices are its frozen terms, and its bill stays
-//! as its freeze made it. Beside it stands that a set of texts has the texts that are listed, that
-//! a duty has few changes, and that written days sort as dates do.
+//! adoptions are in force, and how each duty was moved. The rows of duties and of frozen terms are
+//! described in both directions, with each field named; a frozen release's choices are its frozen
+//! terms, and its bill stays as its freeze made it. Other laws say that a set of texts has the
+//! texts that are listed, that a duty has few changes, and that written days sort as dates do.
 //!
 //! The desk's contracts hold for each reading of documents, catalogues, terms and expressions that
-//! is right (`AreRight` of `desk_texts`). They would say nothing if no reading were.
-//! `right_reading_exists` says that there is one, `one_right_reading` that all tell the same,
-//! `choices_are_minimal_sets` what a right reading's verdict means in the words of the expressions,
+//! is right (`AreRight` of `desk_texts`). They would say nothing if there were none.
+//! `right_reading_exists` says that there is one, `one_right_reading` that all say the same,
+//! `choices_are_minimal_sets` what a right reading's verdict means in terms of the expressions,
 //! `held_terms_are_minimal_sets` that what is held for a package is such a minimal set,
-//! `readings_speak_of_terms` what it tells of printed terms, `right_readings_list_ids` that codes
+//! `readings_speak_of_terms` what it says about printed terms, `right_readings_list_ids` that codes
 //! are ids, `choices_have_terms` that an empty choice is never minimal, `expressions_have_no_fault`
-//! that a text is an expression exactly where no fault of it is told, `right_readings_list_once`
-//! that it lists nothing twice, `right_readings_list_in_order` that it lists in order,
+//! that a text is an expression if and only if it has no fault, `right_readings_list_once` that
+//! nothing is listed twice, `right_readings_list_in_order` that everything is listed in order,
 //! `listings_are_all_minimal_sets` that its alternatives are all minimal sets and
-//! `cheapest_sets_are_least` that none costs less than its cheapest.
+//! `cheapest_sets_are_least` that no set costs less than its cheapest.
 //!
 //! The reading is put together from what decides each part: each text spells a term or none
-//! (`desk_catalogue`), a tree or none, each choice has a verdict, and each tree one listing and one
-//! cheapest set or none (`desk_alts::laws`); all bytes spell a document or have a fault
+//! (`desk_catalogue`), a tree or none; each choice has a verdict, and each tree has one listing and
+//! one cheapest set or none (`desk_alts::laws`); all bytes spell a document or have a fault
 //! (`desk_findings::reading_laws`).
 //!
 //! The tables of each history meet the ten conditions of an audit (`snapshots`, `audits`).
@@ -84,7 +84,7 @@ pub use readings::{
 };
 
 /// The revisions of the catalogue are the texts that were loaded, in order and numbered from 1, and
-/// the rules of all revisions those of each. The catalogue in force is that of the last text
+/// the rules of all revisions are those of each. The catalogue in force is that of the last text
 /// loaded: in a recorded history there is one as soon as a text was loaded, and its rules are those
 /// of the last revision.
 pub fn catalogues_are_the_loads()
@@ -102,7 +102,7 @@ pub fn catalogues_are_the_loads()
 {}
 
 /// The documents are those that were imported, in order and numbered from 1, and the packages and
-/// references of all documents those of each.
+/// references of all documents are those of each.
 pub fn documents_are_the_imports()
     ensures documents { (w : Readings) (h : List Command)
         → documents w h ≡ map (document_row w) (enumerate_from 1 (given imported h)) }
@@ -112,9 +112,9 @@ pub fn documents_are_the_imports()
         → references w h ≡ flat_map (references_of w) (documents w h) }
 {}
 
-/// A release has the form of its opening, and the state that the last Freeze or Withdraw of it
-/// gave, open before. Its place is one more than the releases opened before it, and its revision
-/// the number of catalogues loaded before its freeze, 0 where it wasn't frozen.
+/// A release has the form of its opening, and the state that the last Freeze or Withdraw of it gave
+/// it, or open before these. Its place is one more than the number of releases opened before it,
+/// and its revision is the number of catalogues loaded before its freeze, or 0 if it wasn't frozen.
 pub fn releases_are_the_last_entries()
     ensures form { (h : List Command) (r : List ℕ) → form_of h r ≡ last_given (form_given r) h }
     ensures state { (h : List Command) (r : List ℕ)
@@ -129,7 +129,7 @@ pub fn releases_are_the_last_entries()
         → list_any (freezes r) h ≡ false → revision_of h r ≡ 0 }
 {}
 
-/// A release ships a package exactly where the package's document was attached to it and ships the
+/// A release ships a package if and only if the package's document was attached to it and ships the
 /// package.
 pub fn shipped_exactly()
     ensures held { (w : Readings) (h : List Command) (r : List ℕ) (p : PackageRow)
@@ -138,9 +138,9 @@ pub fn shipped_exactly()
         → IsIn p (shipped w h r) → IsShipped w h r p }
 {}
 
-/// What is chosen for a package in a release is what the last command left that decides it, a
-/// Choose or an Unchoose of the package or a withdrawal of the release: the terms of a Choose, and
-/// none else. The rows of the choices are these terms and no others.
+/// What is chosen for a package in a release is what was left by the last command that decides it,
+/// a Choose or an Unchoose of the package or a withdrawal of the release: the terms of a Choose,
+/// and none after the others. The rows of the choices are these terms and no others.
 pub fn choices_are_the_last_decisions()
     ensures last { (w : Readings) (h : List Command) (r : List ℕ) (d : ℕ) (p : List ℕ)
         → choice w h r d p ≡ terms_left w (last_decision r d p h) }
@@ -175,8 +175,8 @@ pub fn adoptions_are_the_last()
 {}
 
 /// The moves of a duty, the first one first, are what the commands of the history give by the table
-/// of moves, each looked at after those before it. The duty's changes are these with their steps
-/// from 1, and it stands where the last of them left it.
+/// of moves, each of them considered after those before it. The duty's changes are these moves with
+/// their steps from 1, and its state is the one in which the last of them left it.
 pub fn moves_are_a_filter()
     ensures moves { (w : Readings) (h : List Command) (q : ℕ)
         → reverse (moves w h q) ≡ moves_given w h q }
@@ -186,7 +186,7 @@ pub fn moves_are_a_filter()
         → place w h q ≡ left_by (last_or None (moves_given w h q)) }
 {}
 
-/// A duty was moved exactly where a command stands in the history that moves it so after the
+/// A duty has a move if and only if the history has a command that moves it in this way after the
 /// commands before it.
 pub fn moved_exactly()
     ensures held { (w : Readings) (h : List Command) (q : ℕ) (m : Move)
@@ -196,14 +196,14 @@ pub fn moved_exactly()
 {}
 
 /// A duty of a recorded history has at most 1,001 changes: Meet, Waive and Reopen are refused from
-/// 999 on, a waiver that ends may be the 1,000th, and a withdrawal the last one.
+/// 999 on, the end of a waiver may be the 1,000th, and a withdrawal is the last one.
 pub fn changes_are_few()
     ensures { (w : Readings) (h : List Command)
         → IsHistory w h → (q : ℕ) → length (changes w h q) ≤ 1001 }
 {}
 
 /// Written days compare as dates: by year, then by month, then by day, each as a number. So one day
-/// is before another exactly where its date is.
+/// is before another if and only if its date is.
 pub fn days_compare_as_dates()
     ensures order { (a b : List ℕ)
         → IsTrue (is_day a) → IsTrue (is_day b) → slice_cmp nat_cmp a b ≡ date_order a b }
@@ -211,8 +211,8 @@ pub fn days_compare_as_dates()
         → IsTrue (is_day a) → IsTrue (is_day b) → is_before a b ≡ below_by date_order a b }
 {}
 
-/// A text is in the set of some texts exactly where it is one of them, and the set rises: no text
-/// stands in it twice.
+/// A text is in the set of some texts if and only if it is one of them, and the set is sorted: no
+/// text is in it twice.
 pub fn sets_keep_their_members()
     ensures held { (text : List ℕ) (texts : List (List ℕ)) → IsIn text texts
         → IsIn text (sorted_set texts) }
@@ -221,9 +221,9 @@ pub fn sets_keep_their_members()
     ensures order { (texts : List (List ℕ)) → Rises text_below (sorted_set texts) }
 {}
 
-/// A row is in the duty table exactly where a duty with its number was raised and the row names the
-/// duty's release, document, package, term and code, the rule as it is spelled, and the place where
-/// the duty stands.
+/// A row is in the duty table if and only if a duty with its number was raised and the row has the
+/// duty's release, document, package, term and code, the rule as it is spelled, and the duty's
+/// state.
 pub fn duty_rows_exactly()
     ensures held { (w : Readings) (h : List Command) (row : DutyRow) → IsDutyRow w h row
         → let t = tables w h in IsIn row t.duty }
@@ -234,10 +234,10 @@ pub fn duty_rows_exactly()
     desk_history::duties_are_numbered_on();
 }
 
-/// A row is in the table of frozen terms exactly where a freeze of its release stands in the
-/// history, and before it a document that ships the package was attached, the term was chosen for
-/// it, and the catalogue in force had a rule for the term's adopted form, which is spelled so. A
-/// release of a recorded history is frozen once: before all its freezes stand the same commands.
+/// A row is in the table of frozen terms if and only if a freeze of its release is in the history,
+/// and before it a document that ships the package was attached, the term was chosen for it, and
+/// the catalogue in force had a rule for the term's adopted form, spelled as in the row. A release
+/// of a recorded history is frozen only once: the same commands come before each freeze of it.
 pub fn frozen_rows_exactly()
     ensures held { (w : Readings) (h : List Command) (row : FrozenRow) → IsFrozenTerm w h row
         → let t = tables w h in IsIn row t.frozen }
@@ -252,7 +252,7 @@ pub fn frozen_rows_exactly()
 }
 
 /// A frozen release of a recorded history holds the terms that it was frozen with, and no others: a
-/// term is held for a package exactly where a row of the frozen terms names the release, the
+/// term is held for a package if and only if a row of the frozen terms names the release, the
 /// package and the term.
 pub fn frozen_choices_are_the_frozen_terms()
     ensures held { (w : Readings) (h : List Command) (row : FrozenRow) → IsHistory w h
@@ -274,10 +274,10 @@ pub fn bills_stay()
 {}
 
 /// The bill of a frozen release lists the packages that it shipped at its freeze, each with the
-/// rules of the terms that were chosen for it, by the catalogue then in force and in the order of
-/// terms, and the texts of these terms by that catalogue and the documents. This takes a reading by
-/// which no document has two packages with one id: by another one each line would have the rules of
-/// both.
+/// rules for the terms that were chosen for it, by the catalogue then in force and in the order of
+/// terms, and the texts of these terms from that catalogue and the documents. This requires a
+/// reading by which no document has two packages with the same id: otherwise each line would have
+/// the rules of both.
 pub fn bills_list_what_was_chosen()
     ensures { (w : Readings) (later before : List Command) (r day : List ℕ)
         → ListsPackagesOnce w → IsHistory w (later ++ Freeze r day ∷ before)
@@ -286,10 +286,10 @@ pub fn bills_list_what_was_chosen()
         ≡ answered.Bill (bill_for w before r) }
 {}
 
-/// No two rows of a table of a recorded history have one key, by each right reading of texts: a
-/// namespace is imported once, a document attached to a release once, a name opened once at a place
-/// of its own, and a later conclusion, adoption or choice stands in place of the earlier one. So
-/// each key that a database keeps unique stands once.
+/// No two rows of a table of a recorded history have the same key, by each right reading of texts:
+/// a namespace is imported once, a document is attached to a release once, a name is opened once
+/// and at a place of its own, and a later conclusion, adoption or choice replaces the earlier one.
+/// So each key that a database keeps unique occurs once.
 pub fn keys_stand_once()
     ensures { (w : Readings) (h : List Command) → AreRight w → IsHistory w h
         → HaveOwnKeys (tables w h) }
@@ -305,8 +305,8 @@ pub fn keys_stand_once()
     right_readings_list_once();
 }
 
-/// The rows of a recorded history are no more than the desk's limits allow, and each names a
-/// revision, a document or a duty that stands: a command that names another document is refused. A
+/// There are no more rows in a recorded history than the desk's limits allow, and each names a
+/// revision, a document or a duty that exists: a command that names another document is refused. A
 /// duty's steps are few, and the days of its changes exist. So each number in a row is small.
 pub fn rows_stay_within_limits()
     ensures { (w : Readings) (h : List Command) → IsHistory w h → AreWithin (tables w h) }

@@ -31,7 +31,7 @@ pub fn right_reading_exists()
     ensures { (w : Readings) × AreRight w }
 {}
 
-/// All right readings tell the same of each text.
+/// All right readings say the same about each text.
 pub fn one_right_reading()
     ensures terms { (v w : Readings) → AreRight v → AreRight w → (text : List ℕ)
         → v.term text ≡ w.term text }
@@ -73,7 +73,7 @@ pub fn one_right_reading()
         → v.findings profile bytes ≡ w.findings profile bytes }
 {}
 
-/// What a right reading calls minimal is a minimal set of terms for the expression that the value
+/// What a right reading calls minimal is a minimal set of terms for the expression that the text
 /// spells by the same profile of operators.
 pub fn choices_are_minimal_sets()
     ensures { (w : Readings) → AreRight w
@@ -83,7 +83,8 @@ pub fn choices_are_minimal_sets()
 {}
 
 /// The terms that a release holds for a package are, as a set, minimal for the expression that is
-/// concluded for the package now; and those that a release was frozen with were so at its freeze.
+/// concluded for the package now; and those that a release was frozen with were minimal at its
+/// freeze.
 pub fn held_terms_are_minimal_sets()
     ensures held { (w : Readings) (h : List Command) (r : List ℕ) (d : ℕ) (p : List ℕ) → AreRight w
         → IsHistory w h → (choice w h r d p ≡ [] → ⊥) → AreMinimalFor w h d p (choice w h r d p) }
@@ -96,8 +97,8 @@ pub fn held_terms_are_minimal_sets()
     choices_are_minimal_sets();
 }
 
-/// A right reading calls no empty list of terms minimal: no spelled expression is true under no
-/// terms, so a choice that is held has a term.
+/// A right reading doesn't call an empty list of terms minimal: no spelled expression is true under
+/// no terms, so a choice that is held has a term.
 pub fn choices_have_terms()
     ensures { (w : Readings) → AreRight w → (profile : Profile) (text : List ℕ)
         → w.verdict profile text [] ≡ Minimal → ⊥ }
@@ -109,25 +110,25 @@ pub fn right_readings_list_once()
     ensures { (w : Readings) → AreRight w → ListsOnce w }
 {}
 
-/// A right reading lists a catalogue's rules by term and form, a rule's codes, and a document's
-/// packages and references by id, so the duties of a freeze are numbered in their order
-/// (`freezes_raise_in_order` of `desk_history`), and the tables that stand as the reading lists
-/// them are sorted (`listed_tables_are_sorted`).
+/// A right reading lists a catalogue's rules by term and form, a rule's codes in order, and a
+/// document's packages and references by id, so the duties of a freeze are numbered in their order
+/// (`freezes_raise_in_order` of `desk_history`), and the tables in the order of the reading are
+/// sorted (`listed_tables_are_sorted`).
 pub fn right_readings_list_in_order()
     ensures { (w : Readings) → AreRight w → ListsInOrder w }
 {}
 
-/// By a right reading each code of a rule is an idstring (SPDX 2.3, Annex D.2), so the tables of
-/// each history and the change of each command are such as a file holds (`tables_are_orderly` and
+/// By a right reading each code of a rule is an idstring (SPDX 2.3, Annex D.2), so a file can hold
+/// the tables of each history and the change of each command (`tables_are_orderly` and
 /// `changes_can_be_written` of `desk_laws::tables`).
 pub fn right_readings_list_ids()
     ensures { (w : Readings) → AreRight w → ListsIds w }
 {}
 
-/// A right reading prints the term that a text spells, which is well formed. What it says of a
-/// printed term is so of the term: the reference that it names is its key, where that is a
-/// reference, and else the id of its licence is its key; its exception is the term's own; it is a
-/// licence alone where its key is a licence id and it has neither plus nor exception; and adopted
+/// A right reading prints the term that a text spells, which is well formed. What it says about a
+/// printed term is true of the term: the reference that it names is its key, if that is a
+/// reference, and otherwise the id of its licence is its key; its exception is the term's own; it
+/// is a licence alone if its key is a licence id and it has neither plus nor exception; and adopted
 /// as such a licence it is the term of that id, without a plus, with its own exception (SPDX 2.3,
 /// Annex D.2 to D.4).
 pub fn readings_speak_of_terms()
@@ -151,28 +152,28 @@ pub fn readings_speak_of_terms()
     desk_alts::laws::spelled_terms_are_well_formed();
 }
 
-/// By a right reading a text is an expression exactly where it has no fault.
+/// By a right reading a text is an expression if and only if it has no fault.
 pub fn expressions_have_no_fault()
     ensures { (w : Readings) → AreRight w → (profile : Profile) (text : List ℕ)
         → w.is_expression profile text ≡ is_none (w.expression_fault profile text) }
 {}
 
-/// What a right reading lists of an expression are all its minimal sets, each once and in the order
-/// of sets, and nothing else; or it tells that the expression has more than 128 terms, or else a
-/// front with more than 64 minimal sets.
+/// What a right reading lists for an expression are all its minimal sets, each once and in the
+/// order of sets, and nothing else; or else it reports that the expression has more than 128 terms,
+/// or that it has no more than that, but a front with more than 64 minimal sets.
 pub fn listings_are_all_minimal_sets()
     ensures { (w : Readings) → AreRight w → (profile : Profile) (text : List ℕ)
         → Lists profile text (w.alternatives profile text) }
 {}
 
-/// The cheapest set of a right reading is the least of all sets that the expression is true under
-/// and whose terms have costs, minimal or not; it tells none where there is no such set.
+/// The cheapest set of a right reading is the least of all sets, minimal or not, under which the
+/// expression is true and whose terms have costs; the reading reports none if there is no such set.
 pub fn cheapest_sets_are_least()
     ensures { (w : Readings) → AreRight w → (profile : Profile) (text : List ℕ) (cost : List ℕ
         → Option ℕ) → Prices profile text cost (w.cheapest profile text cost) }
 {}
 
-/// The findings of a document are one list, and there is one, whichever way texts are read as
+/// The findings of a document are one list, and there is one, however texts are read as
 /// expressions.
 pub fn findings_are_one_list()
     ensures some { (reads : List ℕ → Option Tree) (d : DocumentText) → (found : List Finding)

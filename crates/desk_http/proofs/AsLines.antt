@@ -22,7 +22,7 @@ module _ (is_right : Readings → Type 0) (tells : StoreFault → Type 0) {Left 
   unasked : (before after : Desk) → after ≡ before → Replies is_right tells stands (seen before) line.BadCommand script.NoRequest (seen after)
   unasked before after same = subst (λ (d : Desk). Replies is_right tells stands (seen before) line.BadCommand script.NoRequest (seen d)) (sym same) (no_request is_right tells stands (seen before))
 
-  -- a request of a connection is replied as a line
+  -- a request of a connection gets the reply of a line
   as_line : (before after : Desk) (get : Bool) (r : Reply) (q : Request) → Answers is_right tells stands seen get before r q after
       → Replies is_right tells stands (seen before) (line_of q) (line_reply r) (seen after)
   as_line before after get (Became o s short) (request.Act c) a = a.2
@@ -61,7 +61,7 @@ module _ (is_right : Readings → Type 0) (tells : StoreFault → Type 0) {Left 
   one before after bytes NotText (m, t, b, x, a) =
       (line_of (request_for m t b), (m, t, b, x, refl), as_line before after (is_get m) NotText (request_for m t b) a)
 
-  -- the lines that connections are
+  -- connections as lines
   lines_of : (before : Desk) (cs : List Connection) (after : Desk) → AreAnswered is_right tells stands seen before cs after
       → (qs : List json_request.Request) × (ps : List script_reply.Reply) × AreLines cs qs ps × AreReplied is_right tells stands seen before qs ps after
   lines_of before [] after same = ([], [], tt, same)

@@ -1,4 +1,4 @@
--- What the parser found in the first bytes, of all bytes.
+-- What the parser found in the first bytes, as a reading of all bytes.
 use Rattle.std.proofs.Common.{◌≡◌, ℕ, ◌+◌, ◌<◌, ◌≤◌, ◌++◌, List, length, take, drop, inl, sym, ap, ◌∙◌, arith, append_assoc, length-append, take-append-drop}
 use Rattle.std.specs.Prelude.{map}
 use Rattle.std.proofs.lemmas.List.{drop-append-le, length-take-le, length-map}
@@ -57,7 +57,7 @@ IsFraming-found bytes front spans r method target s is most within room found m 
       e ∙ judged-same found.0 method target (drop r.len bytes) (map (header_bytes front) (take r.headers spans)) m t found.1.fields,
     )
 
--- how many bytes are awaited after a head is how many are awaited in all
+-- what is awaited after a head is what all bytes await
 pub IsAwaited-found : (bytes front : List ℕ) (spans : List HeaderSpan) (r : RequestSpans) (method target : List ℕ) (f : Framing) → front ≡ take head_bytes bytes → length front ≤ head_bytes
     → IsRequestWithin front spans r → length spans ≡ head_fields → (found : (h : RequestHead) × IsRequestAt front spans r h)
     → method ≡ found.0.method → target ≡ found.0.target

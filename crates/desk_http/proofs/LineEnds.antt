@@ -1,4 +1,4 @@
--- A head ends by LF.
+-- A head ends with LF.
 use Rattle.std.proofs.Common.{◌≡◌, ℕ, ◌+◌, ◌<◌, ◌≤◌, ◌++◌, ◌∷◌, ◌⊎◌, List, [], length, drop, inl, inr, subst, refl, sym, ap, ◌∙◌, arith, append_assoc, length-append}
 use Rattle.std.specs.Prelude.{◌≢◌, All}
 use Rattle.std.specs.List.{flat_map}
@@ -30,7 +30,7 @@ print_by_lf h =
           ∙ (ap (λ (l : List ℕ). (start ++ fields) ++ l) last.1 ∙ sym (append_assoc (start ++ fields) last.0 (10 ∷ []))),
     )
 
--- an LF that stands past the front stands in the rest
+-- an LF that isn't in the front is in the rest
 lf_past : (front rest before after : List ℕ) → front ++ rest ≡ before ++ 10 ∷ after → length front ≤ length before → All (λ b. b ≢ 10) rest → ⊥
 lf_past [] [] [] after e few none = cc
 lf_past [] [] (b ∷ before) after e few none = cc
@@ -87,7 +87,7 @@ blank_part bytes before method rest e ends token =
     (and_both (list_all is_line_byte before) (list_all is_line_byte (method ++ rest))
     (sym (list_all-append is_line_byte before (method ++ rest)) ∙ subst AreLineEnds e ends)).1
 
--- line ends alone are no head
+-- only line ends are no head
 pub HasNoHead-ends : (bytes : List ℕ) → AreLineEnds bytes → HasNoHead bytes
 HasNoHead-ends bytes ends h after b =
     blank_part bytes (print_blank h.blank) h.method _ (b.reads.1 ∙ print_request-append h after) ends b.reads.0.method

@@ -15,14 +15,14 @@ use Rattle.desk_http.specs.Limits.{request_bytes, piece_bytes}
 use Rattle.desk_http.specs.Receiving.{IsPrompt, IsUndue}
 use Rattle.desk_http.specs.declared.status.Status.TheVariants.{BadRequest}
 
--- bytes without a head that are read as settled are so whatever follows
+-- bytes without a head that are read as settled never begin with one
 hopeless : (bytes more : List ℕ) (r : Framed) → HasNoHead bytes → IsUnread bytes r → r ≢ part → NeverHasHead bytes
 hopeless bytes more part none unread settled = absurd (settled refl)
 hopeless bytes more (whole a b c d) none unread settled = absurd unread
 hopeless bytes more (bad status) none (is, inl long) settled = NeverHasHead-long bytes none long
 hopeless bytes more (bad status) none (is, inr over) settled = NeverHasHead-over bytes over
 
--- bytes that are read as settled and also as awaiting more ask nothing
+-- if bytes are read as settled and also as awaiting more, they are refused whatever follows
 IsAsked-part : (bytes more : List ℕ) (r : Framed) → IsFraming bytes r → r ≢ part → IsFraming bytes part → IsAsked (bytes ++ more) (refused BadRequest)
 IsAsked-part bytes more r (inl (h, after, b, e)) settled (inl (k, later, d, i)) =
     let same = BeginsWith-unique bytes h k after later b d in
@@ -37,25 +37,25 @@ IsAsked-of bytes more r (bad status) x settled y = IsAsked-settled bytes more (b
 IsAsked-of bytes more r (whole a b c d) x settled y = IsAsked-settled bytes more (whole a b c d) y (λ e. cc)
 IsAsked-of bytes more r part x settled y = IsAsked-part bytes more r x settled y
 
--- where the reader ends each reading says what is asked
+-- if the reader ends, each reading says what is asked for
 pub IsAsked-end : (bytes : List ℕ) (s : Framed) → IsFraming bytes s → IsAsked bytes (closed s)
 IsAsked-end bytes part x = IsAsked-ended bytes x
 IsAsked-end bytes (bad status) x = subst (λ (l : List ℕ). IsAsked l (refused status)) (append-nil bytes) (IsAsked-settled bytes [] (bad status) x (λ e. cc))
 IsAsked-end bytes (whole a b c d) x = subst (λ (l : List ℕ). IsAsked l (closed (whole a b c d))) (append-nil bytes) (IsAsked-settled bytes [] (whole a b c d) x (λ e. cc))
 
--- what is awaited isn't there
+-- while something is awaited, no request is whole
 pub AwaitsMore-of : (bytes : List ℕ) (awaited : Awaited) → IsAwaited bytes awaited → AwaitsMore bytes
 AwaitsMore-of bytes Start x = λ h after b. absurd (HasNoHead-ends bytes x.0 h after b)
 AwaitsMore-of bytes Head x = λ h after b. absurd (x.0 h after b)
 AwaitsMore-of bytes (Body count) x = subst AwaitsMore (append-nil bytes) (x.2 [] (subst (λ (l : List ℕ). length l < count) (sym (append-nil bytes)) x.0))
 
--- so much is awaited at most
+-- as long as something is awaited, there are fewer bytes than a request may have
 pub IsAwaited-few : (bytes : List ℕ) (awaited : Awaited) → IsAwaited bytes awaited → length bytes < request_bytes
 IsAwaited-few bytes Start x = omega arith
 IsAwaited-few bytes Head x = omega arith
 IsAwaited-few bytes (Body count) x = omega arith
 
--- what can't complete what is awaited leaves it awaited
+-- bytes that can't complete what is awaited leave it awaited
 pub IsAwaited-undue : (front came bytes : List ℕ) (awaited : Awaited) → bytes ≡ front ++ came → IsUndue came (length bytes) awaited → IsAwaited front awaited → IsAwaited bytes awaited
 IsAwaited-undue front came bytes Start e undue x =
     (subst AreLineEnds (sym e) (AreLineEnds-append front came x.0 undue.1), undue.0)
@@ -75,7 +75,7 @@ IsAwaited-nil = (refl, omega arith)
 
 -- ---- how far a reader was read
 
--- a reader that was read so far, and no further
+-- a reader that was read this far, and no further
 pub IsPrompt-still : (old new : Option (List ℕ)) (bytes : List ℕ) (awaited : Awaited) → Consumes old new bytes → IsAwaited bytes awaited → IsPrompt old new
 IsPrompt-still old new bytes awaited read x = record {
   before = bytes;
@@ -86,7 +86,7 @@ IsPrompt-still old new bytes awaited read x = record {
   short = omega arith;
 }
 
--- a reader that gave one piece more
+-- a reader that gave one more piece
 pub IsPrompt-piece : (old mid new : Option (List ℕ)) (bytes piece : List ℕ) (awaited : Awaited) → Consumes old mid bytes → Consumes mid new piece → length piece ≤ piece_bytes
     → IsAwaited bytes awaited → IsPrompt old new
 IsPrompt-piece old mid new bytes piece awaited first second short x = record {

@@ -1,4 +1,4 @@
--- What is told where no memory is left for the reply to an outcome.
+-- What is written if no memory is left for the reply to an outcome.
 use Rattle.std.proofs.Common.{inr, refl}
 use Rattle.std.specs.Prelude.{Bool, true, false, if◌then◌else◌}
 use Rattle.desk_http.specs.Replies.{IsTold, no_memory, no_text}

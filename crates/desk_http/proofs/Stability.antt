@@ -1,4 +1,4 @@
--- What bytes that come later leave of a reading.
+-- What later bytes leave of a reading.
 use Rattle.std.proofs.Common.{◌≡◌, ℕ, ◌+◌, ◌<◌, ◌≤◌, ◌++◌, List, [], length, take, drop, inl, inr, refl, sym, ap, ◌∙◌, subst, arith, append_assoc, length-append, take-append-drop}
 use Rattle.std.specs.Prelude.{◌≢◌, Bool, true, false, nat_lt, nat_le, map, codes, if◌then◌else◌}
 use Rattle.std.proofs.Math.Seq.{take-append_seam}
@@ -15,7 +15,7 @@ use Rattle.desk_http.specs.Framings.{Framed, part, bad, whole, with_body, by_len
 use Rattle.desk_http.specs.declared.fields.BodyLength.{BodyLength}
 use Rattle.desk_http.specs.declared.fields.BodyLength.TheVariants.{Unsaid, Bytes, Bad}
 
--- a front that is no longer than the bytes stands in them
+-- a front that is no longer than the bytes is within them
 pub front_within : (bytes more front after : List ℕ) → bytes ++ more ≡ front ++ after → length front ≤ length bytes → bytes ≡ front ++ drop (length front) bytes
 front_within bytes more front after e fits =
     sym (take-append-drop (length front) bytes)
@@ -39,11 +39,11 @@ BeginsWith-less bytes more h after b fits = record {
   few = b.few;
 }
 
--- bytes begin with one head at most
+-- bytes begin with at most one head
 pub BeginsWith-unique : (bytes : List ℕ) (h k : RequestHead) (after later : List ℕ) → BeginsWith bytes h after → BeginsWith bytes k later → (h ≡ k) × (after ≡ later)
 BeginsWith-unique bytes h k after later b d = request_unique bytes h k after later b.reads d.reads
 
--- so many bytes without a head never have one
+-- as many bytes as a head may have, without a head, never begin with one
 pub NeverHasHead-long : (bytes : List ℕ) → HasNoHead bytes → head_bytes ≤ length bytes → NeverHasHead bytes
 NeverHasHead-long bytes none long more h after b =
     let fits : length (print_request h) ≤ length bytes = omega (arith, b.short) in
@@ -57,7 +57,7 @@ NeverHasHead-over bytes over more h after b =
 
 -- ---- the bytes within the limit of a head, and all bytes
 
--- what follows the first bytes is no matter for the fields that any head would have
+-- what follows the first bytes doesn't matter for the fields that any head would have
 pub RequestOverflows-more : (room : ℕ) (front more : List ℕ) → RequestOverflows room front → RequestOverflows room (front ++ more)
 RequestOverflows-more room front more over later h rest reads =
     over (more ++ later) h rest (subst (λ (bytes : List ℕ). ReadsRequest bytes h rest) (append_assoc front more later) reads)
@@ -114,7 +114,8 @@ closed-head h after more settled =
     closed-judged-cases h.method h.target (length_from unsaid (map name_and_value h.fields)) after more
     (has_field (codes "transfer-encoding") (map name_and_value h.fields)) settled
 
--- What the bytes that came so far are read as, once that is settled, is what all bytes ask, whatever follows.
+-- What the bytes that came so far are read as, once that is settled, is what all bytes ask for, whatever
+-- follows.
 pub IsAsked-settled : (bytes more : List ℕ) (s : Framed) → IsFraming bytes s → s ≢ part → IsAsked (bytes ++ more) (closed s)
 IsAsked-settled bytes more s (inl (h, after, b, e)) settled =
     inl (
@@ -130,12 +131,12 @@ IsAsked-settled bytes more (bad status) (inr (none, (is, inr over))) settled =
     inr (NeverHasHead-over bytes over more, ap refused is)
 IsAsked-settled bytes more (whole method target body rest) (inr (none, unread)) settled = absurd unread
 
--- Where more is awaited and nothing follows, it is refused as a bad request.
+-- If more is awaited and nothing follows, the bytes are refused as a bad request.
 pub IsAsked-ended : (bytes : List ℕ) → IsFraming bytes part → IsAsked bytes (refused BadRequest)
 IsAsked-ended bytes (inl (h, after, b, e)) = inl (h, after, b, ap closed e)
 IsAsked-ended bytes (inr (none, unread)) = inr (none, refl)
 
--- what bytes ask is one thing
+-- bytes ask for one thing
 pub IsAsked-unique : (bytes : List ℕ) (a d : Asked) → IsAsked bytes a → IsAsked bytes d → a ≡ d
 IsAsked-unique bytes a d (inl (h, after, b, e)) (inl (k, later, f, i)) =
     let same = BeginsWith-unique bytes h k after later b f in

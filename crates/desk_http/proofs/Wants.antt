@@ -1,4 +1,4 @@
--- What bytes want is what they are replied.
+-- The answer to what bytes want is the reply to these bytes.
 use Rattle.std.proofs.Common.{◌≡◌, ℕ, Bool, List, subst, sym}
 use Rattle.desk_access.specs.Seen.{Seen}
 use Rattle.desk_http.specs.Framings.{Asked, refused, asked, IsAsked}

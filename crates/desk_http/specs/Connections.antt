@@ -1,4 +1,4 @@
--- Connections that are served one after the other.
+-- Connections that are served one after another.
 use Rattle.std.specs.Prelude.{◌≡◌, ℕ, List, [], ◌∷◌}
 use Rattle.desk_access.specs.Seen.{Seen}
 use Rattle.desk_http.specs.Framings.{refused, asked, IsAsked}
@@ -18,12 +18,12 @@ use Rattle.desk_script.specs.Replies.{AreReplied}
 use Rattle.desk_script.specs.declared.answer.Reply as script_reply
 use Rattle.desk_script.specs.declared.answer.Reply.TheVariants as script
 
--- the bytes of a connection, and what they were told
+-- the bytes of a connection, and the reply that they got
 pub record Connection : Type 0 where
   pub bytes : List ℕ
   pub told : Told
 
--- a request and a reply as those of a line; what the desk isn't asked is like a line that is no request
+-- a request and a reply as those of a line; what the desk isn't asked counts as a line that is no request
 abbrev pub line_of : Request → json_request.Request
 line_of (Act c) = line.Act c
 line_of (Ask q shape) = line.Ask q
@@ -33,14 +33,15 @@ abbrev pub line_reply : Reply → script_reply.Reply
 line_reply (reply.Became o shape short) = script.Became o
 line_reply _ = script.NoRequest
 
--- the request of these bytes as that of a line; none where they are refused, or no memory was left to read them
+-- the request of these bytes as that of a line, which is no request if they are refused or no memory was left
+-- to read them
 abbrev pub IsLineOf : List ℕ → Reply → json_request.Request → Type 0
 IsLineOf bytes reply.Memory q = q ≡ line.BadCommand
 IsLineOf bytes (reply.Bad status) q = IsAsked bytes (refused status) × (q ≡ line.BadCommand)
 IsLineOf bytes r q =
     (method : List ℕ) × (target : List ℕ) × (body : List ℕ) × IsAsked bytes (asked method target body) × (q ≡ line_of (request_for method target body))
 
--- the line of a connection: its request, and the reply that it was told
+-- the line of a connection: its request, and the reply that it got
 pub record IsLine (c : Connection) (q : json_request.Request) (p : script_reply.Reply) : Type 0 where
   pub reply : Reply
   pub is_told : IsTold reply c.told
@@ -53,13 +54,13 @@ AreLines (c ∷ cs) (q ∷ qs) (p ∷ ps) = IsLine c q p × AreLines cs qs ps
 AreLines _ _ _ = ⊥
 
 module _ (is_right : Readings → Type 0) (tells : StoreFault → Type 0) {Left Desk : Type 0} (stands : Left → Tables → Type 0) (seen : Desk → Seen Left) where
-  -- connections are answered one after the other, each on the desk as the ones before it left it
+  -- connections are answered one after another, each by the desk as the ones before it left it
   abbrev pub AreAnswered : Desk → List Connection → Desk → Type 0
   AreAnswered before [] after = before ≡ after
   AreAnswered before (c ∷ cs) after =
       (between : Desk) × IsAnswered is_right tells stands seen before c.bytes c.told between × AreAnswered between cs after
 
-  -- connections are replied as lines of a script, one after the other, whose commands are a run of the desk
+  -- connections get the replies of the lines of a script, whose commands are a run of the desk
   pub record AreServed (before : Desk) (cs : List Connection) (after : Desk) : Type 0 where
     pub requests : List json_request.Request
     pub replies : List script_reply.Reply

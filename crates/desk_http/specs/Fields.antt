@@ -1,4 +1,4 @@
--- What the fields of a head say of the body (RFC 9112, sections 6.1 and 6.2).
+-- What the fields of a head say about the body (RFC 9112, sections 6.1 and 6.2).
 use Rattle.std.specs.Prelude.{ℕ, ◌+◌, ◌-◌, ◌*◌, ◌||◌, ◌&&◌, ◌==◌, nat_lt, nat_le, Bool, false, List, [], ◌∷◌, length, map, codes, if◌then◌else◌, Option, Some, None}
 use Rattle.std.specs.Char.{is_ascii_digit, to_ascii_lowercase}
 use Rattle.std.specs.Str.{bytes_eq}
@@ -20,16 +20,16 @@ abbrev pub has_field : List ℕ → List Field → Bool
 has_field name [] = false
 has_field name (field ∷ fields) = is_named name field.0 || has_field name fields
 
--- the number whose digits are those of a number and then these
+-- the number with the digits of a number and then these
 abbrev pub number_from : ℕ → List ℕ → Option ℕ
 number_from n [] = Some n
 number_from n (c ∷ cs) = if is_ascii_digit c then number_from (n * 10 + (c - 48)) cs else None
 
--- the number that 1 to 18 digits are
+-- the number that is written in 1 to 18 digits
 abbrev pub number_text : List ℕ → Option ℕ
 number_text text = if nat_lt 0 (length text) && nat_le (length text) 18 then number_from 0 text else None
 
--- a length that a field gives, beside what the fields before it gave: two that differ are bad
+-- a length that a field gives, after what the fields before it gave: two different lengths are bad
 abbrev pub agreed : BodyLength → Option ℕ → BodyLength
 agreed said None = Bad
 agreed Unsaid (Some n) = Bytes n

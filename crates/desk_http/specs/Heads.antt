@@ -10,18 +10,18 @@ pub record BeginsWith (bytes : List ℕ) (h : RequestHead) (after : List ℕ) : 
   pub short : length (print_request h) ≤ head_bytes
   pub few : length h.fields ≤ head_fields
 
--- they begin with none
+-- they begin with no head
 abbrev pub HasNoHead : List ℕ → Type 0
 HasNoHead bytes = (h : RequestHead) (after : List ℕ) → ¬ (BeginsWith bytes h after)
 
--- whatever bytes follow, they begin with none
+-- whatever bytes follow, they begin with no head
 abbrev pub NeverHasHead : List ℕ → Type 0
 NeverHasHead bytes = (more : List ℕ) → HasNoHead (bytes ++ more)
 
--- a byte of a line's end
+-- a byte of a line end
 abbrev pub is_line_byte : ℕ → Bool
 is_line_byte b = b == 10 || b == 13
 
--- the bytes are line ends alone, which may stand before a head (RFC 9112, section 2.2)
+-- the bytes are only line ends, which may come before a head (RFC 9112, section 2.2)
 abbrev pub AreLineEnds : List ℕ → Type 0
 AreLineEnds bytes = list_all is_line_byte bytes ≡ true

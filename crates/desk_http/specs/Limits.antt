@@ -1,7 +1,7 @@
--- The limits of a request, as its definitions have them.
+-- The limits of a request, as the definitions use them.
 use Rattle.std.specs.Prelude.{ℕ}
 
--- the bytes of the longest head, its last line end included
+-- how many bytes a head may have, including its last line end
 abbrev pub head_bytes : ℕ
 head_bytes = 16384
 
@@ -9,18 +9,18 @@ head_bytes = 16384
 abbrev pub head_fields : ℕ
 head_fields = 64
 
--- the bytes of the longest body
+-- how many bytes a body may have
 abbrev pub body_bytes : ℕ
 body_bytes = 8388608
 
--- the bytes of the longest request
+-- how many bytes a request may have
 abbrev pub request_bytes : ℕ
 request_bytes = 8404992
 
--- how often a reader is asked for bytes
+-- how many times at most a reader is asked for bytes
 abbrev pub reads : ℕ
 reads = 1048576
 
--- how many bytes it is asked for each time
+-- how many bytes at most it is asked for each time
 abbrev pub piece_bytes : ℕ
 piece_bytes = 16384

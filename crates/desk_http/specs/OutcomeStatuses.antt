@@ -8,11 +8,11 @@ use Rattle.desk_model.specs.declared.command.Fault.TheVariants.{Memory, Store}
 use Rattle.desk_model.specs.declared.command.Outcome.{Outcome}
 use Rattle.desk_model.specs.declared.command.Outcome.TheVariants.{Answered, Failed}
 
--- what isn't there: a document, a package, a release, a duty
+-- a document, package, release or duty doesn't exist
 abbrev pub is_absent : ℕ → Bool
 is_absent number = number == 4 || number == 5 || number == 12 || number == 23
 
--- what stands against what the desk holds
+-- what the desk holds doesn't allow the request
 abbrev pub is_conflict : ℕ → Bool
 is_conflict number = number == 3 || number == 7 || number == 10 || number == 13 || number == 14 || number == 20 || number == 24
 

@@ -2,18 +2,18 @@
 use Rattle.std.specs.Prelude.{ℕ, zero, suc, ◌==◌, List}
 use Rattle.std.specs.List.{before_first, after_first}
 
--- what stands before the first `?` of a target, or all of it
+-- what comes before the first `?` of a target, or all of it
 abbrev pub path_of : List ℕ → List ℕ
 path_of target = before_first (λ b. b == 63) target
 
--- what stands before and after the first slash
+-- what comes before and after the first slash
 abbrev pub before_slash : List ℕ → List ℕ
 before_slash path = before_first (λ b. b == 47) path
 
 abbrev pub after_slash : List ℕ → List ℕ
 after_slash path = after_first (λ b. b == 47) path
 
--- the part of a path after so many of its slashes
+-- the part of a path after this many slashes
 abbrev pub part_at : ℕ → List ℕ → List ℕ
 part_at zero path = before_slash path
 part_at (suc slashes) path = part_at slashes (after_slash path)

@@ -33,7 +33,7 @@ json body = (codes "application/json", body)
 abbrev pub Told : Type 0
 Told = Status × Content
 
--- the lines before a body of so many bytes: each ends by CRLF, and an empty one is the last
+-- the lines before a body of this many bytes: each ends with CRLF, and the last one is empty
 unfoldable pub head_bytes : Status → List ℕ → ℕ → List ℕ
 head_bytes status media_type length =
     codes "HTTP/1.1 " ++ (status_line status
@@ -44,25 +44,26 @@ head_bytes status media_type length =
 unfoldable pub reply_bytes : Told → List ℕ
 reply_bytes (status, (media_type, body)) = head_bytes status media_type (length body) ++ body
 
--- What an outcome is written as: a bill and rows of duties as the texts that are asked for, all else as its line of JSON.
+-- How an outcome is written: notices or a table of duties if they are asked for, and anything else as its
+-- line of JSON.
 abbrev pub content_of : Outcome → Shape → Content
 content_of (Answered (Bill bill)) Notices = (codes "text/plain; charset=utf-8", notices_text bill)
 content_of (Answered (Duties lines)) Csv = (codes "text/csv; charset=utf-8", table_text lines)
 content_of outcome shape = json (reply_text outcome)
 
--- what an outcome is told as: its status and how it is written
+-- the reply to an outcome: its status, and how it is written
 abbrev pub told_of : Outcome → Shape → Told
 told_of outcome shape = (outcome_status outcome, content_of outcome shape)
 
--- a catalogue that isn't UTF-8 is no TOML
+-- a catalogue that isn't UTF-8 isn't TOML
 abbrev pub not_toml : Outcome
 not_toml = Answered (Refused (BadCatalogue NotToml))
 
--- no memory for the request, which wasn't applied
+-- no memory was left for the request, which wasn't applied
 abbrev pub no_memory : Told
 no_memory = told_of (Failed fault.Memory) Json
 
--- no memory for the text of a reply
+-- no memory was left for the text of a reply
 abbrev pub no_text : Told
 no_text = (status.ServiceUnavailable, json (codes "{\"fault\":\"reply\"}"))
 
@@ -70,8 +71,8 @@ no_text = (status.ServiceUnavailable, json (codes "{\"fault\":\"reply\"}"))
 abbrev pub no_store : Told
 no_store = (status.InternalServerError, json (compact_text (fault_reply (codes "store"))))
 
--- what a reply is told as, and what where no memory is left for its text: after a GET, and where the desk wasn't asked, that there
--- was none; else that the reply has none, though its command may stand
+-- What is written for a reply. If no memory is left for its text, then `no_memory` after a GET or if the desk
+-- wasn't asked, and else `no_text`, because its command may have been applied.
 abbrev pub IsTold : Reply → Told → Type 0
 IsTold (Became outcome shape true) told = (told ≡ told_of outcome shape) ⊎ (told ≡ no_memory)
 IsTold (Became outcome shape false) told = (told ≡ told_of outcome shape) ⊎ (told ≡ no_text)
@@ -81,7 +82,7 @@ IsTold BadCommand told = (told ≡ (status.BadRequest, json bad_command_text)) �
 IsTold NotText told = (told ≡ told_of not_toml Json) ⊎ (told ≡ no_memory)
 IsTold Memory told = told ≡ no_memory
 
--- the message that is this
+-- the message for this reply
 abbrev pub IsMessage : Told → Message → Type 0
 IsMessage told (message.Made status front rest) = (told.0 ≡ status) × (front.items ++ rest.items ≡ reply_bytes told)
 IsMessage told message.NoMemory = told ≡ no_memory

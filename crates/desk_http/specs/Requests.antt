@@ -1,4 +1,4 @@
--- The request that a method, a target and a body are.
+-- The request that a method, a target and a body make.
 use Rattle.std.specs.Prelude.{◌≡◌, ℕ, List, if◌then◌else◌, Option, Some, None, option_map, unwrap_or}
 use Rattle.std.specs.Str.{is_utf8}
 use Rattle.desk_base.specs.declared.profile.Profile.TheVariants.{Capitals}
@@ -30,7 +30,7 @@ of_line (json.Act c) = Act c
 of_line (json.Ask q) = Ask q Json
 of_line json.BadCommand = BadCommand
 
--- what is posted: a request as JSON, a document, or a catalogue, which is UTF-8
+-- what is posted: a request as JSON, a document, or a catalogue, which must be UTF-8
 abbrev pub posted_request : Posted → List ℕ → Request
 posted_request posted.Request body = of_line (request_in body)
 posted_request posted.Document body = Act (command.Import body Capitals)
@@ -40,7 +40,7 @@ posted_request posted.Catalogue body = if is_utf8 body then Act (command.LoadCat
 abbrev pub with_number : List ℕ → (ℕ → Query) → Request
 with_number text ask = unwrap_or (option_map (λ n. Ask (ask n) Json) (number_text text)) NoRoute
 
--- what is shown at a path, whose parts stand for the names of its pattern
+-- what is shown at a path, whose parts take the place of the names in its pattern
 abbrev pub shown_request : Shown → List ℕ → Request
 shown_request shown.Findings path = with_number (part_at 2 path) (λ n. query.Findings n)
 shown_request shown.Alternatives path = with_number (part_at 2 path) (λ n. query.Alternatives n (part_at 4 path))
@@ -57,12 +57,12 @@ route_request None path body = NoRoute
 route_request (Some (Post what)) path body = posted_request what body
 route_request (Some (Get what)) path body = shown_request what path
 
--- What is asked for. The grammar of a head has it that each target is UTF-8.
+-- What is asked for. By the grammar of a head each target is UTF-8.
 abbrev pub request_for : (method target body : List ℕ) → Request
 request_for method target body =
     if is_utf8 target then route_request (route_of method (path_of target)) (path_of target) body else NoRoute
 
--- a reading that owns its request is what bytes begin with
+-- a reading, which owns its request, shows what bytes begin with
 abbrev pub Shows : Reading → Framed → Type 0
 Shows (reading.Whole request rest) (whole method target body left) = (request ≡ request_for method target body) × (rest.now ≡ left)
 Shows reading.Part part = Unit {0}

@@ -1,4 +1,4 @@
--- The table of the routes: the method, the pattern and what is asked for.
+-- The table of routes: the method, the pattern and what is asked for.
 use Rattle.std.specs.Prelude.{ℕ, List, [], ◌∷◌, codes, if◌then◌else◌, Result, Ok, Err, Option, Some, None, option_map}
 use Rattle.std.specs.Str.{bytes_eq}
 use Rattle.matchit.specs.Rows.{RowsOf}
@@ -41,16 +41,16 @@ desk_routes =
     (with_route (codes "/documents") (Post posted.Document)
     (with_route (codes "/commands") (Post posted.Request) [])))))))))))
 
--- what a table leads a path to
+-- what a path leads to in a table
 abbrev pub found_at : RowsOf (RouteOf Route) → List ℕ → Option Route
 found_at routes path = option_map (λ row. row.value) (first routes path)
 
--- the method that a route wants (RFC 9110, sections 9.3.1 and 9.3.3)
+-- the method of a route (RFC 9110, sections 9.3.1 and 9.3.3)
 abbrev pub method_of : Route → List ℕ
 method_of (Post posted) = codes "POST"
 method_of (Get shown) = codes "GET"
 
--- what was found, where the method is the one that it wants
+-- what was found, if this is its method
 abbrev pub with_method : List ℕ → Option Route → Option Route
 with_method method None = None
 with_method method (Some route) = if bytes_eq method (method_of route) then Some route else None

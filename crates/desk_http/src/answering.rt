@@ -1,4 +1,4 @@
-//! Answers the request that bytes ask.
+//! Answers the request that bytes make.
 
 ghost use Rattle.std.specs.Prelude.{◌≡◌, ◌<◌, List, ℕ, length, MatchOption};
 ghost use Rattle.desk_http.specs.Framings.{Framed, IsFraming, closed, IsAsked, Asked};
@@ -18,7 +18,7 @@ use std::alloc::Global;
 /// What is wanted of the desk.
 #[derive(Drop)]
 pub enum Wanted {
-    /// This request, which may come by GET.
+    /// This request, and whether it came by GET.
     Request(Request, bool),
     /// Nothing: what came is refused with this status.
     Bad(Status),
@@ -32,7 +32,7 @@ fn is_get(method: &[u8]) -> bool
     method == b"GET".as_slice()
 }
 
-/// What bytes want that no more will follow.
+/// What bytes ask for if no more follow.
 fn wanted_by(alloc: Global, routes: &mut RouteTable, bytes: &[u8]) -> Wanted
     ensures { (f : Framed) × IsFraming bytes.now f × Wants result (closed f) }
 {
@@ -76,8 +76,8 @@ fn reply_for<D: Desk>(desk: &mut D, wanted: Wanted) -> Reply
     }
 }
 
-/// The reply to what was received, if any byte was. The bytes are let go of before the desk
-/// answers, which can use their memory.
+/// The reply to what was received, if any byte was. The bytes are dropped before the desk answers,
+/// so that it can use their memory.
 pub fn answer<D: Desk>(
     alloc: Global,
     routes: &mut RouteTable,

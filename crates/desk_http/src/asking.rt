@@ -1,4 +1,4 @@
-//! What a client asks for over HTTP, and what it is replied.
+//! What a client asks for over HTTP, and the reply that it gets.
 
 use crate::status::Status;
 use desk_model::{Command, Outcome, Query};
@@ -34,16 +34,16 @@ pub enum Request {
 pub enum Reading<'a> {
     /// A request, and the bytes after its body.
     Whole(Request, &'a [u8]),
-    /// A part of a request: more bytes are awaited.
+    /// Part of a request: more bytes are awaited.
     Part,
-    /// What is refused with this status.
+    /// Something that is refused with this status.
     Bad(Status),
 }
 
-/// What a connection is replied.
+/// The reply to a connection.
 #[derive(Drop)]
 pub enum Reply {
-    /// What became of its command or query, the shape of an answer, and whether it was a GET.
+    /// The outcome of its command or query, the shape of an answer, and whether it was a GET.
     Became(Outcome, Shape, bool),
     /// Its bytes are no request, and are refused with this status.
     Bad(Status),

@@ -1,4 +1,4 @@
-//! What the fields of a head say of the body.
+//! What the fields of a head say about the body.
 
 ghost use Rattle.std.specs.Prelude.{◌≡◌, ◌≤◌, length, map, All, codes};
 ghost use Rattle.httparse.specs.Spans.{header_bytes, IsHeaderWithin};
@@ -6,18 +6,18 @@ ghost use Rattle.desk_http.specs.Fields.{number_text, has_field, is_named, after
 
 use httparse::spans::HeaderSpan;
 
-/// What the fields say of the body's length.
+/// What the fields say about the body's length.
 #[derive(Clone, Copy)]
 pub enum BodyLength {
     /// No field gives it: there is no body.
     Unsaid,
-    /// All fields that give it give this one.
+    /// All fields that give it give this length.
     Bytes(u64),
-    /// A field gives no number, or two fields give different ones.
+    /// A field gives something other than a number, or two fields give different numbers.
     Bad,
 }
 
-/// The number that 1 to 18 digits are.
+/// The number that is written in 1 to 18 digits.
 pub fn number_of(text: &[u8]) -> Option<u64>
     ensures { result ≡ number_text text.now }
 {
@@ -78,7 +78,7 @@ fn said_after(said: BodyLength, name: &[u8], value: &[u8]) -> BodyLength
     }
 }
 
-/// What the fields say of the body's length.
+/// What the fields say about the body's length.
 pub fn body_length(head: &[u8], fields: &[HeaderSpan]) -> BodyLength
     requires { All (IsHeaderWithin (length head.now)) fields.now }
     ensures { result ≡ length_from unsaid (map (header_bytes head.now) fields.now) }

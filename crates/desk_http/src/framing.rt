@@ -14,20 +14,20 @@ use httparse::spans::{EMPTY_HEADER_SPAN, HeaderSpan, parse_request};
 /// What is awaited.
 #[derive(Clone, Copy)]
 pub enum Awaited {
-    /// A first byte of the head: line ends may stand before it.
+    /// The first byte of the head, which may come after line ends.
     Start,
     /// The rest of the head.
     Head,
-    /// The rest of the body: with it there are so many bytes, the head among them.
+    /// The rest of the body: with it there are this many bytes, including the head.
     Body(usize),
 }
 
 /// What the bytes that came so far begin with.
 #[derive(Clone, Copy)]
 pub enum Framing<'a> {
-    /// A part of a request: more bytes are awaited.
+    /// Part of a request: more bytes are awaited.
     Part(Awaited),
-    /// What is refused with this status.
+    /// Something that is refused with this status.
     Bad(Status),
     /// A request, and the bytes after it.
     Whole {
@@ -86,7 +86,7 @@ fn by_said<'a>(
     }
 }
 
-/// The bytes among which a head has to end.
+/// The bytes within which a head has to end.
 fn front_of(bytes: &[u8]) -> &[u8]
     ensures front { result.now ≡ take head_bytes bytes.now }
     ensures short { length bytes.now < head_bytes → result.now ≡ bytes.now }
@@ -100,7 +100,7 @@ fn front_of(bytes: &[u8]) -> &[u8]
     }
 }
 
-/// What a head with these parts and the bytes after it are.
+/// What a head with these parts and the bytes after it are read as.
 fn judge<'a>(
     front: &[u8],
     fields: &[HeaderSpan],
@@ -123,7 +123,7 @@ fn judge<'a>(
     }
 }
 
-/// What the bytes that came so far begin with. The head is read among the first 16,384 of them.
+/// What the bytes that came so far begin with. The head is read within the first 16,384 of them.
 pub fn frame(bytes: &[u8]) -> Framing<'_>
     ensures reading { IsFraming bytes.now (framed result) }
     ensures awaits { IfPart result (IsAwaited bytes.now) }

@@ -1,33 +1,32 @@
 //! The desk over HTTP (RFC 9110, RFC 9112): bytes in, bytes out, one request for each connection.
 //!
-//! - `frame` says what the bytes that came so far begin with: a request, a status that refuses
-//!   them, or a part of a request. What it reads is defined over the grammar of `httparse`
-//!   (`specs/Framings.antt`), and stays what it is when more bytes come.
+//! - `frame` says what the bytes that came so far begin with: a request, something that is refused
+//!   with a status, or part of a request. What it reads is defined over the grammar of `httparse`
+//!   (`specs/Framings.antt`) and, once it is settled, doesn't change when more bytes come.
 //! - `receive` reads from a reader until that is settled, whatever pieces the bytes come in, and no
-//!   further. It looks at the bytes anew only where a look can change something, so many small
-//!   pieces cost no more than their number. `send` writes bytes; where that fails, a front of them
-//!   was written.
+//!   further. It looks at the bytes again only if that can change something, so many small pieces
+//!   cost no more than their number. `send` writes bytes; if it fails, it wrote a prefix of them.
 //! - `RouteTable` is the table of routes, one row for each: its method, its pattern and what it
-//!   asks for. `RouteTable::route_of` looks a method and a path up by `matchit`, without percent
-//!   decoding. The same table stands in `specs/Routes.antt`.
-//! - `request` reads the request that bytes begin with: a command or a query of the desk, or why
+//!   asks for. `RouteTable::route_of` looks up a method and a path with `matchit`, without percent
+//!   decoding. The same table is in `specs/Routes.antt`.
+//! - `request` reads the request that bytes begin with: a command or a query for the desk, or why
 //!   there is none. What a method, a target and a body ask for is a function of them
 //!   (`specs/Requests.antt`), over the table of routes.
-//! - A reply to an outcome is its status, which `specs/OutcomeStatuses.antt` has by the
-//!   numbers of refusals, and as its body the JSON line of `desk_json`, or the notices or the table of
-//!   duties of `desk_report` if they are asked for (`specs/Replies.antt`).
-//! - `message_of` is what is written of a reply, in two parts: a long body isn't copied behind its
-//!   head. Three replies take no memory: that there was none for a request, or for the text of a
-//!   reply, and that the store failed.
+//! - The reply to an outcome has a status, which `specs/OutcomeStatuses.antt` gives by the numbers
+//!   of refusals. Its body is the JSON line of `desk_json` or, if they are asked for, the notices
+//!   or the table of duties of `desk_report` (`specs/Replies.antt`).
+//! - `message_of` returns what is written for a reply, in two parts: a long body isn't copied after
+//!   its head. Three replies need no memory: that there was none for a request, that there was none
+//!   for the text of a reply, and that the store failed.
 //! - `serve_one` reads a request, has the desk answer it and writes the reply
-//!   (`specs/Serving.antt`). What it replies depends on the bytes alone, however they were cut.
-//!   Nothing is written where no byte came. `serve_with` is the same for one connection of many,
-//!   which keep the table of routes.
+//!   (`specs/Serving.antt`). What it replies depends on the bytes, not on how they were cut.
+//!   Nothing is written if no byte came. `serve_with` does the same for one of many connections,
+//!   which share the table of routes.
 //!
 //! A head is limited to 16,384 bytes and 64 fields, a body to 8 MiB, a connection to 1,048,576
-//! reads (`limits`). Bodies in chunks are refused with 501, and `Expect` is ignored.
+//! reads (`limits`). A body with a transfer coding is refused with 501, and `Expect` is ignored.
 //!
-//! `read_command`, `reply_line` and `script` are the same requests and replies as lines.
+//! `read_command`, `reply_line` and `script` handle the same requests and replies as lines.
 #![tactic(auto)]
 
 mod answering;

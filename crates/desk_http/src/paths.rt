@@ -3,7 +3,7 @@
 ghost use Rattle.std.specs.Prelude.{◌≡◌};
 ghost use Rattle.desk_http.specs.Paths.{path_of, part_at, before_slash, after_slash};
 
-/// The path of a target: what stands before its first `?`.
+/// The path of a target: what comes before its first `?`.
 pub fn path_of(target: &str) -> &str
     ensures { result.now ≡ path_of target.now }
 {
@@ -31,7 +31,7 @@ fn after_slash(path: &str) -> &str
     }
 }
 
-/// The part of a path after so many of its slashes.
+/// The part of a path after this many slashes.
 pub fn part_at(path: &str, slashes: usize) -> &str
     ensures { result.now ≡ part_at slashes path.now }
 {

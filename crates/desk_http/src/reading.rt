@@ -18,7 +18,7 @@ use desk_model::{Command, Query};
 use std::alloc::{AllocError, Global};
 use std::str::from_utf8;
 
-/// Bytes as the text that they are.
+/// Bytes as text, if they are UTF-8.
 fn text_of(bytes: &[u8]) -> Option<&str>
     ensures { MatchOption result (is_utf8 bytes.now ≡ false)
         (λ text. (is_utf8 bytes.now ≡ true) × (text.now ≡ bytes.now)) }

@@ -15,10 +15,10 @@ use std::alloc::Global;
 use std::io::Read;
 use thiserror::Error;
 
-/// The bytes that are read at once.
+/// How many bytes are read at once, at most.
 const PIECE_BYTES: usize = 16_384;
 
-/// Why a connection got no reply, or not the whole of it.
+/// Why a connection got no reply, or not all of it.
 #[derive(Clone, Copy, Debug, Drop, PartialEq, Eq, Error)]
 pub enum ServeFault {
     #[error("cannot read a request")]
@@ -61,7 +61,7 @@ fn are_line_ends(bytes: &[u8]) -> bool
     bytes.iter().all(|byte| is_line_byte(*byte))
 }
 
-/// Whether the bytes are to be read anew with a piece that came.
+/// Whether the bytes have to be looked at again after a piece came.
 fn is_due(awaited: Awaited, came: &[u8], count: usize) -> bool
     ensures { result ≡ false → IsUndue came.now count awaited }
 {
@@ -72,7 +72,7 @@ fn is_due(awaited: Awaited, came: &[u8], count: usize) -> bool
     }
 }
 
-/// What is awaited after a piece came, if anything is.
+/// What is awaited after a piece came, if anything.
 fn awaited_after(awaited: Awaited, came: &[u8], bytes: &[u8]) -> Option<Awaited>
     ensures { (front : List ℕ) → bytes.now ≡ front ++ came.now → IsAwaited front awaited
         → MatchOption result (IsSettled bytes.now) (IsAwaited bytes.now) }
@@ -119,7 +119,7 @@ pub fn receive<R: Read>(alloc: Global, reader: &mut R) -> Result<Received, Serve
     Err(ServeFault::Turns)
 }
 
-/// What was received where the reader ended.
+/// What was received when the reader ended.
 fn ended(bytes: Vec<u8>) -> Received
     ensures { IsReceived bytes.items result }
 {

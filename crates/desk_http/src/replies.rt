@@ -13,7 +13,7 @@ use desk_model::{Answer, Fault, Outcome};
 use desk_report::{duties_csv, notices};
 use std::alloc::{AllocError, Global};
 
-/// What is written of a reply: its bytes in two parts, or one of those that take no memory.
+/// What is written for a reply: its bytes in two parts, or one of the replies that need no memory.
 #[derive(Drop)]
 pub enum Message {
     Made(Status, Vec<u8>, Vec<u8>),
@@ -22,7 +22,7 @@ pub enum Message {
     NoStore,
 }
 
-/// What an outcome is written as.
+/// How an outcome is written.
 #[derive(Drop)]
 struct Content {
     media_type: &'static str,
@@ -36,10 +36,10 @@ struct Parts {
     rest: Vec<u8>,
 }
 
-/// The bytes of the longest body that is copied behind its head, to be written with it at once.
+/// How many bytes a body may have to be copied after its head, so that one write takes both.
 const COPIED_BYTES: usize = 65_536;
 
-/// The lines before a body of so many bytes.
+/// The lines before a body of this many bytes.
 #[tactic(auto, unfolding(crate::specs::Replies::head_bytes))]
 fn head(
     alloc: Global,
@@ -70,7 +70,7 @@ fn reply_with(
     Ok(text)
 }
 
-/// A reply with a status and a content, of which a short body alone is copied.
+/// A reply with a status and a content. Only a short body is copied.
 #[tactic(auto, unfolding(crate::specs::Replies::reply_bytes))]
 fn in_parts(alloc: Global, status: Status, content: Content) -> Result<Parts, AllocError>
     ensures { IfOk result (λ parts. parts.front.items ++ parts.rest.items
@@ -87,8 +87,8 @@ fn in_parts(alloc: Global, status: Status, content: Content) -> Result<Parts, Al
     Ok(Parts { front, rest: body })
 }
 
-/// The media type and the body of an outcome: a bill and rows of duties as the texts that are asked
-/// for, all else as its line of JSON.
+/// The media type and the body of an outcome: notices or a table of duties if they are asked for,
+/// and anything else as its line of JSON.
 fn content_of(alloc: Global, outcome: &Outcome, shape: Shape) -> Result<Content, AllocError>
     ensures { IfOk result (λ c. (c.media_type.now, c.body.items) ≡ content_of outcome.now shape) }
 {
@@ -107,7 +107,7 @@ fn content_of(alloc: Global, outcome: &Outcome, shape: Shape) -> Result<Content,
     Ok(Content { media_type, body })
 }
 
-/// The reply to an outcome, in two parts: its status, and how it is written in a shape.
+/// The reply to an outcome that is written in a shape, in two parts.
 fn reply(alloc: Global, outcome: &Outcome, shape: Shape) -> Result<Parts, AllocError>
     ensures { IfOk result (λ parts. parts.front.items ++ parts.rest.items
         ≡ reply_bytes (told_of outcome.now shape)) }
@@ -116,21 +116,21 @@ fn reply(alloc: Global, outcome: &Outcome, shape: Shape) -> Result<Parts, AllocE
     in_parts(alloc, status_of(outcome), content)
 }
 
-/// The reply where no memory was left for a request.
+/// The reply if no memory was left for a request.
 pub fn no_memory() -> &'static str
     ensures { result.now ≡ reply_bytes no_memory }
 {
     "HTTP/1.1 503 Service Unavailable\r\nContent-Type: application/json\r\nContent-Length: 18\r\nConnection: close\r\n\r\n{\"fault\":\"memory\"}"
 }
 
-/// The reply where no memory was left for its text alone.
+/// The reply if no memory was left only for its text.
 pub fn no_text() -> &'static str
     ensures { result.now ≡ reply_bytes no_text }
 {
     "HTTP/1.1 503 Service Unavailable\r\nContent-Type: application/json\r\nContent-Length: 17\r\nConnection: close\r\n\r\n{\"fault\":\"reply\"}"
 }
 
-/// The reply where the store failed.
+/// The reply if the store failed.
 pub fn no_store() -> &'static str
     ensures { result.now ≡ reply_bytes no_store }
 {
@@ -155,7 +155,7 @@ fn unasked(alloc: Global, status: Status, body: &str) -> Message
     }
 }
 
-/// The message where no memory is left for the reply to an outcome.
+/// The message if no memory is left for the reply to an outcome.
 fn short_message(is_get: bool) -> Message
     ensures { IsMessage (if is_get then no_memory else no_text) result }
 {

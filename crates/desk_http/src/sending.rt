@@ -8,7 +8,7 @@ use crate::receiving::ServeFault;
 use desk_script::write_bytes;
 use std::io::Write;
 
-/// Writes bytes. After a fault a front of them was written.
+/// Writes bytes. After a fault a prefix of them was written.
 fn write_whole<W: Write>(writer: &mut W, bytes: &[u8]) -> Result<(), ServeFault>
     ensures ok { OnOk result (Appends (W.contents writer.old) (W.contents writer.new) bytes.now) }
     ensures err { OnErr result
@@ -21,7 +21,7 @@ fn write_whole<W: Write>(writer: &mut W, bytes: &[u8]) -> Result<(), ServeFault>
     }
 }
 
-/// Writes bytes and flushes the writer. After a fault a front of the bytes was written.
+/// Writes bytes and flushes the writer. After a fault a prefix of the bytes was written.
 pub fn send<W: Write>(writer: &mut W, bytes: &[u8]) -> Result<(), ServeFault>
     ensures ok { OnOk result (Appends (W.contents writer.old) (W.contents writer.new) bytes.now) }
     ensures err { OnErr result
@@ -35,7 +35,8 @@ pub fn send<W: Write>(writer: &mut W, bytes: &[u8]) -> Result<(), ServeFault>
     }
 }
 
-/// Writes bytes and others behind them, as `send` does: after a fault a front of both was written.
+/// Writes bytes and then others, as `send` does: after a fault a prefix of both together was
+/// written.
 pub(crate) fn send_both<W: Write>(
     writer: &mut W,
     front: &[u8],

@@ -28,7 +28,7 @@ pub enum Served {
     Nothing,
 }
 
-/// Writes a reply, and gives its status.
+/// Writes a reply, and returns its status.
 fn write_reply<W: Write>(alloc: Global, writer: &mut W, reply: &Reply) -> Result<Status, ServeFault>
     ensures ok { IfOk result (λ status. (told : Told) × IsTold reply.now told × (status ≡ told.0)
         × Appends (W.contents writer.old) (W.contents writer.new) (reply_bytes told)) }
@@ -57,14 +57,14 @@ fn write_reply<W: Write>(alloc: Global, writer: &mut W, reply: &Reply) -> Result
 }
 
 /// Serves the one request of a connection: reads it, has the desk answer it, and writes the reply.
-/// The table of routes is that of the connections before.
+/// The table of routes is the one that earlier connections used.
 ///
-/// What is replied is said by the bytes alone, however they come in pieces; 400 where some came and
-/// they end in a part of a request; nothing where none came. A command is applied once, or not at
-/// all where the reply is 503 with `memory`. After a fault of the reader, or too many reads,
-/// nothing was written and the desk is as it was; after one of the writer a front of the reply was
-/// written, and an accepted command stands. The reader isn't read past the piece with which the
-/// request is whole.
+/// The reply depends on the bytes, not on the pieces in which they come: it is 400 if they end
+/// within a request, and there is none if no byte came. A command is applied once, or not at all if
+/// the reply is 503 with `memory`. After a fault of the reader, or too many reads, nothing was
+/// written and the desk is as it was; after a fault of the writer a prefix of the reply was
+/// written, and an accepted command stays applied. The reader isn't read past the piece that
+/// completes the request.
 pub fn serve_with<D: Desk, R: Read, W: Write>(
     alloc: Global,
     routes: &mut RouteTable,
@@ -90,7 +90,7 @@ pub fn serve_with<D: Desk, R: Read, W: Write>(
     Ok(Served::Replied(written?))
 }
 
-/// Serves the one request of a connection as `serve_with` does, with a table of routes of its own.
+/// Serves the one request of a connection as `serve_with` does, with its own table of routes.
 pub fn serve_one<D: Desk, R: Read, W: Write>(
     alloc: Global,
     desk: &mut D,

@@ -18,7 +18,7 @@ pub enum Status {
 }
 
 impl Status {
-    /// The number and the reason of the status, as a reply's first line has them.
+    /// The number and the reason of the status, as in the first line of a reply.
     pub const fn line(self) -> &'static str
         ensures { result.now ≡ status_line self }
     {

@@ -1,4 +1,4 @@
-//! Which outcome has which status.
+//! The status of each outcome.
 
 ghost use Rattle.std.specs.Prelude.{◌≡◌};
 ghost use Rattle.desk_http.specs.OutcomeStatuses.{is_absent, is_conflict, refusal_status, outcome_status};
@@ -6,15 +6,14 @@ ghost use Rattle.desk_http.specs.OutcomeStatuses.{is_absent, is_conflict, refusa
 use crate::status::Status;
 use desk_model::{Answer, Fault, Outcome};
 
-/// Whether a refusal with this number is for what isn't there: a document, a package, a release, a
-/// duty.
+/// Whether a refusal with this number says that a document, package, release or duty doesn't exist.
 fn is_absent(number: u8) -> bool
     ensures { result ≡ is_absent number }
 {
     number == 4 || number == 5 || number == 12 || number == 23
 }
 
-/// Whether a refusal with this number is for what the desk holds already.
+/// Whether a refusal with this number says that what the desk holds doesn't allow the request.
 fn is_conflict(number: u8) -> bool
     ensures { result ≡ is_conflict number }
 {

@@ -1,4 +1,4 @@
-//! The table of the routes.
+//! The table of routes.
 
 ghost use Rattle.std.specs.Prelude.{◌≡◌, [], IfOk, unwrap_or};
 ghost use Rattle.desk_http.specs.Routes.{desk_routes, method_of, found_at, route_of, with_method, with_rows};
@@ -6,14 +6,14 @@ ghost use Rattle.desk_http.specs.Routes.{desk_routes, method_of, found_at, route
 use matchit::{InsertError, Router};
 use std::alloc::{AllocError, Global};
 
-/// What a path leads to: by POST a request to be read from the body, by GET an answer.
+/// What a path leads to: with POST a request in the body, with GET an answer.
 #[derive(Clone, Copy)]
 pub enum Route {
     Post(Posted),
     Get(Shown),
 }
 
-/// What the body is that is posted.
+/// What a posted body is.
 #[derive(Clone, Copy)]
 pub enum Posted {
     /// A command or a query as JSON.
@@ -40,7 +40,7 @@ pub enum Shown {
     Changes,
 }
 
-/// A path, with a name in braces for each segment that may be any, and what it leads to.
+/// A path, with a name in braces for each segment that may be anything, and what it leads to.
 struct RouteRow {
     path: &'static str,
     route: Route,
@@ -107,7 +107,7 @@ fn router_of(alloc: Global, rows: &[RouteRow]) -> Result<Router<Route>, InsertEr
     Ok(routes)
 }
 
-// A row that can't be added for another cause than memory is none of this table.
+// Each row of this table can be added, so only memory can run out.
 fn routes(alloc: Global) -> Result<Router<Route>, AllocError>
     ensures { IfOk result (λ r. r ≡ desk_routes) }
 {
@@ -118,7 +118,7 @@ fn routes(alloc: Global) -> Result<Router<Route>, AllocError>
 }
 
 impl Route {
-    /// The method that a route wants.
+    /// The method of a route.
     fn method(self) -> &'static str
         ensures { result.now ≡ method_of self }
     {
@@ -139,7 +139,7 @@ fn found_at(routes: &Router<Route>, path: &str) -> Option<Route>
     }
 }
 
-// What was found, where the method is the one that it wants.
+// What was found, if this is its method.
 fn with_method(method: &[u8], found: Option<Route>) -> Option<Route>
     ensures { result ≡ with_method method.now found }
 {
@@ -151,8 +151,8 @@ fn with_method(method: &[u8], found: Option<Route>) -> Option<Route>
     }
 }
 
-/// The table of the routes. It is made when a path is looked up for the first time, and kept: to
-/// make it takes hundreds of times as long as to look a path up.
+/// The table of routes. It is made when a path is looked up for the first time, and kept: making it
+/// takes hundreds of times as long as looking up a path.
 #[derive(Drop)]
 pub struct RouteTable {
     routes: Option<Router<Route>>,
@@ -160,7 +160,7 @@ pub struct RouteTable {
 }
 
 impl RouteTable {
-    /// A table that isn't made yet.
+    /// A table that hasn't been made yet.
     pub const fn new() -> RouteTable {
         RouteTable { routes: None }
     }

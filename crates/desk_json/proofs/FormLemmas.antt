@@ -35,7 +35,7 @@ command_named word d = chosen _ form.Catalogue _ d _ (chosen _ form.Import _ d _
 pub query_named : (word : List ℕ) (d : Data) → request_by (named_in word queries) d ≡ query_request word d
 query_named word d = chosen _ form.Duties _ d _ (chosen _ form.Totals _ d _ (chosen _ form.Changes _ d _ (chosen _ form.Findings _ d _ (chosen _ form.Release _ d _ (chosen _ form.Alternatives _ d _ (chosen _ form.Cheapest _ d _ (chosen _ form.Releases _ d _ (chosen _ form.Documents _ d _ (chosen _ form.OpenDuties _ d _ (chosen _ form.Wanting _ d _ refl))))))))))
 
--- the name at a place is the word, or the names behind it decide
+-- the name at a place is the word, or the names after it decide
 pub named_here : (word : List ℕ) (names : List Name) (place : ℕ) (name : Name) → place < length names
     → bytes_eq word (get_or names place name).word.now ≡ true → form_named word (drop place names) ≡ Some (get_or names place name).form
 named_here word names place name low same = rw (drop-cons names place name, same) refl

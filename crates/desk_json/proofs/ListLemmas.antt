@@ -10,7 +10,7 @@ use Rattle.serde_json.specs.declared.value.Value.TheVariants.{Array}
 use Rattle.serde_json.proofs.Views.{view-Array}
 
 module _ {X : Type 0} (f : X → Data) (xs : List X) (i : ℕ) where
-  -- one value more
+  -- one more value
   pub value_more : (x : X) (before after : List Value) (v : Value) → i < length xs → x ≡ get_or xs i x → map view before ≡ map f (take i xs)
       → view v ≡ f x → after ≡ before ++ v ∷ [] → map view after ≡ map f (take (i + 1) xs)
   value_more x before after v inside at so_far made pushed =

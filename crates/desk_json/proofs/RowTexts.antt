@@ -26,7 +26,7 @@ reply_text d ds =
 joined : (a b c d : List ℕ) → ((a ++ b) ++ c) ++ d ≡ a ++ (b ++ (c ++ d))
 joined a b c d = append_assoc (a ++ b) c d ∙ append_assoc a b (c ++ d)
 
--- what the text of such a reply is put together from
+-- what the text of such a reply is made of
 pub reply_by_rows : {R : Type 0} (json : R → Data) (d : Data) (rows : List R) (front first opened filled text : List ℕ)
     → front ≡ codes "{\"rows\":[" → first ≡ compact_text d → opened ≡ front ++ first
     → filled ≡ opened ++ flat_map (λ row. behind_a_comma (json row)) rows → text ≡ filled ++ codes "]}"

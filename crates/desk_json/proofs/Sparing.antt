@@ -19,7 +19,7 @@ use Rattle.desk_json.specs.declared.request.Request.{Request}
 use Rattle.desk_json.specs.declared.request.Request.TheVariants.{BadCommand}
 use Rattle.desk_json.proofs.FormLemmas.{commands, queries, named_in, command_named, query_named}
 
--- ---- two objects in which the same is found give one request
+-- ---- two objects in which the same is found are one request
 
 by_words : (f g : List ℕ → Request) (other more : Request) (word : Option (List ℕ)) → ((w : List ℕ) → f w ≡ g w) → other ≡ more
     → unwrap_or (option_map f word) other ≡ unwrap_or (option_map g word) more
@@ -130,7 +130,7 @@ texts_spared (string s) = refl
 texts_spared (array ds) = listed (are_texts ds) ds refl
 texts_spared (object ms) = refl
 
--- looking into a member that may be there
+-- a look into a member that may be there
 into : {X : Type 0} (f : Data → Option X) (d : Option Data) → ((d : Data) → f (spared d) ≡ f d) → option_and_then f (option_map spared d) ≡ option_and_then f d
 into f None each = refl
 into f (Some d) each = each d
@@ -146,7 +146,7 @@ request_spared ms =
     (λ key. ap (λ n. option_and_then if_small (option_and_then as_u64 n)) (ap (option_and_then as_number) (get_spared key ms) ∙ into as_number (get_member key ms) number_spared))
     (λ key. twice texts as_array (get_member key (spared_members ms)) ∙ ap (option_and_then (λ d. option_and_then texts (as_array d))) (get_spared key ms) ∙ into (λ d. option_and_then texts (as_array d)) (get_member key ms) texts_spared ∙ sym (twice texts as_array (get_member key ms)))
 
--- ---- what has more members than any request is none
+-- ---- what has more members than any request isn't one
 
 module _ (d : Data) (many : 5 < size d) where
   other : (n : ℕ) → n ≤ 5 → (size d == n) ≡ false

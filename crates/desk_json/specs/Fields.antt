@@ -24,11 +24,11 @@ if_small n = if nat_lt n (2 ^ 63) then Some n else None
 abbrev pub number_in : List ℕ → Data → Option ℕ
 number_in key d = option_and_then if_small (option_and_then as_u64 (option_and_then as_number (get key d)))
 
--- the profile of operators whose number a member is
+-- the profile of operators whose number is a member's value
 abbrev pub profile_in : List ℕ → Data → Option Profile
 profile_in key d = option_and_then profile_numbered (number_in key d)
 
--- the texts of a list that holds nothing else
+-- the texts of a list that has nothing else
 abbrev pub texts : Items → Option (List (List ℕ))
 texts no_items = Some []
 texts (item d ds) = option_and_then (λ text. option_map (λ more. text ∷ more) (texts ds)) (as_str d)

@@ -1,4 +1,4 @@
--- Rows have no number that is no integer.
+-- All numbers of rows are integers.
 use Rattle.std.proofs.Common.{◌≡◌, ℕ, List, [], ◌∷◌, ◌++◌, Option, Some, None, false, refl}
 use Rattle.std.specs.Prelude.{map}
 use Rattle.serde_json.specs.Data.{string}

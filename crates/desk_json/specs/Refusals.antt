@@ -1,4 +1,4 @@
--- The values of a refusal, in order; of a fault its number, and then its own values.
+-- The values of a refusal, in order; for a fault its number, and then its own values.
 use Rattle.std.specs.Prelude.{ℕ, List, [], ◌∷◌}
 use Rattle.serde_json.specs.Data.{Data, string}
 use Rattle.desk_json.specs.Parts.{whole}
@@ -23,7 +23,7 @@ expression_fault_place (expression.TooDeep place) = place
 expression_fault_place (expression.TooLong place) = place
 expression_fault_place (expression.TooManyTerms place) = place
 
--- the line, 0 where the fault has none, and the tag of the field that is missing or repeated
+-- the line, or 0 if the fault has none, and the tag of the field that is missing or repeated
 abbrev pub document_fault_values : DocumentFault → List Data
 document_fault_values document.NotUtf8 = whole 0 ∷ []
 document_fault_values (document.NoColon line) = whole line ∷ []
@@ -38,7 +38,7 @@ document_fault_values (document.BadRelationship line) = whole line ∷ []
 document_fault_values document.TooLarge = whole 0 ∷ []
 document_fault_values (document.TooManyElements line) = whole line ∷ []
 
--- the part and the place in it; none where the text as a whole is none
+-- the part and the place in it; no values if the text as a whole isn't a catalogue
 abbrev pub catalogue_fault_values : CatalogueFault → List Data
 catalogue_fault_values catalogue.NotToml = []
 catalogue_fault_values (catalogue.Missing part index) = string (part_name part) ∷ whole index ∷ []

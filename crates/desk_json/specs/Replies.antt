@@ -18,7 +18,7 @@ use Rattle.desk_model.specs.declared.refusal.Refusal.{Refusal}
 abbrev pub revision_reply : ℕ → Data
 revision_reply n = object (member (codes "revision") (whole n) no_members)
 
--- a document is new where this import stored it
+-- a document is new if this import stored it
 abbrev pub document_reply : ℕ → Bool → Data
 document_reply n new = object (member (codes "document") (whole n) (member (codes "new") (boolean new) no_members))
 
@@ -81,6 +81,6 @@ reply_of (outcome.Failed fault) = fault_reply (fault_word fault)
 abbrev pub reply_text : Outcome → List ℕ
 reply_text outcome = compact_text (reply_of outcome)
 
--- the text of the reply to what is no request
+-- the text of the reply to anything that isn't a request
 abbrev pub bad_command_text : List ℕ
 bad_command_text = compact_text (fault_reply (codes "command"))

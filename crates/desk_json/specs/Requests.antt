@@ -11,8 +11,7 @@ use Rattle.desk_base.specs.declared.profile.Profile.TheVariants.{Capitals}
 use Rattle.desk_json.specs.declared.request.Request.{Request}
 use Rattle.desk_json.specs.declared.request.Request.TheVariants.{Act, Ask, BadCommand}
 
--- a request of an object with so many members. Each key stands once in an object, so where that many keys are found in it, it has
--- no others.
+-- a request from an object with this many members. Each key is in an object once, so if that many keys are found in it, it has no others.
 abbrev pub with_members : ℕ → Data → Request → Request
 with_members n d request = if size d == n then request else BadCommand
 
@@ -31,7 +30,7 @@ abbrev pub catalogue_request : Data → Request
 catalogue_request d = with_members 2 d
     (with_text (codes "text") d (λ text. Act (command.LoadCatalogue text)))
 
--- the profile of an import: capitals where it has no member for it, else the one whose number the member is
+-- the profile of an import: capitals if it has no member for it, or else the one whose number the member is
 abbrev pub import_profile : Data → Option Profile
 import_profile d = if size d == 2 then Some Capitals else if size d == 3 then profile_in (codes "profile") d else None
 
@@ -138,7 +137,7 @@ abbrev pub findings_request : Data → Request
 findings_request d = with_members 2 d
     (with_number (codes "document") d (λ document. Ask (query.Findings document)))
 
--- the forms that the words of the ledger behind `do` name
+-- the form that a word of the ledger names as the value of `do`
 abbrev pub ledger_request : List ℕ → Data → Request
 ledger_request word d =
     if bytes_eq word (codes "meet") then meet_request d
@@ -148,7 +147,7 @@ ledger_request word d =
     else if bytes_eq word (codes "close") then close_request d
     else BadCommand
 
--- the form that the word behind `do` names
+-- the form that the value of `do` names
 abbrev pub command_request : List ℕ → Data → Request
 command_request word d =
     if bytes_eq word (codes "catalogue") then catalogue_request d
@@ -193,7 +192,7 @@ abbrev pub wanting_request : Data → Request
 wanting_request d = with_members 2 d
     (with_text (codes "release") d (λ release. Ask (query.Wanting release)))
 
--- the form that the word behind `ask` names
+-- the form that the value of `ask` names
 abbrev pub query_request : List ℕ → Data → Request
 query_request word d =
     if bytes_eq word (codes "duties") then duties_request d
@@ -209,12 +208,12 @@ query_request word d =
     else if bytes_eq word (codes "wanting") then wanting_request d
     else BadCommand
 
--- the request that a value is; one with both `do` and `ask` has a member too many
+-- the request that a value is; an object with both `do` and `ask` has one member too many
 abbrev pub request_of : Data → Request
 request_of d = unwrap_or (option_map (λ word. command_request word d) (text_in (codes "do") d))
     (with_text (codes "ask") d (λ word. query_request word d))
 
--- the value that bytes are the JSON text of: UTF-8, and read by the grammar with nothing left
+-- the value whose JSON text the bytes are: UTF-8, and read by the grammar with nothing left
 abbrev pub value_of : List ℕ → Option Data
 value_of bytes = if is_utf8 bytes then read bytes else None
 

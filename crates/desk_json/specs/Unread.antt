@@ -1,11 +1,11 @@
--- What a reader of members gives, or why it gives nothing.
+-- What a reader of members returns, or why it returns nothing.
 use Rattle.std.specs.Prelude.{◌≡◌, ⊤, Option, Some, None, Result, Ok, Err}
 use Rattle.desk_json.specs.declared.fields.Unread.{Unread}
 use Rattle.desk_json.specs.declared.fields.Unread.TheVariants as why
 use Rattle.desk_json.specs.declared.request.Request.{Request}
 use Rattle.desk_json.specs.declared.request.Request.TheVariants.{BadCommand}
 
--- the request, or none where it is none; without memory nothing is said
+-- the request, or none if it isn't one; if there is no memory, this says nothing
 abbrev pub IsRead : Request → Result Request Unread → Type 0
 IsRead request (Ok read) = read ≡ request
 IsRead request (Err why.BadCommand) = request ≡ BadCommand

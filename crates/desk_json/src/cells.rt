@@ -45,7 +45,7 @@ fn cell_value(alloc: Global, cell: &Cell<'_>) -> Result<Value, AllocError>
     }
 }
 
-/// A list of such values.
+/// A list of these values.
 pub(crate) fn list(alloc: Global, cells: &[Cell<'_>]) -> Result<Value, AllocError>
     ensures { IfOk result (λ v. view v ≡ list (map cell_data cells.now)) }
 {

@@ -16,7 +16,7 @@ pub(crate) fn size_of(object: &Object) -> usize
     object.len()
 }
 
-/// The whole number of a member.
+/// The whole number that is a member's value.
 fn number_at(object: &Object, key: &str) -> Option<u64>
     ensures { result ≡ number_in key.now (seen object.now) }
 {
@@ -26,17 +26,17 @@ fn number_at(object: &Object, key: &str) -> Option<u64>
     }
 }
 
-/// The profile of operators whose number a member is.
+/// The profile of operators whose number is a member's value.
 pub(crate) fn profile_at(object: &Object, key: &str) -> Option<Profile>
     ensures { result ≡ profile_in key.now (seen object.now) }
 {
     Profile::numbered(number_at(object, key)?)
 }
 
-/// Why a value gives no request.
+/// Why a value isn't read as a request.
 #[derive(Clone, Copy, Drop)]
 pub(crate) enum Unread {
-    /// It is none.
+    /// It isn't one.
     BadCommand,
     /// There is no memory for it.
     Memory,
@@ -53,7 +53,7 @@ impl From<AllocError> for Unread {
     }
 }
 
-/// Refuses an object that hasn't so many members.
+/// Refuses an object that doesn't have this many members.
 pub(crate) fn require_members(object: &Object, count: usize) -> Result<(), Unread>
     ensures right { IfOk result (λ _. (size (seen object.now) == count) ≡ true) }
     ensures wrong { IfErr result (λ why. (size (seen object.now) == count) ≡ false) }
@@ -66,7 +66,7 @@ pub(crate) fn require_members(object: &Object, count: usize) -> Result<(), Unrea
     }
 }
 
-/// A copy of the text of a member.
+/// A copy of the text that is a member's value.
 pub(crate) fn wanted_text(alloc: Global, object: &Object, key: &str) -> Result<Text, Unread>
     ensures { IsFound (text_in key.now (seen object.now)) result }
 {
@@ -76,7 +76,7 @@ pub(crate) fn wanted_text(alloc: Global, object: &Object, key: &str) -> Result<T
     }
 }
 
-/// The whole number of a member.
+/// The whole number that is a member's value.
 pub(crate) fn wanted_number(object: &Object, key: &str) -> Result<u64, Unread>
     ensures found { IsFound (number_in key.now (seen object.now)) result }
     ensures why { IfErr result (λ why. why ≡ Unread.BadCommand) }
@@ -84,7 +84,7 @@ pub(crate) fn wanted_number(object: &Object, key: &str) -> Result<u64, Unread>
     number_at(object, key).ok_or(Unread::BadCommand)
 }
 
-/// The texts of a member that is a list of texts, which is taken out of the object.
+/// The texts of a member that is a list of texts. The member is taken out of the object.
 pub(crate) fn wanted_texts(object: &mut Object, key: &str) -> Result<TextList, Unread>
     ensures found { IsFound (texts_in key.now (seen object.old)) result }
     ensures why { IfErr result (λ why. why ≡ Unread.BadCommand) }

@@ -40,7 +40,7 @@ pub(crate) struct Name {
     pub(crate) form: Form,
 }
 
-/// The words behind `do`.
+/// The words that `do` may have.
 pub(crate) const COMMANDS: [Name; 14] = [
     Name {
         word: "catalogue",
@@ -100,7 +100,7 @@ pub(crate) const COMMANDS: [Name; 14] = [
     },
 ];
 
-/// The words behind `ask`.
+/// The words that `ask` may have.
 pub(crate) const QUERIES: [Name; 11] = [
     Name {
         word: "duties",

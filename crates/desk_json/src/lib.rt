@@ -1,4 +1,4 @@
-//! Requests and replies of the desk as JSON (RFC 8259), which is what `serde_json` reads and writes.
+//! Requests and replies of the desk as JSON (RFC 8259), as `serde_json` reads and writes it.
 //!
 //! A request is one JSON object with exactly the members of its form: `do` and the name of a
 //! command, or `ask` and the name of a query, and the values that it needs.
@@ -30,17 +30,17 @@
 //! | `wanting` | `release` |
 //!
 //! `document` and `duty` are whole numbers from 0 to 9,223,372,036,854,775,807, `profile` is 1 or 2
-//! (`desk_base::Profile`), and 1 where it is absent, `terms` is a list of texts, the others are
-//! texts. Anything else is `Request::BadCommand`. What a text, a day or a name may be is not looked
-//! at here: the desk decides that.
+//! (`desk_base::Profile`), or 1 if it is absent, `terms` is a list of texts, the others are texts.
+//! Anything else is `Request::BadCommand`. Which texts, days and names are allowed isn't checked
+//! here: the desk decides that.
 //!
-//! - `read_command` gives the request that the bytes are, which is a function of the bytes:
+//! - `read_command` returns the request that the bytes are, which is a function of the bytes:
 //!   `request_in` of `specs/Requests.antt`.
-//! - `reply_line` gives the text of the reply to an outcome: `reply_text` of `specs/Replies.antt`.
-//!   It is compact, the keys of each object stand in the order of their bytes, and it has no line
-//!   end.
+//! - `reply_line` returns the text of the reply to an outcome: `reply_text` of
+//!   `specs/Replies.antt`. It is compact, the keys of each object are sorted by their bytes, and it
+//!   has no line end.
 //!
-//! Want of memory is the only error of both.
+//! The only error of both is lack of memory.
 #![tactic(auto)]
 
 mod cells;

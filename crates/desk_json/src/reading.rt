@@ -25,7 +25,7 @@ fn read_catalogue(alloc: Global, object: &Object) -> Result<Request, Unread>
     Ok(Request::Act(Command::LoadCatalogue { text }))
 }
 
-/// The profile of an import: capitals where it names none.
+/// The profile of an import: capitals if it names none.
 fn import_profile(object: &Object) -> Option<Profile>
     ensures { result ≡ import_profile (seen object.now) }
 {
@@ -104,7 +104,7 @@ fn read_meet(alloc: Global, object: &Object) -> Result<Request, Unread>
     Ok(Request::Act(Command::Meet { duty, day, text }))
 }
 
-/// The last day of a waiver, where the request has room for one.
+/// The last day of a waiver, if the request has one more member for it.
 fn waive_until(alloc: Global, object: &Object) -> Result<Option<Text>, Unread>
     ensures { IsFound (waive_until (seen object.now)) result }
 {
@@ -282,7 +282,7 @@ fn read_bare(object: &Object, query: Query) -> Result<Request, Unread>
     Ok(Request::Ask(query))
 }
 
-/// The form that the word behind `do` names, or else the one behind `ask`.
+/// The form that the word of `do` names, or else that of `ask`.
 fn form_of(object: &Object) -> Option<Form>
     ensures { request_by result (seen object.now) ≡ request_of (seen object.now) }
 {
@@ -337,11 +337,11 @@ fn read_request(alloc: Global, object: &mut Object) -> Result<Request, AllocErro
     }
 }
 
-/// How many members a request has at most.
+/// The most members that a request has.
 const MEMBERS: usize = 5;
 
-/// The request that the bytes are, or `BadCommand` where they are none. What no request needs of
-/// them is passed over (`desk_json_object`).
+/// The request that the bytes are, or `BadCommand` if they aren't one. What no request needs of
+/// them is skipped (`desk_json_object`).
 pub fn read_command(alloc: Global, bytes: &[u8]) -> Result<Request, AllocError>
     ensures { IfOk result (λ request. request ≡ request_in bytes.now) }
 {

@@ -130,14 +130,14 @@ pub fn reply_line(alloc: Global, outcome: &Outcome) -> Result<String, AllocError
     }
 }
 
-/// The reply to what is no request, without a line end.
+/// The reply to anything that isn't a request, without a line end.
 pub fn bad_command_line() -> &'static str
     ensures { result.now ≡ bad_command_text }
 {
     "{\"fault\":\"command\"}"
 }
 
-/// The reply to a request for which memory was wanting, without a line end.
+/// The reply to a request for which no memory was left, without a line end.
 pub fn memory_line() -> &'static str
     ensures { result.now ≡ reply_text (Failed Memory) }
 {

@@ -2,13 +2,13 @@
 
 use desk_model::{Command, Query};
 
-/// What a text asks of the desk.
+/// What a text asks the desk to do.
 #[derive(Drop)]
 pub enum Request {
     /// The command is to be applied.
     Act(Command),
     /// The query is to be answered.
     Ask(Query),
-    /// The text is no request.
+    /// The text isn't a request.
     BadCommand,
 }

@@ -1,4 +1,4 @@
-//! The text of a reply that has rows. Each row is printed by itself, so a reply takes little more
+//! The text of a reply that has rows. Each row is printed separately, so a reply takes little more
 //! memory than its text.
 
 ghost use Rattle.std.specs.Prelude.{◌≡◌, ◌∷◌, ◌++◌, [], List, false, IfOk, OnOk, codes, map, string_bytes};
@@ -12,7 +12,7 @@ ghost use Rattle.desk_json.specs.Rows.{behind_a_comma};
 use serde_json::Value;
 use std::alloc::{AllocError, Global};
 
-/// What a reply has a row for.
+/// What a reply may have as a row.
 pub(crate) trait Row {
     ghost json: { Self → Data };
 
@@ -20,7 +20,7 @@ pub(crate) trait Row {
     fn value(&self, alloc: Global) -> Result<Value, AllocError>
         ensures { IfOk result (λ v. view v ≡ json self.now) };
 
-    // (the text of a number that is no integer is in no clause of `serde_json`)
+    // (no clause of `serde_json` says how a number that isn't an integer is printed)
     ghost has_integers: { (row : Self) → has_float (json row) ≡ false };
 }
 
@@ -42,15 +42,15 @@ pub(crate) fn row_text<R: Row>(alloc: Global, row: &R) -> Result<String, AllocEr
     value_text(alloc, value)
 }
 
-/// About the least that a row takes.
+/// About the fewest bytes that a row takes.
 const ROW_BYTES: usize = 32;
 
-/// Adds rows behind another one.
+/// Adds rows after another one.
 fn add_rows<R: Row>(alloc: Global, text: &mut String, rows: &[R]) -> Result<(), AllocError>
     ensures { OnOk result (string_bytes text.new
         ≡ string_bytes text.old ++ flat_map (λ row. behind_a_comma (R.json row)) rows.now) }
 {
-    // a text that grows is held twice
+    // a text that grows is in memory twice
     text.reserve(rows.len().saturating_mul(ROW_BYTES))?;
     for row in rows {
         text.push_str(",")?;
@@ -59,7 +59,7 @@ fn add_rows<R: Row>(alloc: Global, text: &mut String, rows: &[R]) -> Result<(), 
     Ok(())
 }
 
-/// The reply of a row and others.
+/// The reply with a row and others.
 pub(crate) fn reply_from<F: Row, R: Row>(
     alloc: Global,
     first: &F,
@@ -75,7 +75,7 @@ pub(crate) fn reply_from<F: Row, R: Row>(
     Ok(text)
 }
 
-/// The reply of some rows.
+/// The reply with some rows.
 pub(crate) fn reply_of<R: Row>(alloc: Global, rows: &[R]) -> Result<String, AllocError>
     ensures { IfOk result (λ text. string_bytes text
         ≡ compact_text (rows_reply (map R.json rows.now))) }

@@ -26,7 +26,7 @@ fn written_day(day: &Day) -> &str
     }
 }
 
-/// The day as it is written, and an empty text where there is none.
+/// The day as it is written, or an empty text if there is none.
 fn day_text(day: &Option<Day>) -> &str
     ensures { result.now ≡ day_text day.now }
 {
@@ -69,7 +69,7 @@ impl Row for ChangeRow {
             Cell::Text(self.body.as_str()),
             Cell::Text(day_text(&self.last_day)),
         ];
-        // Only a waiver that ends has the last of them.
+        // Only a waiver that ends has the last one.
         match &self.last_day {
             Some(_) => list(alloc, &cells),
             None => list(alloc, &cells[..4]),
@@ -174,7 +174,7 @@ impl Row for OpenDuty {
     }
 }
 
-/// The text, and an empty one where there is none.
+/// The text, or an empty one if there is none.
 fn text_or_empty(text: &Option<Text>) -> &str
     ensures { result.now ≡ unwrap_or text.now [] }
 {
@@ -237,7 +237,7 @@ impl Row for Cheapest {
     }
 }
 
-/// A written day stands in the row of its duty as it is written: its bytes are text.
+/// The row of a duty has its day as it is written: its bytes are text.
 pub fn written_days_are_told()
     ensures { (day : List ℕ) → IsTrue (is_day day) → day_text (Some day) ≡ day }
 {}

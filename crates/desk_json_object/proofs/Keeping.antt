@@ -1,4 +1,4 @@
--- Members by their names, beside the data that they stand for.
+-- Members by their names, and the data that they represent.
 use Rattle.std.proofs.Common.{◌≡◌, ℕ, List, [], ◌∷◌, length, Option, Some, None, option_map, String}
 use Rattle.std.proofs.Common.{Global, Ordering, Less, Equal, Greater, string_bytes, string_cmp}
 use Rattle.std.proofs.Common.{nat_cmp, is_eq, cond, suc, Bor, refl, ap, ◌∙◌}

@@ -24,7 +24,7 @@ joined_one : (before : Items) (d : Data) (behind : Items) → joined before (ite
 joined_one no_items d behind = refl
 joined_one (item e before) d behind = ap (item e) (joined_one before d behind)
 
--- an item more is among those before the rest
+-- one more item is among those before the rest
 pub joined_on : (before : Items) (d : Data) (taken : Option (Items × List Token))
     → parse_map (joined before) (parse_map (item d) taken) ≡ parse_map (joined (joined before (item d no_items))) taken
 joined_on before d None = refl
@@ -48,7 +48,7 @@ neither true true more none rest = absurd (cc)
 neither true false more none rest = rest refl
 neither false rest more none other = refl
 
--- behind what is no text stands no list of texts
+-- what comes after anything but a text isn't a list of texts
 pub no_texts_before : (before behind : Items) → are_texts before ≡ false → are_texts (joined before behind) ≡ false
 no_texts_before no_items behind none = absurd (cc)
 no_texts_before (item d before) behind none = neither (is_some (as_str d)) (are_texts before) (are_texts (joined before behind)) none (no_texts_before before behind)
@@ -108,7 +108,7 @@ found_more : (js : json.Members) (found ms : Members) → of_members js found �
 found_more json.no_members found ms is = let same = ap (or_found found) is in omega (arith, ap members_len same)
 found_more (json.member key j js) found ms is = one_more (of_json j) key js found ms (λ before. found_more js before ms) is
 
--- members that are put to others are no fewer
+-- members that are added to others are no fewer
 pub too_many : (most depth turns : ℕ) (ts rest : List Token) (found ms : Members) → most < members_len found → members_in found depth turns ts ≡ Some (ms, rest)
     → most < members_len ms
 too_many most depth turns ts rest found ms more is =

@@ -17,7 +17,7 @@ abbrev first_or : {A : Type 0} → A → Option A → A
 first_or other None = other
 first_or other (Some a) = a
 
--- what was converted has the same tokens behind it
+-- what was converted has the same tokens after it
 behind : {A : Type 0} (rest more : List Token) (made : Option A) (a : A) → option_map {U = A × List Token} (λ x. (x, rest)) made ≡ Some (a, more)
     → (rest ≡ more) × (made ≡ Some a)
 behind rest more None a is = absurd (cc)
@@ -32,7 +32,7 @@ unconverted : {A : Type 0} (rest : List Token) (made : Option A) → option_map 
 unconverted rest None is = refl
 unconverted rest (Some x) is = absurd (cc)
 
--- a constructor round what was converted
+-- a constructor around what was converted
 around : {A B : Type 0} (g : A → B) (rest : List Token) (made : Option A) → option_map (λ b. (b, rest)) (option_map g made) ≡ parse_map g (option_map (λ a. (a, rest)) made)
 around g rest None = refl
 around g rest (Some a) = refl
@@ -89,7 +89,7 @@ no_member : (key : List ℕ) (before : Members) (more : Parse json.Members) (tak
 no_member key before more None none = refl
 no_member key before more (Some p) none = refused_member key p.0 before (more p.1) (unconverted p.1 (of_json p.0) none)
 
--- the items, or the members, that at most so many turns take
+-- the items, or the members, that are taken in at most this many turns
 abbrev pub items_in : ℕ → ℕ → List Token → Option (Items × List Token)
 items_in depth turns ts = converted of_items (items (value depth) turns ts)
 

@@ -1,4 +1,4 @@
--- What the first token of a value tells of it.
+-- What the first token of a value says about it.
 use Rattle.std.proofs.Common.{◌≡◌, ℕ, zero, suc, ◌-◌, ◌∷◌, List, Bor, Option, Some, None, option_map, refl, sym, ap, ◌∙◌, arith}
 use Rattle.json.specs.Json.{parse_map}
 use Rattle.json.specs.Reads.{token_of}

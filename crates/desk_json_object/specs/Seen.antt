@@ -1,4 +1,4 @@
--- The data that what is kept of an object stands for.
+-- The data that is represented by what is kept of an object.
 use Rattle.std.specs.Prelude.{ℕ, List, map, String, string_bytes}
 use Rattle.std.specs.declared.alloc.Global.{Global}
 use Rattle.serde_json.specs.Data.{Data, null, number, string, array, object, Items, Members}

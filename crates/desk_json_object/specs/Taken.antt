@@ -1,5 +1,4 @@
--- What stands at the head of a text's tokens (RFC 8259), as the data that it is, and the tokens behind it. Arrays and objects nest no
--- deeper than a depth.
+-- What a text's tokens (RFC 8259) begin with, as the data that it is, and the tokens after it. Arrays and objects nest no deeper than a depth.
 use Rattle.std.specs.Prelude.{◌≡◌, ℕ, List, length, Option, Some}
 use Rattle.json.specs.Json.{value, items, members}
 use Rattle.json.specs.Token.{Token}
@@ -13,7 +12,7 @@ data_at depth tokens = converted of_json (value depth tokens)
 abbrev pub items_at : ℕ → List Token → Option (Items × List Token)
 items_at depth tokens = converted of_items (items (value depth) (length tokens) tokens)
 
--- the members of an object up to its end, put to others
+-- the members of an object up to its end, added to others
 abbrev pub members_at : Members → ℕ → List Token → Option (Members × List Token)
 members_at before depth tokens = converted (λ ms. of_members ms before) (members (value depth) (length tokens) tokens)
 

@@ -24,8 +24,8 @@ pub(crate) enum Member {
     Other,
 }
 
-/// What is kept of an object: its members' names, and of its values the texts, the numbers and the
-/// lists of texts.
+/// What is kept of an object: the names of its members, and those of their values that are texts,
+/// numbers or lists of texts.
 #[derive(Drop)]
 pub struct Object {
     members: BTreeMap<String, Member>,
@@ -48,7 +48,7 @@ impl Object {
         self.members.len()
     }
 
-    /// Puts a member to the others, in place of one with its name.
+    /// Adds a member to the others, in place of one with its name.
     pub(crate) fn put(
         &mut self,
         alloc: Global,

@@ -32,7 +32,7 @@ fn negative(numeral: &Numeral<'_>) -> Option<Number>
     }
 }
 
-/// The number that a text writes: an integer of 64 bits, or else the nearest float; none where it is
+/// The number that a text writes: an integer of 64 bits, or else the nearest float; none if it is
 /// too large for a float.
 pub(crate) fn number_of(text: &str) -> Option<Number>
     ensures { option_map number_view result ≡ number_of text.now }

@@ -1,4 +1,4 @@
-//! Reads an object, and spares what is not needed of it.
+//! Reads an object, and leaves out what isn't needed of it.
 
 ghost use Rattle.std.specs.Prelude.{◌≡◌, ◌≤◌, ◌<◌, ◌∷◌, [], length, Some, None, IfOk, OnOk, option_map};
 ghost use Rattle.json.specs.Reads.{token_of};
@@ -15,13 +15,13 @@ use desk_base::TextList;
 use json::{Invalid, Reader, Scratch, Token};
 use std::alloc::{AllocError, Global};
 
-/// How deep the kit's `serde_json` takes arrays and objects in one another.
+/// How deep arrays and objects may be nested for the kit's `serde_json`.
 const DEPTH: usize = 127;
 
 /// Why nothing is read.
 #[derive(Clone, Copy, Drop)]
 enum Unread {
-    /// There is no value, or no object of so few members.
+    /// There is no value, or it is no object with so few members.
     NoObject,
     /// There is no memory for it.
     Memory,
@@ -49,8 +49,8 @@ impl From<Invalid> for Unread {
     }
 }
 
-// The texts of an array with its next item, whose first token was taken: nothing where it or one
-// before it is no text.
+// The texts of an array with its next item, whose first token was taken: nothing if it or one
+// before it isn't a text.
 fn with_item(
     reader: &mut Reader<'_>,
     texts: Option<TextList>,
@@ -79,7 +79,7 @@ fn with_item(
     }
 }
 
-// The texts of an array up to its end; nothing where it holds anything else.
+// The texts of an array up to its end; nothing if it has anything else.
 fn read_texts(
     alloc: Global,
     reader: &mut Reader<'_>,
@@ -121,7 +121,7 @@ fn read_member(alloc: Global, reader: &mut Reader<'_>) -> Result<Member, Unread>
     }
 }
 
-// The members of an object up to its end, of which there are so many at most.
+// The members of an object up to its end, at most this many.
 fn read_members(alloc: Global, reader: &mut Reader<'_>, most: usize) -> Result<Object, Unread>
     ensures ok { IfOk result (λ found. KeepsMembers most (members_at no_members 126 reader.old)
         (members_seen found.members.entries) reader.new) }
@@ -138,7 +138,7 @@ fn read_members(alloc: Global, reader: &mut Reader<'_>, most: usize) -> Result<O
     Ok(found)
 }
 
-// The object at the head of tokens.
+// The object with which tokens begin.
 fn read_begun(alloc: Global, reader: &mut Reader<'_>, most: usize) -> Result<Object, Unread>
     ensures ok { IfOk result (λ found. KeepsObject most (data_at 127 reader.old)
         (members_seen found.members.entries) reader.new) }
@@ -151,7 +151,7 @@ fn read_begun(alloc: Global, reader: &mut Reader<'_>, most: usize) -> Result<Obj
     }
 }
 
-// The object that tokens are to the last of them.
+// The object that all tokens are, up to the last.
 fn read_tokens(alloc: Global, reader: &mut Reader<'_>, most: usize) -> Result<Object, Unread>
     ensures ok { IfOk result (λ found. KeepsObject most (data_at 127 reader.old)
         (members_seen found.members.entries) []) }
@@ -164,9 +164,9 @@ fn read_tokens(alloc: Global, reader: &mut Reader<'_>, most: usize) -> Result<Ob
     }
 }
 
-/// The object that bytes are the JSON text of, if it has at most so many members: texts, numbers and
-/// lists of texts are kept, and nothing stands for any other value. Of a key that stands twice the
-/// last value counts.
+/// The object whose JSON text the bytes are, if it has at most this many members: texts, numbers
+/// and lists of texts are kept, and any other value is left out. If a key appears twice, the last
+/// value counts.
 pub fn read_object(alloc: Global, bytes: &[u8], most: usize) -> Result<Option<Object>, AllocError>
     ensures { IfOk result (λ found. IsSpared most bytes.now (option_map seen found)) }
 {

@@ -1,4 +1,4 @@
-//! Passes over values of JSON without keeping anything of them.
+//! Skips values of JSON without keeping anything of them.
 
 ghost use Rattle.std.specs.Prelude.{◌≡◌, ◌≤◌, ◌<◌, ◌∷◌, length, None, OnOk, OnErr};
 ghost use Rattle.json.specs.Reads.{token_of};
@@ -8,8 +8,7 @@ ghost use Rattle.desk_json_object.specs.Taken.{data_at, items_at, members_at, Is
 use crate::number::number_of;
 use json::{Invalid, Reader, Token};
 
-/// Passes over the rest of a value whose first token was taken. Arrays and objects may nest `depth`
-/// deep.
+/// Skips the rest of a value whose first token was taken. Arrays and objects may nest `depth` deep.
 #[cycle(pass)]
 pub(crate) fn pass_rest(
     reader: &mut Reader<'_>,
@@ -43,7 +42,7 @@ pub(crate) fn pass_rest(
     }
 }
 
-/// Passes over a value.
+/// Skips a value.
 #[cycle(pass)]
 pub(crate) fn pass_value(reader: &mut Reader<'_>, depth: usize) -> Result<(), Invalid>
     ensures ok { OnOk result (IsTaken (data_at depth reader.old) reader.new) }
@@ -54,7 +53,7 @@ pub(crate) fn pass_value(reader: &mut Reader<'_>, depth: usize) -> Result<(), In
     pass_rest(reader, token, depth)
 }
 
-/// Passes over the items of an array and its end.
+/// Skips the items of an array and its end.
 #[cycle(pass)]
 pub(crate) fn pass_items(reader: &mut Reader<'_>, depth: usize) -> Result<(), Invalid>
     ensures ok { OnOk result (IsTaken (items_at depth reader.old) reader.new) }
@@ -67,7 +66,7 @@ pub(crate) fn pass_items(reader: &mut Reader<'_>, depth: usize) -> Result<(), In
     Ok(())
 }
 
-/// Passes over the members of an object and its end.
+/// Skips the members of an object and its end.
 #[cycle(pass)]
 pub(crate) fn pass_members(reader: &mut Reader<'_>, depth: usize) -> Result<(), Invalid>
     ensures ok { (before : Members)

@@ -1,4 +1,4 @@
--- Releases that ascend, as tallies want them.
+-- Releases that ascend, as tallies require.
 use Rattle.std.proofs.Common.{◌≡◌, Bool, true, false, List, [], ◌∷◌, refl, subst, inl, inr}
 use Rattle.std.specs.Prelude.{not}
 use Rattle.desk_model.specs.Lists.{IsIn, over, ascends}

@@ -1,4 +1,4 @@
--- The terms of choices that are lent.
+-- The terms of choices that are borrowed.
 use Rattle.std.proofs.Common.{◌≡◌, List, [], ◌∷◌, Bor, map, refl, ap}
 use Rattle.desk_model.specs.declared.row.ChoiceRow.{ChoiceRow}
 

@@ -1,4 +1,4 @@
--- What is seen of a store in memory: its rows, always, and tallies and holders that are theirs; nothing outlives a stop.
+-- What is seen of a store in memory: its rows, always, and tallies and holders that are theirs; a stop leaves nothing.
 use Rattle.std.specs.Prelude.{◌≡◌}
 use Rattle.desk_model.specs.Tables.{Tables}
 use Rattle.desk_access.specs.Seen.{Seen}

@@ -19,7 +19,7 @@ rule_order = then_cmp (then_cmp (on (λ entry. entry.revision) nat_cmp) (on (λ 
 abbrev pub rule_side : ℕ → List ℕ → List ℕ → RulePlace → Ordering
 rule_side revision term form entry = ordering_then (ordering_then (nat_cmp entry.revision revision) (slice_cmp nat_cmp entry.term term)) (slice_cmp nat_cmp entry.form form)
 
--- the places of rules, from n on
+-- the places of rules, counted from n
 abbrev pub rule_places : ℕ → List RuleRow → List RulePlace
 rule_places n [] = []
 rule_places n (row ∷ rows) = (record { revision = row.revision; term = row.term; form = row.form; place = n }) ∷ rule_places (n + 1) rows

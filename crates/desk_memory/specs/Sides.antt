@@ -1,4 +1,4 @@
--- The keys that rows are looked up by: on which side of them a row stands.
+-- The keys that rows are looked up by: on which side of them a row is.
 use Rattle.std.specs.Prelude.{ℕ, ◌==◌, Bool, List}
 use Rattle.std.specs.Ordering.{nat_cmp, ordering_then}
 use Rattle.std.specs.Cmp.Lexicographic.{slice_cmp}

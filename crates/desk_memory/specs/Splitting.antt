@@ -1,4 +1,4 @@
--- What rows are looked up by splits rows that ascend.
+-- The keys that rows are looked up by split rows that ascend.
 use Rattle.std.proofs.Common.{◌≡◌, ℕ, true, List, refl}
 use Rattle.std.specs.Prelude.{◌&&◌, ◌==◌}
 use Rattle.std.specs.Ordering.{nat_cmp, is_lt, is_eq, ordering_then, on, then_cmp}
@@ -52,7 +52,7 @@ pub extracted_splits : (document : ℕ) (reference : List ℕ) → IsSideOf extr
 extracted_splits document reference =
     side_by extracted_order (λ row. (row.document, row.reference)) number_cmp number_total (λ x y e. e) (document, reference)
 
--- The rows at a key are those on neither side of it
+-- The rows with a key are those on neither side of it
 
 pub package_meets : (document : ℕ) (id : List ℕ) (row : PackageRow) → is_package document id row ≡ is_eq (package_side document id row)
 package_meets document id row =

@@ -1,4 +1,4 @@
-//! What rows are looked up by.
+//! The keys that rows are looked up by.
 
 ghost use Rattle.desk_model.specs.Keys.{is_document, is_extracted, is_package, is_release, is_attached_to, is_attachment};
 ghost use Rattle.desk_memory.specs.Sides.{document_side, is_package_of, packages_side, package_side, release_side, attached_side, attachment_side, extracted_side, frozen_side, is_frozen_in};
@@ -14,7 +14,7 @@ use desk_model::{AttachedRow, DocumentRow, ExtractedRow, FrozenRow, PackageRow, 
 use desk_sorted::{Keyed, Sought};
 use std::cmp::Ordering;
 
-/// Where the document with a namespace stands.
+/// The place of the document with a namespace.
 #[derive(Drop)]
 pub(crate) struct NamespacePlace {
     pub(crate) namespace: Text,
@@ -31,7 +31,7 @@ impl Keyed for NamespacePlace {
     }
 }
 
-/// Where the rule for a term and a form stands.
+/// The place of the rule for a term and a form.
 #[derive(Drop)]
 pub(crate) struct RulePlace {
     pub(crate) revision: u32,

@@ -23,7 +23,7 @@ pub(crate) struct Rules {
         ≡ position_from (is_rule_row revision term form) 0 rows.items },
 }
 
-/// The places of rules, the first of which stands at a place.
+/// The places of rules, the first of which is at a place.
 fn places_of(alloc: Global, rows: &[RuleRow], first: usize) -> Result<Vec<RulePlace>, AllocError>
     requires { first + length rows.now < 2 ^ 64 }
     ensures { IfOk result (λ places. places.items ≡ rule_places first rows.now) }

@@ -289,7 +289,7 @@ fn withdraw_release(releases: &mut Sorted<ReleaseRow>, name: &str)
     withdraw_rows(&mut releases.rows[run.start..run.end]);
 }
 
-/// Rows in memory, each list by its key, and the tallies of the releases beside them.
+/// Rows in memory, each list by its key, with the tallies of the releases.
 #[derive(Drop)]
 pub struct MemStore {
     alloc: Global,
@@ -502,8 +502,8 @@ impl MemStore {
         }
     }
 
-    /// What a change comes to for the tallies, with room made for it, and none where it doesn't go on
-    /// from the rows.
+    /// What a change does to the tallies, with room made for it, or none if it doesn't follow from
+    /// the rows.
     fn plan(&mut self, change: &Change) -> Result<Option<Step>, Fault>
         ensures takes { IfOk result (λ found. IfSome found (λ step.
             takes change.now self.new.ledger ≡ true)) }
@@ -535,7 +535,7 @@ impl MemStore {
         }
     }
 
-    /// Of a freeze, the place of its release.
+    /// For a freeze, the place of its release.
     fn place_for(&self, change: &Change) -> Option<u32>
         ensures { IsPlaceFor change.now result (rows_of self.now) }
     {
@@ -744,9 +744,9 @@ impl Store for MemStore {
         Ok(self.ledger.last_day(u64::from(duty)))
     }
 
-    // A change that doesn't go on from the rows comes from no command, and nothing is owed to it.
-    // Where its duties, their changes or the place of its release don't go on, it is left undone;
-    // any other is written as it stands.
+    // A change that doesn't follow from the rows comes from no command, so nothing is required of
+    // it. If its duties, their changes or the place of its release don't follow, it is ignored; any
+    // other is written as it is.
     fn commit(&mut self, change: Change) -> Result<(), Fault> {
         let Some(step) = self.plan(&change)? else {
             return Ok(());

@@ -1,4 +1,4 @@
--- The last of some changes.
+-- The last of a list of changes.
 use Rattle.std.proofs.Common.{◌≡◌, ℕ, List, [], ◌∷◌, Option, Some, None, refl}
 use Rattle.desk_model.specs.Queries.{last_day}
 use Rattle.desk_model.specs.declared.row.ChangeRow.{ChangeRow}

@@ -1,4 +1,4 @@
--- Duties that pass a test, found one after the other.
+-- Duties that pass a test, found one after another.
 use Rattle.std.proofs.Common.{◌≡◌, ℕ, zero, suc, ◌+◌, ◌<◌, Bool, true, false, cond, List, [], ◌∷◌, ◌++◌, length, map, drop, sym, ap, ◌∙◌, arith, append_assoc, add-one}
 use Rattle.std.specs.Prelude.{filter, slice_index_or}
 use Rattle.desk_model.specs.declared.row.DutyRow.{DutyRow}

@@ -198,7 +198,7 @@ first_is : (rows : List ReleaseRow) (z : ReleaseRow) → first_opened rows ≡ S
 first_is [] z e = cc
 first_is (row ∷ rows) z e = one_more row rows z (first_is rows) (first_opened rows) refl e
 
--- a release that was opened before all others names the first
+-- a release that was opened before all others is the first
 named_first : (rows : List ReleaseRow) (x : ReleaseRow) → IsIn x rows → ((y : ReleaseRow) → IsIn y rows → x.place ≤ y.place) → ((y : ReleaseRow) → IsIn y rows → y.place ≡ x.place → y.name ≡ x.name) → option_map (λ release. release.name) (first_opened rows) ≡ Some x.name
 named_first rows x is least names = either (first_opened rows) refl
   where
@@ -266,7 +266,7 @@ third_not_less Greater b c d e f g = cc
 place_low : (a b : ℕ) → is_lt (nat_cmp a b) ≡ false → b ≤ a
 place_low a b e = grind (arith, nat_tests)
 
--- of two holders for one package the one that isn't above the other was opened no later
+-- of two holders for one package, the one that isn't above the other was opened no later
 opened_before : (d : ℕ) (p : List ℕ) (x h : Holder) → is_held d p x ≡ true → is_held d p h ≡ true → below_by holder_order x h ≡ false → h.place ≤ x.place
 opened_before d p x h e f below =
     let number : x.document ≡ h.document = numbers_equal x.document d (and_left (x.document == d) (bytes_eq x.package_id p) e) ∙ sym (numbers_equal h.document d (and_left (h.document == d) (bytes_eq h.package_id p) f)) in
@@ -298,7 +298,7 @@ some_place : (a b : ℕ) → Some a ≡ Some b → a ≡ b
 some_place a b e = cc
 
 module _ (t : Tables) (all : List Holder) (places : ArePlaces t.releases) (held : AreHolders all t) (d : ℕ) (p : List ℕ) where
-  -- where a release stands that holds a choice
+  -- the holder for a release that holds a choice
   holder_at : (y : ReleaseRow) → IsIn y t.releases → holds t.choice d p y ≡ true → (k : Holder) × IsIn k all × (is_held d p k ≡ true) × (k.place ≡ y.place)
   holder_at y is some =
       let found = any_of (is_holder y.name d p) all (held.holding y.name d p ∙ some) in
@@ -444,7 +444,7 @@ withdrew r all t later is same held = record {
   apart = λ y there. ap (λ rows. place_found rows y.name) is ∙ apart_updated (is_release r) withdrawn_release (λ row. refl) (λ row. refl) t.releases held.apart y (subst (IsIn y) is there);
 }
 
--- those that are let go of, one choice after another
+-- holders that are let go, one choice after another
 
 filter_alike : {A : Type 0} (p q : A → Bool) (xs : List A) → ((x : A) → IsIn x xs → p x ≡ q x) → filter p xs ≡ filter q xs
 filter_alike p q [] same = refl
@@ -476,18 +476,18 @@ alone_or_none : (b : Bool) → (b || false) ≡ b
 alone_or_none true = refl
 alone_or_none false = refl
 
--- that of one choice
+-- the holder of one choice
 pub let_go_one : (place : ℕ) (row : ChoiceRow) (all : List Holder) → filter (λ holder. not (is_holding row.document row.package_id place row.release holder)) all ≡ letting_go place (row ∷ []) all
 let_go_one place row all =
     filter_alike (λ holder. not (is_holding row.document row.package_id place row.release holder)) (λ holder. not (is_among place (row ∷ []) holder)) all
     (λ x is. ap not (sym (alone_or_none (is_holding row.document row.package_id place row.release x))))
 
--- that of no choice
+-- the holder of no choice
 pub let_go_none : (place : ℕ) (all : List Holder) → letting_go place [] all ≡ all
 let_go_none place [] = refl
 let_go_none place (x ∷ all) = ap (λ l. x ∷ l) (let_go_none place all)
 
--- a row and those behind it
+-- a row and those after it
 drop_next : {A : Type 0} (xs : List A) (i : ℕ) (d : A) → i < length xs → get_or xs i d ∷ drop (suc i) xs ≡ drop i xs
 drop_next [] i d lt = absurd (omega (arith, lt))
 drop_next (x ∷ xs) zero d lt = refl
@@ -503,7 +503,7 @@ drop_rest (suc n) [] le = refl
 drop_rest zero (x ∷ xs) le = absurd (omega (arith, le))
 drop_rest (suc n) (x ∷ xs) le = drop_rest n xs (omega (arith, le))
 
--- of right holders, those of a release's choices are all that are of it
+-- if the holders are right, those of a release's choices are all that are of the release
 module _ (t : Tables) (all : List Holder) (held : AreHolders all t) (r : List ℕ) (place : ℕ) where
   abbrev own_choices : List ChoiceRow
   own_choices = filter (is_choice_in r) t.choice
@@ -554,12 +554,12 @@ pub leaves_all : (t : Tables) (all : List Holder) → AreHolders all t → (r : 
 leaves_all t all held r None = refl
 leaves_all t all held r (Some place) = all_own t all held r place
 
--- a choice for a package, in a release that stands
+-- a choice for a package, in a release that exists
 module _ (t : Tables) (all : List Holder) (held : AreHolders all t) (r : List ℕ) (d : ℕ) (p : List ℕ) (place : ℕ) (at : place_found t.releases r ≡ Some place) where
   abbrev others : List Holder
   others = filter (λ holder. not (is_holding d p place r holder)) all
 
-  -- on the holders, being that one by its place is being that one by its name
+  -- for the holders, being this one by place is being this one by name
   own_place : (x : Holder) → IsIn x all → is_holder r d p x ≡ true → is_holding d p place r x ≡ true
   own_place x is e =
       let own = and_left (bytes_eq x.release r) (is_held d p x) e in
@@ -609,7 +609,7 @@ module _ (t : Tables) (all : List Holder) (held : AreHolders all t) (r : List �
       abbrev chosen : List ChoiceRow
       chosen = put_all (below_by choice_order) rows (filter (is_other_choice r d p) t.choice)
 
-      -- a holder of another choice holds that still
+      -- a holder of another choice still holds that
       other_held : (x : Holder) → IsIn x all → is_holder r' d' p' x ≡ true → is_holding d p place r x ≡ false → list_any (is_choice_of r' d' p') chosen ≡ true
       other_held x is e other =
           let found = any_of (is_choice_of r' d' p') t.choice (sym (held.holding r' d' p') ∙ in_any (is_holder r' d' p') x all is e) in

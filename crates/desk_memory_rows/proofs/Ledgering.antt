@@ -22,7 +22,7 @@ find_below q n (row ∷ rows) e lt =
     let differ : (row.number == q) ≡ false = grind (arith, nat_tests) in
     rw differ (find_below q (n + 1) rows (and_right (row.number == n) (numbered (n + 1) rows) e) (omega arith))
 
--- the duty at the place i from n on
+-- the duty at the place i, counted from n
 pub find_place : (n i : ℕ) (rows : List DutyRow) → numbered n rows ≡ true → find (is_duty (n + i)) rows ≡ slice_get rows i
 find_place n i [] e = refl
 find_place n zero (row ∷ rows) e =
@@ -189,7 +189,7 @@ grouped-more n (suc i) (g ∷ gs) row e d s =
     both (stepped n 1 g) (grouped (n + 1) (more_at gs i row)) (and_left (stepped n 1 g) (grouped (n + 1) gs) e)
     (grouped-more (n + 1) i gs row (and_right (stepped n 1 g) (grouped (n + 1) gs) e) (omega arith) s)
 
--- some groups more
+-- more groups
 
 pub grouped-append : (n : ℕ) (groups more : List (List ChangeRow)) → grouped n groups ≡ true → grouped (n + length groups) more ≡ true → grouped n (groups ++ more) ≡ true
 grouped-append n [] more e f = subst (λ k. grouped k more ≡ true) (let z : n + 0 ≡ n = omega arith in z) f
@@ -248,7 +248,7 @@ next_step q place steps step groups e d f s =
     ap (λ k. length (filter (is_change_of k) (all_of groups))) d ∙ ap length (filter_group 1 place groups e) in
     omega (arith, s, f, same)
 
--- some duties more, or none where there was no room
+-- more duties, or none if there was no room
 pub numbered_either : (b : Bool) (rows more : List DutyRow) → numbered 1 rows ≡ true → numbered (1 + length rows) more ≡ true → numbered 1 (if b then rows ++ more else rows) ≡ true
 numbered_either true rows more e f = numbered-append 1 rows more e f
 numbered_either false rows more e f = e

@@ -1,4 +1,4 @@
--- Changes put behind others, and taken out again.
+-- Changes put after others, and removed again.
 use Rattle.std.proofs.Common.{◌≡◌, ℕ, zero, suc, ◌+◌, ◌-◌, ◌<◌, ◌≤◌, true, false, List, [], ◌∷◌, ◌++◌, length, map, take, drop, Option, Some, None, sym, refl, ap, ◌∙◌, subst, arith, append_assoc, append-nil, length-append, add-one}
 use Rattle.std.specs.Prelude.{nat_le, slice_get, slice_set, slice_index_or, Result, Ok, Err, is_err, OnErr, OnOk}
 use Rattle.std.specs.List.{list_all, last_or}
@@ -14,13 +14,13 @@ use Rattle.desk_memory_rows.specs.Ledgers.{numbered, all_of, grouped, more_at, p
 use Rattle.desk_memory_rows.proofs.Ledgering.{numbered-updated}
 use Rattle.desk_base.proofs.Bools.{and_left, and_right}
 
--- the groups are those of before with the changes of these places
+-- the groups are the earlier ones with the changes of these places
 pub record Remains (before : List (List ChangeRow)) (places : List Place) (groups : List (List ChangeRow)) : Type 0 where
   pub changes : List ChangeRow
   pub told : map place_of changes ≡ places
   pub is : groups ≡ pushed changes before
 
--- the changes but for the first ones are put behind the others
+-- all changes except for the first ones are put after the others
 pub record HasPushed (all left : List ChangeRow) (before groups : List (List ChangeRow)) : Type 0 where
   pub done : List ChangeRow
   pub whole : all ≡ left ++ done
@@ -28,7 +28,7 @@ pub record HasPushed (all left : List ChangeRow) (before groups : List (List Cha
   pub put : all_of groups ≡ put_all change_below done (all_of before)
   pub turned : grouped 1 groups ≡ true
 
--- the duties where the places of changes put them are those that the changes move
+-- the duties in the states that the changes give them are those that the changes move
 pub standing_moved : (changes : List ChangeRow) (rows : List DutyRow) → standing_by (map place_of changes) rows ≡ moved_by changes rows
 standing_moved [] rows = refl
 standing_moved (change ∷ changes) rows = ap (updated (is_duty change.duty) (with_duty_state (state_after change.word))) (standing_moved changes rows)
@@ -96,7 +96,7 @@ told_drop all left rest change before groups places has e told =
     ∙ (ap (drop (suc (length rest))) told
     ∙ ap (λ (k : ℕ). drop k places) (sym (add-one (length rest)))))
 
--- a change is taken out of its group
+-- a change is removed from its group
 take_front : (xs ys : List ChangeRow) → take (length xs) (xs ++ ys) ≡ xs
 take_front [] ys = refl
 take_front (x ∷ xs) ys = ap (λ (zs : List ChangeRow). x ∷ zs) (take_front xs ys)
@@ -113,7 +113,7 @@ undo_at (b ∷ bs) zero change g left at is =
     ap (λ (y : List ChangeRow). y ∷ bs) (is ∙ (ap (λ (y : List ChangeRow). take (length y - 1) y) (sym same) ∙ but_last b change))
 undo_at (b ∷ bs) (suc i) change g left at is = ap (λ (ys : List (List ChangeRow)). b ∷ ys) (undo_at bs i change g left at is)
 
--- the last change of the group at a place is taken out again
+-- the last change of the group at a place is removed again
 pub undo_more : (groups before : List (List ChangeRow)) (i : ℕ) (change : ChangeRow) (g left : List ChangeRow) → groups ≡ more_at before i change → slice_get groups i ≡ Some g → left ≡ take (length g - 1) g → slice_set groups i left ≡ before
 undo_more groups before i change g left e at is =
     subst (λ (gs : List (List ChangeRow)). slice_set gs i left ≡ before) (sym e) (undo_at before i change g left (sym (ap (λ (gs : List (List ChangeRow)). slice_get gs i) e) ∙ at) is)
@@ -133,7 +133,7 @@ pub numbered-standing : (places : List Place) (n : ℕ) (rows : List DutyRow) �
 numbered-standing [] n rows e = e
 numbered-standing (place ∷ places) n rows e = numbered-updated (with_duty_state place.state) (λ row. refl) place.duty n (standing_by places rows) (numbered-standing places n rows e)
 
--- at a place of a list
+-- a list from a place on
 pub drop_get : (places : List Place) (k : ℕ) (d : Place) → k < length places → drop k places ≡ slice_index_or places k d ∷ drop (suc k) places
 drop_get [] k d lt = absurd (omega arith)
 drop_get (p ∷ ps) zero d lt = refl

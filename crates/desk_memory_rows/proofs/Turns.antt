@@ -100,7 +100,7 @@ filter_more q (g ∷ gs) (suc i) row other =
     ∙ (ap (λ (xs : List ChangeRow). filter (is_change_of q) g ++ xs) (filter_more q gs i row other)
     ∙ sym (filter-append (is_change_of q) g (all_of gs)))
 
--- those before the last one are still next after it is put behind the others
+-- those before the last one are still next after that is put after the others
 front_turn : (n count : ℕ) (groups : List (List ChangeRow)) (i : ℕ) (front : List ChangeRow) (row : ChangeRow) → are_in_turn n count (all_of groups) (front ++ row ∷ []) ≡ true
     → are_in_turn n count (all_of (more_at groups i row)) front ≡ true
 front_turn n count groups i [] row e = refl
@@ -143,7 +143,7 @@ pub length-standing : (places : List Place) (rows : List DutyRow) → length (st
 length-standing [] rows = refl
 length-standing (place ∷ places) rows = length-updated (is_duty place.duty) (with_duty_state place.state) (standing_by places rows) ∙ length-standing places rows
 
--- What goes on from some tables is taken
+-- What follows some tables is taken
 
 numbered_from : (n : ℕ) (rows : List DutyRow) → are_numbered n rows ≡ true → numbered n rows ≡ true
 numbered_from n [] e = refl

@@ -12,6 +12,6 @@ duties_in ledger = ledger.duties.items
 abbrev pub changes_in : Ledger → List ChangeRow
 changes_in ledger = all_of ledger.groups.items
 
--- the duties and changes of a change go on from those that stand
+-- the duties and changes of a change follow those that exist
 abbrev pub takes : Change → Ledger → Bool
 takes c ledger = can_take c ledger.duties.items ledger.groups.items

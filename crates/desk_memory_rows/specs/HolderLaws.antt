@@ -1,4 +1,4 @@
--- Holders ascend, and what they are looked up by splits them.
+-- Holders ascend, and the keys that they are looked up by split them.
 use Rattle.std.proofs.Common.{◌≡◌, ℕ, List}
 use Rattle.std.specs.Prelude.{◌&&◌, ◌==◌}
 use Rattle.std.specs.Ordering.{nat_cmp, is_eq, ordering_then, on, then_cmp}

@@ -47,8 +47,8 @@ is_holder release document id row = bytes_eq row.release release && is_held docu
 abbrev pub holder_of : List ℕ → ℕ → ℕ → List ℕ → Holder
 holder_of release place document id = record { document = document; package_id = id; place = place; release = release }
 
--- They are the holders of these tables: each stands at the place of its release, a release is among them for a package exactly where
--- it holds a choice for it, and no two releases have one name.
+-- They are the holders of these tables: each is at the place of its release, a release is among them for a package if and only if it holds a choice for it, and
+-- no two releases have the same name.
 pub record AreHolders (holders : List Holder) (t : Tables) : Type 0 where
   pub placed : (holder : Holder) → IsIn holder holders → place_found t.releases holder.release ≡ Some holder.place
   pub holding : (r : List ℕ) (d : ℕ) (p : List ℕ) → list_any (is_holder r d p) holders ≡ list_any (is_choice_of r d p) t.choice
@@ -60,11 +60,11 @@ choosing release None document id rows all = all
 choosing release (Some place) document id [] all = filter (λ holder. not (is_holding document id place release holder)) all
 choosing release (Some place) document id (row ∷ rows) all = replaced (below_by holder_order) (is_holding document id place release) (holder_of release place document id) all
 
--- it holds one of these choices, in a release at this place
+-- it holds one of these choices, in the release at this place
 abbrev pub is_among : ℕ → List ChoiceRow → Holder → Bool
 is_among place rows holder = list_any (λ row. is_holding row.document row.package_id place row.release holder) rows
 
--- after none of these choices is held any more in a release at a place
+-- after a release at a place no longer holds any of these choices
 abbrev pub letting_go : ℕ → List ChoiceRow → List Holder → List Holder
 letting_go place rows all = filter (λ holder. not (is_among place rows holder)) all
 
@@ -77,7 +77,7 @@ abbrev pub withdrawing : List ℕ → Option ℕ → List Holder → List Holder
 withdrawing release None all = all
 withdrawing release (Some place) all = filter (λ holder. not (is_of place release holder)) all
 
--- after a change, over these tables
+-- after a change of these tables
 abbrev pub holders_after : Change → Tables → List Holder → List Holder
 holders_after (change.Chosen release document id rows) t all = choosing release (place_found t.releases release) document id rows all
 holders_after (change.Withdrew release rows) t all = leaving (place_found t.releases release) (filter (is_choice_in release) t.choice) all

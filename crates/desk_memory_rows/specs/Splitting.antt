@@ -1,4 +1,4 @@
--- What rows are looked up by splits rows that ascend.
+-- The keys that rows are looked up by split rows that ascend.
 use Rattle.std.proofs.Common.{◌≡◌, ℕ, true, List, refl}
 use Rattle.std.specs.Prelude.{◌&&◌, ◌==◌}
 use Rattle.std.specs.Ordering.{nat_cmp, is_lt, is_eq, ordering_then, on, then_cmp}
@@ -47,7 +47,7 @@ choice_splits release document id =
     (λ x y e. three_less (slice_cmp nat_cmp y.release x.release) (nat_cmp y.document x.document) (slice_cmp nat_cmp y.package_id x.package_id) (slice_cmp nat_cmp y.term x.term) e)
     (release, document, id)
 
--- The rows at a key are those on neither side of it
+-- The rows with a key are those on neither side of it
 
 pub conclusion_meets : (document : ℕ) (id : List ℕ) (row : ConclusionRow) → is_conclusion document id row ≡ is_eq (conclusion_side document id row)
 conclusion_meets document id row =

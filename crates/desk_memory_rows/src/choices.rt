@@ -1,4 +1,4 @@
-//! The choices that stand, and the releases that hold one for a package.
+//! The choices in force, and the releases that hold one for a package.
 
 ghost use Rattle.std.specs.Prelude.{◌≡◌, ℕ, [], IfErr, OnErr, OnOk, List, Option, filter};
 ghost use Rattle.std.specs.Option.{option_copied, option_map};
@@ -66,8 +66,8 @@ impl Sought<ChoiceRow> for ByHolder<'_> {
     }
 }
 
-/// The release at a place holds none of its choices any more. They are gone through where they
-/// stand, which takes no memory.
+/// The release at a place no longer holds any of its choices. They are gone through in place, so
+/// nothing is allocated.
 fn drop_holders(
     holders: &mut Blocks<Holder>,
     rows: &Blocks<ChoiceRow>,
@@ -89,7 +89,7 @@ fn drop_holders(
     }
 }
 
-/// The choices by their key, and beside them the releases that hold one, by package and place.
+/// The choices by their key, and the releases that hold one, by package and place.
 #[derive(Drop)]
 pub struct Choices {
     pub rows: Blocks<ChoiceRow>,
@@ -147,8 +147,8 @@ impl Choices {
         Ok(())
     }
 
-    /// Drops all choices of the release at a place. Where the holders are those of the choices, it
-    /// is a holder no more.
+    /// Drops all choices of the release at a place. If the holders are those of the choices, it is
+    /// no longer a holder.
     pub fn withdraw(&mut self, release: &Text, place: Option<u32>)
         ensures rows { rows_in self.new.rows.blocks.items
             ≡ filter (is_choice_elsewhere release.now) (rows_in self.old.rows.blocks.items) }

@@ -103,7 +103,7 @@ fn holder_of(
     })
 }
 
-/// The release holds a choice for the package no more.
+/// The release no longer holds a choice for the package.
 pub fn drop_choice(
     holders: &mut Blocks<Holder>,
     release: &Text,
@@ -149,7 +149,7 @@ pub fn note(
     Ok(())
 }
 
-/// The release of some choices, at a place, holds none of them any more.
+/// The release of these choices, at a place, no longer holds any of them.
 pub fn drop_choices(holders: &mut Blocks<Holder>, place: u32, rows: &[ChoiceRow])
     ensures { rows_in holders.new.blocks.items
         ≡ letting_go place rows.now (rows_in holders.old.blocks.items) }

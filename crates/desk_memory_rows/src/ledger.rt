@@ -109,7 +109,7 @@ fn push_change(
     group.push(change)
 }
 
-/// Takes the last change of a group out again.
+/// Removes the last change of a group again.
 fn pop_change(alloc: Global, groups: &mut Vec<Items<ChangeRow>>, place: usize)
     requires { place < vec_len groups.old }
     ensures undone { (before : List (List ChangeRow)) (change : ChangeRow)
@@ -144,7 +144,7 @@ fn end_at(groups: &[Items<ChangeRow>], number: u64) -> Option<Day>
     }
 }
 
-/// Where a duty stands.
+/// The state of a duty, and how many changes it has.
 fn standing(groups: &[Items<ChangeRow>], row: &DutyRow) -> Standing
     requires { grouped 1 groups.now ≡ true }
     ensures { result ≡ standing_in (all_of groups.now) row.now }
@@ -175,7 +175,7 @@ fn standings_of(
     Ok(found)
 }
 
-/// Whether a duty is waived up to a day before this one.
+/// Whether a duty is waived until a day before this one.
 fn ends(groups: &[Items<ChangeRow>], day: Day, row: &DutyRow) -> bool
     requires { grouped 1 groups.now ≡ true }
     ensures { result ≡ ends_in (all_of groups.now) day row.now }
@@ -209,7 +209,7 @@ fn ended(
     Ok(found)
 }
 
-/// Whether a change is the next one of its duty, which is above a number.
+/// Whether a change is the next one of its duty, whose number is above another.
 fn is_in_turn(groups: &[Items<ChangeRow>], last: u32, change: &ChangeRow) -> bool
     requires { grouped 1 groups.now ≡ true }
     ensures { result ≡ is_in_turn last (length groups.now) (all_of groups.now) change.now }
@@ -220,7 +220,7 @@ fn is_in_turn(groups: &[Items<ChangeRow>], last: u32, change: &ChangeRow) -> boo
     change.step != 0 && u64::from(change.step - 1) == steps_in(groups, u64::from(change.duty))
 }
 
-/// Whether each of some changes is the next one of its duty, by rising numbers.
+/// Whether each of these changes is the next one of its duty, by rising numbers.
 fn are_in_turn(groups: &[Items<ChangeRow>], changes: &[ChangeRow]) -> bool
     requires { grouped 1 groups.now ≡ true }
     ensures { result ≡ are_in_turn 0 (length groups.now) (all_of groups.now) changes.now }
@@ -235,7 +235,8 @@ fn are_in_turn(groups: &[Items<ChangeRow>], changes: &[ChangeRow]) -> bool
     true
 }
 
-/// Whether each change is the first one of its duty, the duties going up by one from this number.
+/// Whether each change is the first one of its duty, with numbers of duties that go up by one from
+/// this number.
 fn are_first(first: u64, changes: &[ChangeRow]) -> bool
     ensures { result ≡ are_first first changes.now }
 {
@@ -249,7 +250,7 @@ fn are_first(first: u64, changes: &[ChangeRow]) -> bool
     true
 }
 
-/// Puts the next change of a duty behind the others, or does nothing.
+/// Puts the next change of a duty after the others, or does nothing.
 fn push_next(groups: &mut Vec<Items<ChangeRow>>, change: ChangeRow) -> Result<(), Fault>
     requires grouped { grouped 1 groups.old.items ≡ true }
     requires low { 1 ≤ change.duty }
@@ -270,14 +271,14 @@ fn push_next(groups: &mut Vec<Items<ChangeRow>>, change: ChangeRow) -> Result<()
     Ok(())
 }
 
-/// Where a change leaves a duty.
+/// The state in which a change leaves a duty.
 #[derive(Drop)]
 struct Place {
     duty: u32,
     state: DutyState,
 }
 
-/// Where each of some changes leaves its duty.
+/// The state in which each of these changes leaves its duty.
 fn places_of(alloc: Global, changes: &[ChangeRow]) -> Result<Vec<Place>, AllocError>
     ensures { IfOk result (λ places. map place_of changes.now ≡ places.items) }
 {
@@ -291,7 +292,7 @@ fn places_of(alloc: Global, changes: &[ChangeRow]) -> Result<Vec<Place>, AllocEr
     Ok(places)
 }
 
-/// Takes the last changes of these duties out again, one after the other.
+/// Removes the last changes of these duties again, one after another.
 fn pop_all(alloc: Global, groups: &mut Vec<Items<ChangeRow>>, places: &[Place])
     requires { AreWithin (vec_len groups.old) places.now }
     ensures undone { (before : List (List ChangeRow)) (changes : List ChangeRow)
@@ -304,8 +305,8 @@ fn pop_all(alloc: Global, groups: &mut Vec<Items<ChangeRow>>, places: &[Place])
     }
 }
 
-/// Puts each change, the next one of its duty, behind the others, the last one first, or does
-/// nothing.
+/// Puts each change, which is the next one of its duty, after the others, the last one first, or
+/// does nothing.
 fn push_all(
     alloc: Global,
     groups: &mut Vec<Items<ChangeRow>>,
@@ -399,7 +400,7 @@ impl Ledger {
         steps_in(self.groups.as_slice(), number)
     }
 
-    /// Where the duties of a release stand.
+    /// The states of a release's duties.
     pub fn standings_of(&self, release: &str) -> Result<Vec<Standing>, AllocError>
         ensures { IfOk result (λ found. found.items
             ≡ map (standing_in (all_of self.now.groups.items))
@@ -409,7 +410,7 @@ impl Ledger {
         standings_of(self.alloc, self.duties.as_slice(), groups, release)
     }
 
-    /// Where the duties stand that are waived up to a day before this one.
+    /// The states of the duties that are waived until a day before this one.
     pub fn ended(&self, day: Day) -> Result<Vec<Standing>, AllocError>
         ensures { IfOk result (λ found. found.items
             ≡ map (standing_in (all_of self.now.groups.items))
@@ -441,7 +442,7 @@ impl Ledger {
 }
 
 impl Ledger {
-    /// Whether new duties are numbered on from those that stand, and each has its first change.
+    /// Whether the numbers of new duties continue those that exist, and each has its first change.
     fn can_append(&self, duties: &[DutyRow], changes: &[ChangeRow]) -> bool
         ensures { result ≡ can_append (length self.now.duties.items) duties.now changes.now }
     {
@@ -452,7 +453,7 @@ impl Ledger {
         changes.len() == duties.len()
     }
 
-    /// Whether each of some changes is the next one of its duty, by rising numbers.
+    /// Whether each of these changes is the next one of its duty, by rising numbers.
     fn can_move(&self, changes: &[ChangeRow]) -> bool
         ensures { result
             ≡ are_in_turn 0 (length self.now.groups.items) (all_of self.now.groups.items)
@@ -461,7 +462,7 @@ impl Ledger {
         are_in_turn(self.groups.as_slice(), changes)
     }
 
-    /// Whether the duties and changes of a change of the rows go on from those that stand.
+    /// Whether the duties and changes of a change of the rows follow those that exist.
     pub fn can_take(&self, change: &Change) -> bool
         ensures is { result ≡ can_take change.now self.now.duties.items self.now.groups.items }
         ensures follows { (t : Tables) → t.duty ≡ self.now.duties.items
@@ -479,7 +480,7 @@ impl Ledger {
         }
     }
 
-    /// Moves each of some duties by a change that is the next of its own, or does nothing.
+    /// Moves duties, each by the change that is its next one, or does nothing.
     pub fn move_all(&mut self, changes: Vec<ChangeRow>) -> Result<(), Fault>
         requires { are_in_turn 0 (length self.old.groups.items) (all_of self.old.groups.items)
             changes.items
@@ -498,7 +499,7 @@ impl Ledger {
         Ok(())
     }
 
-    /// Adds duties that are numbered on, with a first change each, or does nothing.
+    /// Adds duties whose numbers continue the others, with a first change each, or does nothing.
     pub fn append(&mut self, mut duties: Vec<DutyRow>, changes: Vec<ChangeRow>) -> Result<(), Fault>
         requires { can_append (length self.old.duties.items) duties.items changes.items ≡ true }
         ensures duties { OnOk result

@@ -117,7 +117,7 @@ impl Office {
         Ok(())
     }
 
-    /// Puts an adoption in place of an earlier one of its reference.
+    /// Puts an adoption in place of an earlier one for its reference.
     pub fn adopt(&mut self, row: AdoptionRow) -> Result<(), Fault>
         ensures ok { OnOk result (rows_in self.new.adoptions.blocks.items
             ≡ replaced (below_by adoption_order) (is_adoption row.document row.reference) row

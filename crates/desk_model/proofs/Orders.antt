@@ -1,4 +1,4 @@
--- Lists in an order, and what is put in its place there.
+-- Sorted lists, and what is put in its place there.
 use Rattle.std.proofs.Common.{◌≡◌, Bool, true, false, List, [], ◌∷◌, refl, ap, ◌∙◌}
 use Rattle.std.specs.Prelude.{if◌then◌else◌, not}
 use Rattle.std.specs.Ordering.{is_lt, ordering_reverse}
@@ -10,7 +10,7 @@ use Rattle.desk_model.specs.Lists.{put, over, ascends}
 use Rattle.desk_model.specs.Keys.{below_by}
 use Rattle.desk_base.proofs.Bools.{and_left, and_right, both, not_true}
 
--- what the order of rows must keep
+-- what an order of rows must satisfy
 pub record IsOrder {A : Type 0} (below : A → A → Bool) : Type 0 where
   pub asym : (x y : A) → below x y ≡ true → below y x ≡ false
   pub between : (x y z : A) → below x y ≡ true → below z y ≡ false → below x z ≡ true

@@ -1,4 +1,4 @@
--- The answer to each command and query: the first refusal that applies, else what was done. Each is a function of what is looked up.
+-- The answer to each command: the first refusal that applies, or else what was done. Each is a function of what is looked up.
 use Rattle.std.specs.Prelude.{ℕ, ◌+◌, filter, map, ◌&&◌, ◌||◌, nat_lt, nat_le, not, Bool, true, false, List, [], ◌∷◌, length, find, slice_index_or, Option, Some, None, is_some, is_none, unwrap_or, Result, IsTrue, if◌then◌else◌}
 use Rattle.std.specs.List.{list_any, filter_map}
 use Rattle.std.specs.Option.{option_map, option_map_or, option_and_then}
@@ -43,12 +43,12 @@ use Rattle.desk_model.specs.declared.command.Answer.TheVariants as answered
 use Rattle.desk_model.specs.declared.command.Command.{Command}
 use Rattle.desk_model.specs.declared.command.Command.TheVariants.{LoadCatalogue, Import, OpenRelease, Attach, Choose, Unchoose, Freeze, Meet, Waive, Reopen, Withdraw, CloseDay, Conclude, Adopt}
 
--- the refusal, or the answer where there is none
+-- the refusal, or the answer if there is none
 abbrev pub refused_or : Option Refusal → Answer → Answer
 refused_or None answer = answer
 refused_or (Some refusal) answer = answered.Refused refusal
 
--- the first refusal of some that applies, else the answer
+-- the first of some refusals that applies, or else the answer
 abbrev pub refused_first : List (Option Refusal) → Answer → Answer
 refused_first [] answer = answer
 refused_first (refusal ∷ refusals) answer = refused_or refusal (refused_first refusals answer)
@@ -77,7 +77,7 @@ load_answer catalogue found = refused_first (
 abbrev pub same_namespace : Result Document DocumentFault → List DocumentRow → Option DocumentRow
 same_namespace document rows = option_and_then (λ d. find (has_namespace d.namespace) rows) (result_ok document)
 
--- one with other bytes
+-- a document with other bytes
 abbrev pub taken : List ℕ → DocumentRow → Option Refusal
 taken bytes row = unless (bytes_eq row.bytes bytes) (why.NamespaceTaken row.number)
 
@@ -85,7 +85,7 @@ taken bytes row = unless (bytes_eq row.bytes bytes) (why.NamespaceTaken row.numb
 pub record Importing : Type 0 where
   pub documents : List DocumentRow
 
--- Import, of bytes that were read; with the same bytes, a document is told again
+-- Import, of bytes that were read; a document with the same bytes is answered Again
 abbrev pub import_answer : Result Document DocumentFault → List ℕ → Importing → Answer
 import_answer document bytes found =
     let old = same_namespace document found.documents in
@@ -162,7 +162,7 @@ pub record Choosing : Type 0 where
 abbrev pub is_shipped : Choosing → Bool
 is_shipped found = found.is_attached && option_map_or (λ row. row.shipped) found.row false
 
--- what terms are to a conclusion
+-- the verdict on terms for a conclusion
 abbrev pub verdict_on : Readings → Option Conclusion → List (List ℕ) → Option Verdict
 verdict_on w conclusion terms = option_map (λ c. w.verdict c.profile c.text terms) conclusion
 
@@ -197,7 +197,7 @@ unchoose_answer d p found = refused_first (
     ∷ unless (nat_lt 0 (length found.chosen)) (why.NoChoice d p)
     ∷ []) answered.Done
 
--- Freeze's walk over the shipped packages: the first that fails
+-- Freeze goes through the shipped packages, up to the first that fails: one without a choice
 
 abbrev pub unchosen : PackageRow → List (List ℕ) → Option Refusal
 unchosen p [] = Some (why.NoChoice p.document p.id)
@@ -254,7 +254,7 @@ abbrev pub gone : ReleaseState → Option Refusal
 gone release.Withdrawn = Some (why.ReleaseState release.Withdrawn)
 gone _ = None
 
--- a duty that doesn't stand where it could be so moved from
+-- a duty in a state from which it can't be moved like this
 abbrev pub settled : Word → DutyState → Option Refusal
 settled word state = unless (goes_from word state) (why.DutyState state)
 
@@ -262,13 +262,13 @@ settled word state = unless (goes_from word state) (why.DutyState state)
 abbrev pub is_over : List ℕ → Option (List ℕ) → Bool
 is_over day until = option_map_or (λ last. is_before last day) until false
 
--- what a Meet, a Waive and a Reopen look up: where the duty stands, the state of its release, how many changes it has
+-- what a Meet, a Waive and a Reopen look up: the duty's state, the state of its release, how many changes it has
 pub record Moving : Type 0 where
   pub place : Option DutyState
   pub release : ReleaseState
   pub steps : ℕ
 
--- Meet, Waive and Reopen, the last day being that of a waiver that ends
+-- Meet, Waive and Reopen; the second day, if there is one, is the last day of a waiver that ends
 abbrev pub move_answer : Word → List ℕ → List ℕ → Option (List ℕ) → Moving → Answer
 move_answer word day text until found = refused_first (
     unless (is_day day && option_map_or is_day until true) why.BadDay
@@ -316,8 +316,8 @@ conclude_answer found = refused_first (
     ∷ option_map (λ r. why.Chosen r) found.holder
     ∷ []) answered.Done
 
--- what an Adopt looks up: whether its texts are a reference alone and a licence alone, the document, whether the reference is adopted
--- already, and how many of the document's are
+-- what an Adopt looks up: whether its texts are a reference alone and a licence alone, the document, whether the reference is adopted already, and how many
+-- references of the document are
 pub record Adopting : Type 0 where
   pub is_reference : Bool
   pub is_licence : Bool
@@ -456,7 +456,7 @@ answer w h (Reopen q day text) = move_answer word.Reopened day text None (moving
 answer w h (Withdraw r day text) = withdraw_answer day text (withdrawing h r)
 answer w h (CloseDay day) = close_answer day (closing w h day)
 
--- by its days and its text
+-- whether it is refused because of its days or its text
 abbrev pub refused_by : List ℕ → List ℕ → Option (List ℕ) → Bool
 refused_by day text until = not (is_day day && option_map_or is_day until true && is_note text && not (is_over day until))
 
@@ -476,13 +476,13 @@ refused_alone w (Conclude d p text) = is_some (w.expression_fault Capitals text)
 refused_alone w (Adopt d reference licence) = not (is_reference w reference && is_plain w licence)
 refused_alone w _ = false
 
--- a command is recorded where it is neither refused nor answered Again
+-- a command is recorded if it is neither refused nor answered Again
 abbrev pub is_recorded : Answer → Bool
 is_recorded (answered.Again n) = false
 is_recorded (answered.Refused refusal) = false
 is_recorded _ = true
 
--- the history with a command at its end, where it was recorded
+-- the history after a command, which is added if it is recorded
 abbrev pub noted : Readings → List Command → Command → List Command
 noted w h c = if is_recorded (answer w h c) then c ∷ h else h
 

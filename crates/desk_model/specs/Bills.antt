@@ -1,4 +1,4 @@
--- The bill of a frozen release: its packages with the rules that they were frozen by, and the texts of their terms.
+-- The bill of a frozen release: its packages with the rules that they were frozen with, and the texts of their terms.
 use Rattle.std.specs.Prelude.{ℕ, ◌==◌, ◌&&◌, not, Bool, false, List, [], ◌∷◌, ◌++◌, find, filter, map, Option, None, unwrap_or}
 use Rattle.std.specs.List.{flat_map}
 use Rattle.std.specs.Option.{option_map, option_map_or, option_and_then}
@@ -67,7 +67,7 @@ revision_text catalogue n = option_map (λ row. row.body) (find (is_revision n) 
 abbrev pub extracted_text : List ExtractedRow → ℕ → List ℕ → Option (List ℕ)
 extracted_text extracted d reference = option_and_then (λ row. row.body) (find (is_extracted d reference) extracted)
 
--- of a licence or an exception, by the catalogue that a text is
+-- the text of a licence or an exception, with what the catalogue has for it
 abbrev pub licence_bill : List ℕ → Option LicenceText → BillText
 licence_bill id found = record { title = option_map_or (λ text. text.title) found id; body = option_map (λ text. text.body) found }
 

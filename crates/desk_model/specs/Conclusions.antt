@@ -1,4 +1,4 @@
--- What the office concludes and adopts: of each package, and of each reference of a document, the last one counts.
+-- What the office concludes and adopts: for each package, and for each reference of a document, the last one counts.
 use Rattle.std.specs.Prelude.{ℕ, Bool, false, List, [], ◌∷◌, find, filter, Option, Some, None, unwrap_or, if◌then◌else◌, nat_lt}
 use Rattle.std.specs.List.{list_any}
 use Rattle.std.specs.Option.{option_map, option_map_or}
@@ -46,7 +46,7 @@ profile_in rows p = profile_of (find (is_document p.document) rows)
 abbrev pub concluded_as : Profile → List ℕ → Conclusion
 concluded_as profile text = record { profile = profile; text = text }
 
--- the office's conclusion, which is read by capitals; where it has none the package's own field, if that is an expression
+-- the office's conclusion, with operators in capitals; if there is none, the package's own field, if that is an expression
 abbrev pub conclusion_by : Readings → Option (List ℕ) → Profile → Option (List ℕ) → Option Conclusion
 conclusion_by w (Some text) profile field = Some (concluded_as Capitals text)
 conclusion_by w None profile field = option_map (concluded_as profile) (expression_in w profile field)
@@ -85,7 +85,8 @@ abbrev pub licence_given : Readings → ℕ → List ℕ → Command → Option 
 licence_given w d reference (Adopt d' r licence) = let row = adoption_row w d' r licence in if is_adoption d reference row then Some row.licence else None
 licence_given w d reference _ = None
 
--- The adopted form of a term of a document: for a reference the licence that it is adopted as, with the same exception, or none; any other term is its own.
+-- The adopted form of a term of a document: for a reference, the licence that it is adopted as, with the same exception, or none if it isn't adopted; any other
+-- term is its own.
 abbrev pub adopted : Readings → List AdoptionRow → ℕ → List ℕ → Option (List ℕ)
 adopted w rows d term = option_map_or (λ reference. option_map (λ licence. w.adopted_as licence term) (licence_for rows d reference)) (w.reference term) (Some term)
 

@@ -1,4 +1,4 @@
--- The recorded history, read by filters and last entries. Its newest command stands first.
+-- The recorded history, read by filters and last entries. Its newest command comes first.
 use Rattle.std.specs.Prelude.{ℕ, ◌+◌, ◌==◌, Bool, ◌&&◌, List, [], ◌∷◌, ◌++◌, length, filter, map, find, Option, Some, None, unwrap_or, if◌then◌else◌}
 use Rattle.std.specs.List.{filter_map}
 use Rattle.std.specs.Option.{option_map_or, option_and_then}
@@ -105,7 +105,7 @@ references w [] = []
 references w (Import bytes profile ∷ h) = references w h ++ map (extracted_row (length (documents w h) + 1)) (references_in (result_ok (w.document bytes)))
 references w (_ ∷ h) = references w h
 
--- Conclusions: a package's own field, where it is an expression by its document's profile
+-- Conclusions: a package's own field, if it is an expression by its document's profile
 
 abbrev pub profile_of : Option DocumentRow → Profile
 profile_of document = option_map_or (λ row. row.profile) document Capitals
@@ -150,7 +150,7 @@ state_given r _ = None
 abbrev pub state_of : List Command → List ℕ → ReleaseState
 state_of h r = unwrap_or (latest (state_given r) h) IsOpen
 
--- the revision in force at the freeze of a release, 0 before
+-- the revision in force at the freeze of a release, or 0 before
 abbrev pub revision_of : List Command → List ℕ → ℕ
 revision_of [] r = 0
 revision_of (Freeze r' day ∷ h) r = if bytes_eq r' r then length (revisions h) else revision_of h r
@@ -185,7 +185,7 @@ terms_given w r d p (Unchoose r' d' p') = if is_package_of r d p r' d' p' then S
 terms_given w r d p (Withdraw r' day text) = if bytes_eq r' r then Some [] else None
 terms_given w r d p _ = None
 
--- What is chosen for a package in a release: the terms of the last Choose with no Unchoose and no withdrawal of the release after it,
--- else none. No recorded choice is of no terms, since no expression is true under none.
+-- What is chosen for a package in a release: the terms of the last Choose with no Unchoose and no withdrawal of the release after it, or else none. No recorded
+-- choice is empty, since no expression is true under no terms.
 abbrev pub choice : Readings → List Command → List ℕ → ℕ → List ℕ → List (List ℕ)
 choice w h r d p = unwrap_or (latest (terms_given w r d p) h) []

@@ -1,4 +1,4 @@
--- The keys of rows: the order of each table, and the rows at a key.
+-- The keys of rows: the order of each table, and the rows with a key.
 use Rattle.std.specs.Prelude.{ℕ, ◌==◌, ◌&&◌, ◌||◌, nat_lt, Bool, List}
 use Rattle.std.specs.Str.{bytes_eq}
 use Rattle.std.specs.Ordering.{nat_cmp, is_lt, on, then_cmp}

@@ -1,4 +1,4 @@
--- What is told of the sets of terms that a package's conclusion in force is true under.
+-- What is reported about the sets of terms under which a package's conclusion in force is true.
 use Rattle.std.specs.Prelude.{ℕ, ◌≤◌, Bool, nat_lt, List, [], ◌∷◌, length, Option, None, is_some, unwrap_or, IfSome, Result, if◌then◌else◌}
 use Rattle.std.specs.Option.{option_map, option_and_then}
 use Rattle.std.specs.Result.{result_ok, result_err}
@@ -46,8 +46,7 @@ alternatives_answer w found =
     ∷ option_and_then unlisted sets
     ∷ []) (answered.Alternatives (unwrap_or (option_and_then result_ok sets) []))
 
--- what a term of a document costs: how many duties the rule for its adopted form owes, at most 1,000,000; nothing is known of a term
--- without a rule
+-- what a term of a document costs: how many duties the rule for its adopted form owes, at most 1,000,000; a term without a rule has no cost
 abbrev pub at_most : ℕ → ℕ → ℕ
 at_most limit n = if nat_lt limit n then limit else n
 
@@ -66,7 +65,7 @@ abbrev pub cheapest_of : Readings → (ℕ → List ℕ → Option ℕ) → List
 cheapest_of w cost found =
     option_and_then (λ p. option_map (λ c. w.cheapest c.profile c.text (cost p.document)) found.conclusion) found.row
 
--- Cheapest, of a form that the catalogue in force has or lacks
+-- Cheapest, for a form that the catalogue in force has or lacks
 abbrev pub cheapest_answer : Readings → Bool → (ℕ → List ℕ → Option ℕ) → Listing → Answer
 cheapest_answer w has_form cost found =
     let set = cheapest_of w cost found in

@@ -1,4 +1,4 @@
--- Words on lists. A history has its newest command first.
+-- Functions on lists. A history has its newest command first.
 use Rattle.std.specs.Prelude.{◌≡◌, ◌⊎◌, ◌&&◌, Bool, true, not, filter, List, [], ◌∷◌, Option, Some, None, if◌then◌else◌}
 use Rattle.std.specs.List.{list_all}
 
@@ -17,12 +17,12 @@ abbrev pub put : {A : Type 0} → (A → A → Bool) → A → List A → List A
 put below x [] = x ∷ []
 put below x (y ∷ ys) = if below x y then x ∷ y ∷ ys else y ∷ put below x ys
 
--- each of some in its place
+-- each item of a list in its place
 abbrev pub put_all : {A : Type 0} → (A → A → Bool) → List A → List A → List A
 put_all below [] ys = ys
 put_all below (x ∷ xs) ys = put below x (put_all below xs ys)
 
--- x in its place in a sorted list, instead of what stands at its key
+-- x in its place in a sorted list, instead of what has its key
 abbrev pub replaced : {A : Type 0} → (A → A → Bool) → (A → Bool) → A → List A → List A
 replaced below at x xs = put below x (filter (λ y. not (at y)) xs)
 
@@ -36,12 +36,12 @@ abbrev pub updated : {A : Type 0} → (A → Bool) → (A → A) → List A → 
 updated test change [] = []
 updated test change (x ∷ xs) = (if test x then change x else x) ∷ updated test change xs
 
--- x is one of some
+-- x is one of these
 abbrev pub IsIn : {A : Type 0} → A → List A → Type 0
 IsIn x [] = ⊥
 IsIn x (y ∷ ys) = (y ≡ x) ⊎ IsIn x ys
 
--- none of some is below y
+-- none of these is below y
 abbrev pub over : {A : Type 0} → (A → A → Bool) → A → List A → Bool
 over below y zs = list_all (λ z. not (below z y)) zs
 

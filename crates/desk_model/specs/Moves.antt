@@ -1,4 +1,4 @@
--- The moves of a duty, where it stands, and its changes.
+-- The moves of a duty, its state, and its changes.
 use Rattle.std.specs.Prelude.{ℕ, ◌+◌, ◌==◌, ◌&&◌, not, nat_lt, nat_le, Bool, false, List, [], ◌∷◌, ◌++◌, length, map, find, Option, Some, None, if◌then◌else◌}
 use Rattle.std.specs.List.{flat_map}
 use Rattle.std.specs.Option.{option_map_or}
@@ -17,7 +17,7 @@ use Rattle.desk_model.specs.declared.state.Word.TheVariants as word
 use Rattle.desk_model.specs.declared.command.Command.{Command}
 use Rattle.desk_model.specs.declared.command.Command.TheVariants.{Freeze, Meet, Waive, Reopen, Withdraw, CloseDay}
 
--- where a duty stands after its moves, the last one first
+-- the state of a duty after its moves, the last one first
 abbrev pub place_after : List Move → DutyState
 place_after [] = stands.IsOpen
 place_after (m ∷ ms) = state_after m.word
@@ -50,8 +50,8 @@ is_known w h q = nat_le q (length (raised w h))
 abbrev pub move_if : Bool → Move → Option Move
 move_if b m = if b then Some m else None
 
--- How a command moves duty q, which these before it have moved so: a freeze raises it; Meet, Waive and Reopen name it; a withdrawal of
--- its release moves it unless it is met, and a CloseDay where its waiver ended before that day.
+-- How a command moves duty q, after the commands and the moves before it: a freeze raises it; Meet, Waive and Reopen name it; a withdrawal of its release moves
+-- it unless it is met, and a CloseDay if its waiver ended before that day.
 abbrev pub move_by : Readings → ℕ → Command → List Command → List Move → Option Move
 move_by w q (Freeze r day) before ms = move_if (raises w before r q) (record { day = day; word = word.Raised; body = []; last_day = None })
 move_by w q (Meet q' day text) before ms = move_if ((q' == q) && is_known w before q) (record { day = day; word = word.Met; body = text; last_day = None })
@@ -98,7 +98,7 @@ duty_row state d = record {
   state = state;
 }
 
--- the duties by number, each where it stands
+-- the duties by number, each with its state
 abbrev pub duties : Readings → List Command → List DutyRow
 duties w h = map (λ d. duty_row (place w h d.0) d) (numbered w h)
 

@@ -1,4 +1,4 @@
--- What stands in the way of a freeze: all of it, each as the refusal that a freeze is answered with once those before it are mended.
+-- Everything that keeps a release from being frozen, each as the refusal that a freeze would get once those before it are mended.
 use Rattle.std.specs.Prelude.{ℕ, ◌==◌, ◌&&◌, ◌||◌, nat_lt, Bool, false, List, [], ◌∷◌, ◌++◌, length, Option, Some, None, is_some, unwrap_or, if◌then◌else◌}
 use Rattle.std.specs.List.{filter_map, flat_map, list_any}
 use Rattle.std.specs.Option.{option_and_then}
@@ -30,16 +30,16 @@ unruled_alone w licences rules form p term =
 abbrev pub applying : List (Option Refusal) → List Refusal
 applying refusals = filter_map (λ refusal. refusal) refusals
 
--- what stands against the terms of a package: first the references without adoption, then the other terms without a rule
+-- the refusals for a package's terms: first for references without adoption, then for the other terms without a rule
 abbrev pub term_refusals : Readings → List AdoptionRow → List Rule → List ℕ → List (List ℕ) → PackageRow → List Refusal
 term_refusals w licences rules form terms p = filter_map (unadopted w licences p.document) terms ++ filter_map (unruled_alone w licences rules form p) terms
 
--- what stands against a package with this conclusion and these terms
+-- the refusals for a package with this conclusion and these terms
 abbrev pub package_refusals : Readings → List AdoptionRow → List Rule → List ℕ → Option Conclusion → List (List ℕ) → PackageRow → List Refusal
 package_refusals w licences rules form conclusion terms p =
     applying (unconcluded conclusion p ∷ unchosen p terms ∷ []) ++ term_refusals w licences rules form terms p
 
--- the same of all packages that a release with this form ships
+-- the same for all packages that a release with this form ships
 abbrev pub shipped_refusals : Readings → List AdoptionRow → List Rule → List ℕ → (PackageRow → Option Conclusion) → (PackageRow → List (List ℕ)) → List PackageRow → List Refusal
 shipped_refusals w licences rules form conclusion chosen ps = flat_map (λ p. package_refusals w licences rules form (conclusion p) (chosen p) p) ps
 
@@ -49,28 +49,28 @@ abbrev pub names_reference : ℕ → List ℕ → Refusal → Bool
 names_reference d reference (why.NotAdopted d' reference') = (d' == d) && bytes_eq reference' reference
 names_reference d reference _ = false
 
--- a refusal is for a reference without adoption that some refusals name already
+-- a refusal is for a reference without adoption that these refusals name already
 abbrev pub is_told : List Refusal → Refusal → Bool
 is_told told (why.NotAdopted d reference) = list_any (names_reference d reference) told
 is_told told _ = false
 
--- some refusals, without those for a reference that these, or one before, name already
+-- some refusals, without those for a reference that was named already, by these or by an earlier one
 abbrev pub told_once : List Refusal → List Refusal → List Refusal
 told_once told [] = []
 told_once told (x ∷ xs) = if is_told told x then told_once told xs else x ∷ told_once (told ++ x ∷ []) xs
 
 -- Releases
 
--- a refusal alone, if it applies, else these
+-- a refusal alone, if it applies, or else these
 abbrev pub alone_or : Option Refusal → List Refusal → List Refusal
 alone_or None refusals = refusals
 alone_or (Some refusal) refusals = refusal ∷ []
 
--- what stands against an open release: it has no document, else what stands against its packages
+-- the refusals for an open release: that it has no document, or else those for its packages
 abbrev pub open_refusals : ℕ → List Refusal → List Refusal
 open_refusals attached refusals = alone_or (unless (nat_lt 0 attached) why.EmptyRelease) (told_once [] refusals)
 
--- what Wanting looks up: the release's state, how many documents are attached, what stands against its packages
+-- what Wanting looks up: the release's state, how many documents are attached, the refusals for its packages
 pub record Obstacles : Type 0 where
   pub state : Option ReleaseState
   pub attached : ℕ

@@ -37,7 +37,7 @@ use Rattle.desk_model.specs.declared.command.Query.{Query}
 use Rattle.desk_model.specs.declared.command.Query.TheVariants as query
 use Rattle.desk_model.specs.declared.command.Command.{Command}
 
--- how many duties there are, and how many of them stand where
+-- how many duties there are, and how many of them are in each state
 abbrev pub totals_of : List DutyRow → Totals
 totals_of rows = record {
   raised = length rows;
@@ -69,7 +69,7 @@ duty_line changed row = record {
 abbrev pub duties_of : Readings → List Command → List ℕ → List DutyRow
 duties_of w h r = filter (is_duty_of r) (duties w h)
 
--- the line of a package, by its conclusion in force and what is chosen for it
+-- the line of a package, from its conclusion in force and what is chosen for it
 abbrev pub package_line : (PackageRow → Option Conclusion) → (PackageRow → List (List ℕ)) → PackageRow → PackageLine
 package_line concluded chosen p = record {
   document = p.document;
@@ -79,7 +79,7 @@ package_line concluded chosen p = record {
   terms = chosen p;
 }
 
--- the line of a release, by all duties
+-- the line of a release, from all duties
 abbrev pub release_line : List DutyRow → ReleaseRow → ReleaseLine
 release_line rows release = record { release = release; totals = totals_of (filter (is_duty_of release.name) rows) }
 
@@ -87,7 +87,7 @@ release_line rows release = record { release = release; totals = totals_of (filt
 abbrev pub head_of : DocumentRow → DocumentHead
 head_of row = record { number = row.number; namespace = row.namespace; profile = row.profile }
 
--- the line of a document, by all packages
+-- the line of a document, from all packages
 abbrev pub document_line : List PackageRow → DocumentRow → DocumentLine
 document_line rows document = record { head = head_of document; shipped = length (filter (is_shipped_by document.number) rows) }
 

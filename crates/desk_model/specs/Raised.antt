@@ -83,8 +83,8 @@ frozen w [] = []
 frozen w (Freeze r day ∷ h) = frozen_at w h r ++ frozen w h
 frozen w (_ ∷ h) = frozen w h
 
--- The same in the subject's own words: a freeze of the release stands in the history, and before it a document that ships the
--- package was attached, the term was chosen for it, and the catalogue in force owes the code for the term's adopted form.
+-- The same in the subject's own words: a freeze of the release is in the history, and before it a document that ships the package was attached, the term was
+-- chosen for it, and the catalogue in force owes the code for the term's adopted form.
 pub record IsRaised (w : Readings) (h : List Command) (d : Owed) : Type 0 where
   pub later : List Command
   pub before : List Command

@@ -1,4 +1,4 @@
--- Where duties stand.
+-- The states of duties.
 use Rattle.std.specs.Prelude.{Bool, true, false}
 use Rattle.desk_model.specs.declared.state.DutyState.{DutyState}
 use Rattle.desk_model.specs.declared.state.DutyState.TheVariants as stands
@@ -21,7 +21,7 @@ abbrev pub is_withdrawn : DutyState → Bool
 is_withdrawn stands.Withdrawn = true
 is_withdrawn _ = false
 
--- where a change with this word leaves a duty
+-- the state in which a change with this word leaves a duty
 abbrev pub state_after : Word → DutyState
 state_after word.Raised = stands.IsOpen
 state_after word.Met = stands.Met
@@ -30,7 +30,7 @@ state_after word.Reopened = stands.IsOpen
 state_after word.Withdrawn = stands.Withdrawn
 state_after word.Ended = stands.IsOpen
 
--- from where a duty is met, waived and reopened
+-- the states from which a duty can be met, waived and reopened
 abbrev pub goes_from : Word → DutyState → Bool
 goes_from word.Met state = is_open state
 goes_from word.Waived state = is_open state

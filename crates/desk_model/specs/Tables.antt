@@ -1,4 +1,4 @@
--- The desk's tables: what stands in them after a history, and what each change of rows leaves.
+-- The desk's tables: what is in them after a history, and what each change of rows leaves.
 use Rattle.std.specs.Prelude.{ℕ, Bool, not, List, [], ◌∷◌, ◌++◌, filter, map}
 use Rattle.desk_model.specs.Lists.{put, put_all, updated, replaced, in_order}
 use Rattle.desk_model.specs.Readings.{Readings}
@@ -30,7 +30,7 @@ use Rattle.desk_model.specs.declared.command.Change.TheVariants as change
 use Rattle.desk_model.specs.declared.command.Command.{Command}
 use Rattle.desk_model.specs.declared.command.Command.TheVariants.{Choose, Unchoose, Withdraw}
 
--- all rows, each list sorted by its key; and the forms of the catalogue in force, which stand in its body alone
+-- all rows, each list sorted by its key; and the forms of the catalogue in force, which only its body has
 pub record Tables : Type 0 where
   pub catalogue : List CatalogueRow
   pub forms : List (List ℕ)
@@ -68,7 +68,7 @@ is_other_choice r d p row = not (is_choice_of r d p row)
 abbrev pub is_choice_elsewhere : List ℕ → ChoiceRow → Bool
 is_choice_elsewhere r row = not (is_choice_in r row)
 
--- the choices that stand: a later choice for the same package takes the place of an earlier one, and a withdrawn release holds none
+-- the choices in force: a later choice for the same package replaces an earlier one, and a withdrawn release holds none
 abbrev pub standing : Readings → List Command → List ChoiceRow
 standing w [] = []
 standing w (Choose r d p texts ∷ h) = map (choice_row r d p) (term_set w texts) ++ filter (is_other_choice r d p) (standing w h)
@@ -76,7 +76,7 @@ standing w (Unchoose r d p ∷ h) = filter (is_other_choice r d p) (standing w h
 standing w (Withdraw r day text ∷ h) = filter (is_choice_elsewhere r) (standing w h)
 standing w (_ ∷ h) = standing w h
 
--- the choices that stand, by release, document, package and term
+-- the choices in force, by release, document, package and term
 abbrev pub choices : Readings → List Command → List ChoiceRow
 choices w h = in_order (below_by choice_order) (standing w h)
 
@@ -107,7 +107,7 @@ withdrawn_release row = record row { state = Withdrawn }
 abbrev pub with_duty_state : DutyState → DutyRow → DutyRow
 with_duty_state state row = record row { state = state }
 
--- the duties, each that has a change standing where that leaves it
+-- the duties, each of them that has a change in the state in which that leaves it
 abbrev pub moved_by : List ChangeRow → List DutyRow → List DutyRow
 moved_by [] rows = rows
 moved_by (change ∷ changes) rows = updated (is_duty change.duty) (with_duty_state (state_after change.word)) (moved_by changes rows)

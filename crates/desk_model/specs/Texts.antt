@@ -1,4 +1,4 @@
--- Texts: how they compare, and which may stand where.
+-- Texts: how they compare, and which are allowed for what.
 use Rattle.std.specs.Prelude.{ℕ, ◌&&◌, nat_le, Bool, List, [], ◌∷◌, length, if◌then◌else◌}
 use Rattle.std.specs.List.{list_all}
 use Rattle.std.specs.Ordering.{nat_cmp, is_lt}
@@ -16,7 +16,7 @@ text_below a b = is_lt (slice_cmp nat_cmp a b)
 abbrev pub is_before : List ℕ → List ℕ → Bool
 is_before a b = text_below a b
 
--- a text in its place among others that are sorted, where it isn't there
+-- a text in its place among others that are sorted, unless it is there already
 abbrev pub put_new : List ℕ → List (List ℕ) → List (List ℕ)
 put_new x [] = x ∷ []
 put_new x (y ∷ ys) = if text_below x y then x ∷ y ∷ ys else (if bytes_eq x y then y ∷ ys else y ∷ put_new x ys)

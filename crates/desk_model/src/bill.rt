@@ -1,4 +1,4 @@
-//! The bill of a frozen release: what its notices are written of.
+//! The bill of a frozen release: what its notices are written from.
 
 use desk_base::{Items, Text};
 
@@ -19,7 +19,7 @@ pub enum TextOf {
     },
 }
 
-/// A package that a release shipped, with the rules of the terms that it was frozen with.
+/// A package that a release shipped, with the rules for the terms that it was frozen with.
 #[derive(Drop)]
 pub struct BillLine {
     /// The value of PackageName.
@@ -35,14 +35,14 @@ pub struct BillLine {
 /// A text that goes with a release.
 #[derive(Drop)]
 pub struct BillText {
-    /// The licence or the exception, as the catalogue spells it at its text, else its id; a
+    /// The licence or the exception, as the catalogue spells it with its text, or else its id; a
     /// reference as it is.
     pub title: Text,
-    /// The text, where one is recorded.
+    /// The text, if one is recorded.
     pub body: Option<Text>,
 }
 
-/// What the notices of a frozen release are written of.
+/// What the notices of a frozen release are written from.
 #[derive(Drop)]
 pub struct Bill {
     /// The name of the release.

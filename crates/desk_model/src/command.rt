@@ -1,4 +1,4 @@
-//! Commands, queries and what they are answered.
+//! Commands, queries and their answers.
 
 use crate::bill::Bill;
 use crate::finding::Finding;
@@ -13,18 +13,18 @@ use desk_base::{Day, Items, Text, TextList};
 use std::alloc::{AllocError, AllocFailed};
 use thiserror::Error;
 
-/// A command, with texts and numbers as they came: nothing of them is checked before the desk
+/// A command, with texts and numbers as they came: nothing in it is checked before the desk
 /// decides.
 #[derive(Drop)]
 pub enum Command {
     /// A catalogue is loaded as the next revision.
     LoadCatalogue {
-        /// TOML, as docs/CATALOGUE.md tells it.
+        /// TOML, as docs/CATALOGUE.md describes it.
         text: Text,
     },
     /// A document is imported.
     Import {
-        /// A tag-value document of SPDX 2.3, of at most 4 MiB.
+        /// A tag-value document of SPDX 2.1, 2.2 or 2.3, of at most 4 MiB.
         bytes: Items<u8>,
         /// How its operators may be written.
         profile: Profile,
@@ -87,7 +87,7 @@ pub enum Command {
         day: Text,
         /// Why, 1 to 1,024 bytes.
         text: Text,
-        /// The last day of a waiver that ends.
+        /// The last day of the waiver, if it ends.
         until: Option<Text>,
     },
     /// A duty is open again.
@@ -141,7 +141,7 @@ pub enum Query {
         /// The name of a release.
         release: Text,
     },
-    /// How many duties of a release stand where.
+    /// The duties of a release, counted by state.
     Totals {
         /// The name of a release.
         release: Text,
@@ -161,15 +161,15 @@ pub enum Query {
         /// The name of a release.
         release: Text,
     },
-    /// The minimal sets of terms that a package's conclusion in force is true under.
+    /// The minimal sets of terms under which a package's conclusion in force is true.
     Alternatives {
         /// The number of a document, from 1.
         document: u64,
         /// The SPDXID of a package of it.
         package_id: Text,
     },
-    /// The set of terms that owes the fewest duties in a form, of those that a package's conclusion
-    /// in force is true under.
+    /// Of the sets of terms under which a package's conclusion in force is true, the one that owes
+    /// the fewest duties in a form.
     Cheapest {
         /// The number of a document, from 1.
         document: u64,
@@ -178,18 +178,18 @@ pub enum Query {
         /// A form of the catalogue in force.
         form: Text,
     },
-    /// What the notices of a frozen release are written of.
+    /// What the notices of a frozen release are written from.
     Bill {
         /// The name of a release.
         release: Text,
     },
-    /// All releases by name, with how many duties of each stand where.
+    /// All releases by name, each with its duties counted by state.
     Releases,
     /// All documents by number, with how many packages each ships.
     Documents,
     /// The open duties of all releases, release by release.
     OpenDuties,
-    /// All that stands in the way of a freeze of an open release.
+    /// Everything that keeps an open release from being frozen.
     Wanting {
         /// The name of a release.
         release: Text,
@@ -211,7 +211,7 @@ pub struct DutyLine {
     pub rule: Text,
     /// The code of the duty in the revision of the freeze.
     pub code: Text,
-    /// Where it stands.
+    /// Its state.
     pub state: DutyState,
     /// The day of the last change.
     pub day: Option<Day>,
@@ -232,7 +232,7 @@ pub struct PackageLine {
     pub terms: Items<Text>,
 }
 
-/// How many duties of a release were raised, and how many of these stand where.
+/// How many duties of a release were raised, and how many of these are in each state.
 #[derive(Clone, Copy, PartialEq, Eq)]
 pub struct Totals {
     /// All that were raised: the sum of the others.
@@ -247,7 +247,7 @@ pub struct Totals {
     pub withdrawn: u64,
 }
 
-/// A release, and how many of its duties stand where.
+/// A release, with its duties counted by state.
 #[derive(Drop)]
 pub struct ReleaseLine {
     /// The release itself.
@@ -274,29 +274,29 @@ pub struct OpenDuty {
     pub day: Option<Day>,
 }
 
-/// What a command or a query is answered.
+/// The answer to a command or a query.
 #[derive(Drop)]
 pub enum Answer {
     /// The catalogue was loaded as this revision.
     Revision(u32),
     /// The document was imported under this number.
     Imported(u32),
-    /// The document stands already under this number.
+    /// The document was imported before, under this number.
     Again(u32),
-    /// It was recorded, and there is nothing more to tell.
+    /// It was recorded, and there is nothing more to report.
     Done,
-    /// The release was frozen, and its duties, so many, are numbered from the first on.
+    /// The release was frozen. Its duties have consecutive numbers.
     Frozen {
         /// The number of the first of them.
         first: u32,
-        /// How many they are, 0 among them.
+        /// How many there are, perhaps 0.
         count: u32,
     },
-    /// So many waivers ended.
+    /// This many waivers ended.
     Closed(u64),
     /// The duties of a release, by number.
     Duties(Items<DutyLine>),
-    /// How many duties of a release stand where.
+    /// The duties of a release, counted by state.
     Totals(Totals),
     /// The changes of a duty, by step.
     Changes(Items<ChangeRow>),
@@ -311,17 +311,17 @@ pub enum Answer {
     },
     /// The sets of printed terms.
     Alternatives(Items<Items<Text>>),
-    /// The cheapest set, where there is one.
+    /// The cheapest set, if there is one.
     Cheapest(Option<Cheapest>),
-    /// What the notices of a frozen release are written of.
+    /// What the notices of a frozen release are written from.
     Bill(Bill),
-    /// All releases by name, with how many duties of each stand where.
+    /// All releases by name, each with its duties counted by state.
     Releases(Items<ReleaseLine>),
     /// All documents by number, with how many packages each ships.
     Documents(Items<DocumentLine>),
     /// The open duties of all releases, release by release, each by number.
     OpenDuties(Items<OpenDuty>),
-    /// What stands in the way of a freeze, in a freeze's order.
+    /// What keeps a release from being frozen, in the order in which a freeze checks it.
     Wanting(Items<Refusal>),
     /// Nothing was recorded, for this reason.
     Refused(Refusal),
@@ -360,7 +360,7 @@ pub enum Change {
         document: u32,
         /// The SPDXID of the package.
         package_id: Text,
-        /// The choice in place of an earlier one; none where it is dropped.
+        /// The choice in place of an earlier one, or nothing if it is dropped.
         rows: Items<ChoiceRow>,
     },
     /// A release is frozen.
@@ -397,13 +397,13 @@ pub enum Change {
 /// What a command comes to, decided before anything is written.
 #[derive(Drop)]
 pub enum Plan {
-    /// It is answered so, and the rows stay.
+    /// It gets this answer, and the rows stay as they are.
     Leave(Answer),
     /// It is recorded: the answer, and the change of the rows that goes with it.
     Make { answer: Answer, change: Change },
 }
 
-/// Why a database didn't serve.
+/// How a database failed.
 #[derive(Clone, Copy, Debug, PartialEq, Eq)]
 pub enum StoreFault {
     /// The database refused a statement or a commit.
@@ -412,14 +412,14 @@ pub enum StoreFault {
     Rows,
 }
 
-/// Why a command or a query was not answered.
+/// Why a command or a query has no answer.
 #[derive(Clone, Copy, Debug, Drop, PartialEq, Eq, Error)]
 pub enum Fault {
     #[error("out of memory")]
-    /// Memory was wanting. Nothing was recorded.
+    /// No memory was left. Nothing was recorded.
     Memory,
     #[error("the store failed")]
-    /// The database didn't serve.
+    /// The database failed.
     Store(StoreFault),
 }
 
@@ -445,7 +445,7 @@ impl<T: Drop> From<AllocFailed<T>> for Fault {
     }
 }
 
-/// What became of a command.
+/// The outcome of a command.
 #[derive(Drop)]
 pub enum Outcome {
     /// There is an answer.

@@ -3,8 +3,8 @@
 ghost use Rattle.std.specs.Prelude.{◌≡◌};
 ghost use Rattle.desk_model.specs.FindingKinds.{kind_number, kind_name, missing_place, missing_name, place_in_kind};
 
-/// A field that a document should have and hasn't, in the order in which such findings of one line
-/// are told.
+/// A field that a document should have but doesn't. Such findings of one line are reported in this
+/// order.
 #[derive(Clone, Copy, PartialEq, Eq)]
 pub enum MissingField {
     /// `DataLicense` (clause 6.2).
@@ -21,33 +21,34 @@ pub enum MissingField {
     ExtractedText,
 }
 
-/// What isn't as the standard has it. The kinds have numbers, names, the clause of SPDX 2.3 that
-/// they are about, and a usual cause.
+/// What isn't as the standard has it. Each kind has a number, a name, the clause of SPDX 2.3 that
+/// it is about, and a usual cause.
 #[derive(Clone, Copy, PartialEq, Eq)]
 pub enum FindingKind {
     /// 1: a tag that the standard doesn't have (clauses 6 to 12). A misspelt tag, or one of another
     /// tool.
     UnknownTag,
-    /// 2: a field outside the sections that have it, which is read over (clauses 6 to 10). Fields
-    /// in another order.
+    /// 2: a field outside the sections that have it, which is ignored (clauses 6 to 10). Fields in
+    /// another order.
     Misplaced,
-    /// 3: a licence field that holds no expression, `NONE` or `NOASSERTION` (clauses 7.13, 7.15,
-    /// 8.5, 8.6, Annex D). A licence's full name, or operators in small letters.
+    /// 3: a licence field whose value is no expression and neither `NONE` nor `NOASSERTION`
+    /// (clauses 7.13, 7.15, 8.5, 8.6, Annex D). A licence's full name, or operators in small
+    /// letters.
     BadExpression,
-    /// 4: a checksum that begins with `SHA1:` and has not one blank and 40 hexadecimal digits
-    /// behind it (clause 8.4). A digest cut short.
+    /// 4: a checksum that begins with `SHA1:` and isn't continued by one blank and 40 hexadecimal
+    /// digits (clause 8.4). A digest cut short.
     BadDigest,
     /// 5: a verification code of another form (clause 7.9). Another digest in its place.
     BadCode,
     /// 6: a verification code that isn't that of the package's files (clause 7.9). Files changed
-    /// behind the code.
+    /// after the code was made.
     CodeDiffers,
-    /// 7: a verification code where `FilesAnalyzed` is false (clauses 7.8, 7.9). A flag set by
+    /// 7: a verification code although `FilesAnalyzed` is false (clauses 7.8, 7.9). A flag set by
     /// hand.
     CodeUnwanted,
     /// 8: a relationship of an element that isn't there (clause 11.1). An element left out.
     Dangling,
-    /// 9: a field that isn't there (clauses 6.2, 6.8, 6.9, 7.7, 8.4, 10.2). A document written by
+    /// 9: a field that is missing (clauses 6.2, 6.8, 6.9, 7.7, 8.4, 10.2). A document written by
     /// hand.
     MissingField(MissingField),
     /// 10: a `FilesAnalyzed` that is neither `true` nor `false`, which counts as true (clause 7.8).
@@ -127,7 +128,7 @@ impl FindingKind {
         }
     }
 
-    /// Where it stands among findings of the kind.
+    /// Its place among findings of the kind.
     pub fn place(self) -> u8
         ensures { result ≡ place_in_kind self }
     {

@@ -1,6 +1,6 @@
-//! What the desk keeps, is asked and answers: the rows of its tables, its commands, queries and
-//! answers, the refusals and the kinds of findings by their numbers and names; and in `specs/` what
-//! each of them means, over the recorded history of commands.
+//! What the desk keeps, what it is asked, and what it answers: the rows of its tables, its
+//! commands, queries and answers, the refusals and the kinds of findings by their numbers and
+//! names; and in `specs/` what each of them means in terms of the recorded history of commands.
 //!
 //! A contract sees each text and each list as its items, and each other value as the record of its
 //! fields.

@@ -1,4 +1,4 @@
-//! What the desk understands of the texts that it is given.
+//! What the desk reads in the texts that it is given.
 
 pub use desk_base::Profile;
 use desk_base::{Items, Text};
@@ -25,7 +25,7 @@ pub struct Catalogue {
     pub rules: Items<Rule>,
 }
 
-/// The text that a catalogue has of a licence or an exception.
+/// The text that a catalogue has for a licence or an exception.
 #[derive(Drop)]
 pub struct LicenceText {
     /// The id, as the catalogue spells it.
@@ -71,8 +71,8 @@ pub struct Document {
     pub references: Items<Reference>,
 }
 
-/// The licence expression that is concluded for a package, as it was written, and the profile that
-/// it is read by.
+/// The licence expression that is concluded for a package, as it was written, and the profile by
+/// which it is read.
 #[derive(Drop)]
 pub struct Conclusion {
     /// How its operators may be written.
@@ -91,7 +91,7 @@ pub enum ListFault {
     TooMany,
 }
 
-/// The cheapest set of terms that a licence expression is true under, printed, and what it costs.
+/// The cheapest set of terms under which a licence expression is true, printed, and what it costs.
 #[derive(Drop)]
 pub struct Cheapest {
     /// The number of duties that the terms owe.
@@ -100,12 +100,12 @@ pub struct Cheapest {
     pub terms: Items<Text>,
 }
 
-/// What a list of terms is to a licence expression.
+/// How well a list of terms satisfies a licence expression.
 #[derive(Clone, Copy, PartialEq, Eq)]
 pub enum Verdict {
     /// The expression isn't true under these terms.
     NotEnough,
-    /// It is true also without the term at this place of the list, the first such.
+    /// It is true even without the term at this place of the list, the first such place.
     Superfluous(usize),
     /// It is true, and each term is needed.
     Minimal,

@@ -3,14 +3,14 @@
 use crate::state::{DutyState, ReleaseState};
 use desk_base::Text;
 
-/// Why a text is no licence expression (SPDX 2.3, Annex D), with the byte where it stops.
+/// Why a text isn't a licence expression (SPDX 2.3, Annex D), with the byte where it stops.
 #[derive(Clone, Copy, PartialEq, Eq)]
 pub enum ExpressionFault {
-    /// There is nothing but blanks.
+    /// There are only blanks.
     Empty(usize),
-    /// A run is no operator and no id.
+    /// A run of bytes is no operator, id or reference.
     BadToken(usize),
-    /// A token stands where none of its kind may.
+    /// A token can't be there, or the text ends too early.
     Unexpected(usize),
     /// A parenthesis isn't closed.
     Unclosed(usize),
@@ -42,26 +42,26 @@ impl ExpressionFault {
     }
 }
 
-/// Why a text is no tag-value document (SPDX 2.3), with the line, counted from 1.
+/// Why a text isn't a tag-value document (SPDX 2.3), with the line, counted from 1.
 #[derive(Drop, PartialEq)]
 pub enum DocumentFault {
-    /// The bytes are no UTF-8.
+    /// The bytes aren't UTF-8.
     NotUtf8,
     /// A line has no colon, or no tag before it.
     NoColon(u64),
     /// A `<text>` isn't closed.
     OpenText(u64),
-    /// Something stands behind `</text>`.
+    /// Something other than blanks follows `</text>`.
     AfterText(u64),
     /// SPDXVersion is none of 2.1, 2.2 and 2.3.
     BadVersion(u64),
-    /// A field that must be there isn't.
+    /// A required field is missing.
     Missing { line: u64, tag: Text },
     /// An identifier of another form.
     BadId(u64),
-    /// An identifier that stands already.
+    /// An identifier that is used already.
     DuplicateId(u64),
-    /// A field that may stand once stands again.
+    /// A field that may occur only once occurs again.
     Repeated { line: u64, tag: Text },
     /// A relationship that isn't three words of the right form.
     BadRelationship(u64),
@@ -126,10 +126,10 @@ impl CataloguePart {
     }
 }
 
-/// Why a text is no catalogue, with the part and the place in it, counted from 0.
+/// Why a text isn't a catalogue, with the part and the place in it, counted from 0.
 #[derive(Clone, Copy, Debug, PartialEq, Eq)]
 pub enum CatalogueFault {
-    /// The text is no TOML document.
+    /// The text isn't a TOML document.
     NotToml,
     /// A key is absent.
     Missing(CataloguePart, usize),
@@ -141,7 +141,7 @@ pub enum CatalogueFault {
     UnknownForm(CataloguePart, usize),
     /// A code of a rule has no duty.
     UnknownDuty(CataloguePart, usize),
-    /// Something stands twice, told at the later one.
+    /// Something is there twice; the place is that of the later one.
     Twice(CataloguePart, usize),
     /// There are more than 4 MiB.
     TooLarge,
@@ -293,7 +293,7 @@ pub enum Refusal {
     BadText,
     /// The text is no day.
     BadDay,
-    /// There are as many as a desk keeps.
+    /// There are already as many as the limit allows.
     Full(Limit),
     /// There are too many minimal sets.
     TooMany,

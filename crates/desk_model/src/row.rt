@@ -1,4 +1,4 @@
-//! The rows of the desk's tables. The fields that make a row's key stand first.
+//! The rows of the desk's tables. The fields of a row's key come first.
 
 use crate::reading::Profile;
 use crate::state::{DutyState, ReleaseState, Word};
@@ -24,8 +24,8 @@ pub struct RuleRow {
     pub form: Text,
     /// The term, as the catalogue spells it.
     pub spelled: Text,
-    /// The codes of duties, sorted by their bytes, each once. The reader of texts saw that each has
-    /// a duty.
+    /// The codes of duties, sorted by their bytes, each once. The reader of texts checked that each
+    /// has a duty.
     pub codes: Items<Text>,
 }
 
@@ -101,22 +101,22 @@ pub struct AdoptionRow {
     pub document: u32,
     /// The reference, byte for byte.
     pub reference: Text,
-    /// The printed term that stands in its place.
+    /// The printed term that takes its place.
     pub licence: Text,
 }
 
 /// A release.
 #[derive(Drop)]
 pub struct ReleaseRow {
-    /// An idstring of 1 to 64 bytes, which OpenRelease checks.
+    /// An idstring of 1 to 64 bytes, as OpenRelease checks.
     pub name: Text,
     /// Its place in the order of opening, from 1.
     pub place: u32,
-    /// A form of the catalogue in force as it was opened.
+    /// A form of the catalogue that was in force when it was opened.
     pub form: Text,
-    /// Where it stands.
+    /// Its state.
     pub state: ReleaseState,
-    /// The revision of the catalogue at its freeze, 0 before.
+    /// The revision of the catalogue at its freeze, or 0 before.
     pub revision: u64,
 }
 
@@ -157,7 +157,7 @@ pub struct FrozenRow {
     pub rule: Text,
 }
 
-/// What a duty is owed for: a code of the rule for a term of a package in a release, and the rule's
+/// Why a duty is owed: a code of the rule for a term of a package in a release, and the rule's
 /// spelling of the term.
 #[derive(Drop)]
 pub struct Owed {
@@ -192,7 +192,7 @@ pub struct DutyRow {
     pub code: Text,
     /// The adopted form of the term, as the rule spells it.
     pub rule: Text,
-    /// Where it stands.
+    /// Its state.
     pub state: DutyState,
 }
 
@@ -203,9 +203,9 @@ pub struct Move {
     pub day: Day,
     /// What was done.
     pub word: Word,
-    /// The text, of at most 1,024 bytes; empty where the command has none.
+    /// The text, of at most 1,024 bytes; empty if the command has none.
     pub body: Text,
-    /// The last day of a waiver that ends.
+    /// The last day of a waiver, if it is one that ends.
     pub last_day: Option<Day>,
 }
 
@@ -220,19 +220,19 @@ pub struct ChangeRow {
     pub day: Day,
     /// What was done.
     pub word: Word,
-    /// The text, of at most 1,024 bytes; empty where the command has none.
+    /// The text, of at most 1,024 bytes; empty if the command has none.
     pub body: Text,
-    /// The last day of a waiver that ends.
+    /// The last day of a waiver, if it is one that ends.
     pub last_day: Option<Day>,
 }
 
-/// Where a duty stands: its state, and how many changes it has.
+/// The state of a duty, and how many changes it has.
 #[derive(Drop)]
 pub struct Standing {
     /// The number of the duty, from 1.
     pub number: u32,
-    /// Where it stands.
+    /// Its state.
     pub state: DutyState,
-    /// How many changes it has, its raising among them.
+    /// How many changes it has, including its raising.
     pub steps: u64,
 }

@@ -1,6 +1,6 @@
-//! Where a release and a duty stand.
+//! The states of releases and duties.
 
-/// Where a release stands. It is printed as `open`, `frozen` or `withdrawn`.
+/// The state of a release. It is printed as `open`, `frozen` or `withdrawn`.
 #[derive(Clone, Copy, PartialEq, Eq)]
 pub enum ReleaseState {
     IsOpen,
@@ -24,7 +24,7 @@ impl ReleaseState {
     }
 }
 
-/// Where a duty stands. It is printed as `open`, `met`, `waived` or `withdrawn`.
+/// The state of a duty. It is printed as `open`, `met`, `waived` or `withdrawn`.
 #[derive(Clone, Copy, PartialEq, Eq)]
 pub enum DutyState {
     IsOpen,
@@ -81,7 +81,7 @@ impl Word {
         }
     }
 
-    /// Where a change with this word leaves a duty.
+    /// The state in which a change with this word leaves a duty.
     pub fn state_after(self) -> DutyState
         ensures { result ≡ state_after self }
     {

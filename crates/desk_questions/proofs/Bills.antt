@@ -1,4 +1,4 @@
--- The bill of a release, put together of what was looked up.
+-- The bill of a release, put together from what was looked up.
 use Rattle.std.proofs.Common.{◌≡◌, ◌∙◌, inl, inr, ℕ, Bool, true, false, cond, List, [], ◌∷◌, map, Some, sym, ap, refl, subst}
 use Rattle.std.specs.Prelude.{◌==◌, ◌&&◌, filter, find, IfSome}
 use Rattle.std.specs.List.{flat_map}
@@ -25,7 +25,7 @@ use Rattle.desk_model.specs.declared.command.Answer.TheVariants as answered
 use Rattle.desk_model.specs.declared.command.Query.TheVariants as query
 use Rattle.desk_history.specs.FromTables.{queried_from, release_found, shipped_found}
 
--- what passes the second test is left by the first
+-- what passes the second test isn't removed by the first
 filter_after : {A : Type 0} (p q : A → Bool) → ((x : A) → q x ≡ true → p x ≡ true) → (xs : List A) → filter q (filter p xs) ≡ filter q xs
 filter_after p q within [] = refl
 filter_after {A} p q within (x ∷ xs) = go (filter_after p q within xs) (p x) refl (q x) refl
@@ -43,7 +43,7 @@ among frozen r p = filter_after (λ row. bytes_eq row.release r) (is_frozen_of r
     first true b e = refl
     first false b e = e
 
--- the bill by the terms of the release alone
+-- the bill from the terms of the release alone
 pub bill_among : (w : Readings) (t : Tables) (ps : List PackageRow) (row : ReleaseRow)
     → bill_of w t.catalogue t.extracted (filter (λ f. bytes_eq f.release row.name) t.frozen) ps row ≡ bill_of w t.catalogue t.extracted t.frozen ps row
 bill_among w t ps row = λ i. record {

@@ -1,4 +1,4 @@
--- One line more, looked up after those before it.
+-- One more line, looked up after those before it.
 use Rattle.std.proofs.Common.{◌≡◌, ◌∙◌, List, [], ◌∷◌, ◌++◌, map, sym, ap}
 use Rattle.std.proofs.lemmas.List.{map-append}
 use Rattle.desk_model.specs.Tables.{Tables}

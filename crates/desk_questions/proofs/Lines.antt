@@ -55,7 +55,7 @@ filter_both {A} p q (x ∷ xs) = go (filter_both p q xs) (p x) (q x) refl refl
     go rest true false e f = rw (e, f) rest
     go rest false b e f = rw e rest
 
--- where none is counted, none passes
+-- if none is counted, none passes
 none_there : {A : Type 0} (xs : List A) → length xs ≡ 0 → xs ≡ []
 none_there [] none = refl
 none_there (x ∷ xs) none = absurd (omega (arith, none))

@@ -1,4 +1,4 @@
--- What is told step by step is the list of refusals, or the sets.
+-- The answer given step by step is the list of refusals, or the sets.
 use Rattle.std.proofs.Common.{◌≡◌, ℕ, Bool, true, false, List, Option, Some, None, refl, sym, ap, subst, ◌∙◌}
 use Rattle.std.specs.Prelude.{Result, Ok, Err, find, is_some, IfOk}
 use Rattle.std.specs.List.{list_any}
@@ -83,7 +83,7 @@ module _ {Left : Type 0} where
   told_after a b c told answer (Ok x) s l same is = λ h t held. is h t (s.kept.spared.holds t held) ∙ same (l.kept.spared.honest h) t held
   told_after a b c told answer (Err fault) s l same is = tt
 
-  -- what is told of the expression that was read of a conclusion
+  -- the answer about the expression that was read from a conclusion
   pub read_then : {E : Type 0} (is_of : Profile → List ℕ → E → Type 0) (w : Readings) (a b c : Seen Left) (concluded : Tables → Option Conclusion) (told : Profile → List ℕ → Tables → Answer) (p : PackageRow) (e : E) (read : InForce E) (r : Result Answer Fault)
       → Same a b → Looked b c r → read ≡ Expression e
       → (b.is_honest → (t : Tables) → a.holds t → InForceOf is_of w (concluded t) read)

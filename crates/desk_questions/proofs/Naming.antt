@@ -1,4 +1,4 @@
--- Texts that terms name, where those that a term names again are left out.
+-- Texts that terms name, if those that a term names again are left out.
 use Rattle.std.proofs.Common.{◌≡◌, ◌∙◌, inl, inr, ℕ, ◌+◌, ◌<◌, Bool, true, false, cond, List, [], ◌∷◌, ◌++◌, length, take, get_or, Option, None, Some, sym, ap, refl, subst}
 use Rattle.std.specs.Prelude.{◌||◌, filter, if◌then◌else◌}
 use Rattle.std.specs.List.{flat_map, list_any}
@@ -63,7 +63,7 @@ same_uses xs (x ∷ texts) within =
     ∙ same_uses (xs ++ x ∷ []) texts (among_more xs (x ∷ []) texts (λ y e. within y (or_right (is_same_text y x) (list_any (is_same_text y) texts) e)))
     ∙ same_one xs x (within x (or_left (is_same_text x x) (list_any (is_same_text x) texts) (same_itself x)))
 
--- The same texts more on either side
+-- The same texts added on either side
 
 both_any : (ns xs texts : List TextOf) → ((x : TextOf) → list_any (is_same_text x) ns ≡ list_any (is_same_text x) xs)
     → (x : TextOf) → list_any (is_same_text x) (ns ++ texts) ≡ list_any (is_same_text x) (xs ++ texts)
@@ -107,7 +107,7 @@ met_again w d term named is = λ xs are.
       met = λ other was e. among_more xs texts (texts_named w e other.now) (are.met other was e);
     }
 
--- its texts are put to those that were named
+-- its texts are added to those that were named
 pub put_texts : (w : Readings) (texts : List TextOf) (old new : Named) → new.texts.items ≡ old.texts.items ++ texts → new.met ≡ old.met → Adds w texts old new
 put_texts w texts old new put met = λ xs are.
     record {
@@ -116,7 +116,7 @@ put_texts w texts old new put met = λ xs are.
       met = λ term is d. among_more xs texts (texts_named w d term.now) (are.met term (ap (contains_by (λ k. slice_cmp nat_cmp term.now k.now)) (sym met) ∙ is) d);
     }
 
--- the term was met, once its texts are there
+-- the term was met, after its texts were added
 pub met_more : (w : Readings) (d : ℕ) (term : Bor (List ℕ)) (old mid new : Named) → is_licence (main_text w d term.now) ≡ true
     → new.texts.items ≡ mid.texts.items → Updates (λ x y. slice_cmp nat_cmp x.now y.now) mid.met new.met term true
     → Adds w (texts_named w d term.now) old mid → Adds w (texts_named w d term.now) old new
@@ -134,7 +134,7 @@ met_more w d term old mid new is_anywhere put updates adds = λ xs are.
       ];
     }
 
--- One row more
+-- One more row
 
 -- it passes, and what it names is added
 pub named_next : {X : Type 0} (w : Readings) (f : X → List TextOf) (p : X → Bool) (xs : List X) (i : ℕ) (x : X) (a b c : Named) → i < length xs → x ≡ get_or xs i x → p x ≡ true

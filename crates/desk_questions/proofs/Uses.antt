@@ -1,4 +1,4 @@
--- Texts in the order of first use: one text more is at the end, if it isn't among those before; and a set of keys tells whether it is.
+-- Texts in the order of first use: one more text comes last if it isn't among those before; and a set of keys shows whether it is.
 use Rattle.std.proofs.Common.{◌≡◌, ◌∙◌, ℕ, ◌+◌, ◌==◌, Bool, true, false, cond, List, [], ◌∷◌, ◌++◌, sym, ap, refl, nat_cmp, arith}
 use Rattle.std.specs.Prelude.{◌||◌, ◌&&◌, not, filter, if◌then◌else◌}
 use Rattle.std.specs.List.{list_any}
@@ -52,7 +52,7 @@ next_other d = grind (arith, nat_tests)
 other_next : (d : ℕ) → (d + 1 == 0) ≡ false
 other_next d = grind (arith, nat_tests)
 
--- texts are the same where their keys are
+-- texts are the same if their keys are
 pub same_key : (a b : TextOf) → is_eq (key_order (text_key a) (text_key b)) ≡ is_same_text a b
 same_key (Licence id) (Licence other) = key_equal (text_key (Licence id)) (text_key (Licence other))
 same_key (Licence id) (Reference e other) =
@@ -72,7 +72,7 @@ flipped (Licence id) (Reference e other) = refl
 flipped (Reference d reference) (Licence other) = refl
 flipped (Reference d reference) (Reference e other) = λ i. nat_flipped d e i && texts_turned reference other i
 
--- One text more
+-- One more text
 
 added : (x : TextOf) (xs : List TextOf) (y : TextOf) (b : Bool) → list_any (is_same_text x) xs ≡ b
     → y ∷ filter (λ other. not (is_same_text y other)) (if b then first_uses xs else first_uses xs ++ x ∷ [])
@@ -121,13 +121,13 @@ any_key x (y ∷ xs) = λ i. same_key x y i || any_key x xs i
 turned : (a b : TextKey) → is_eq (key_order a b) ≡ is_eq (key_order b a)
 turned a b = key_equal a b ∙ (λ i. nat_flipped a.document b.document i && texts_turned a.name b.name i) ∙ sym (key_equal b a)
 
--- a text is new where none before is the same
+-- a text is new if none before is the same
 pub is_new : (xs : List TextOf) (seen : BTreeSet TextKey) (x : TextOf) (key : TextKey) (told : Bool) → key ≡ text_key x → HasTexts xs seen
     → told ≡ not (contains_by (key_order key) seen) → told ≡ not (list_any (is_same_text x) xs)
 is_new xs seen x key told is has e =
     e ∙ ap (λ k. not (contains_by (key_order k) seen)) is ∙ ap not (has (text_key x) ∙ any_key x xs)
 
--- one text more
+-- one more text
 pub texts_more : (xs : List TextOf) (x : TextOf) (old new : BTreeSet TextKey) (key : TextKey) → key ≡ text_key x → Updates key_order old new key true
     → HasTexts xs old → HasTexts (xs ++ x ∷ []) new
 texts_more xs x old new key is h has = λ q.
@@ -138,7 +138,7 @@ texts_more xs x old new key is h has = λ q.
     ∙ ap (λ b. list_any (λ text. is_eq (key_order q (text_key text))) xs || b) (none_more (is_eq (key_order q (text_key x))))
     ∙ sym (list_any-append (λ text. is_eq (key_order q (text_key text))) xs (x ∷ []))
 
--- What is kept after one text more: that text too where it is new, else what was kept
+-- What is kept after one more text: if it is new, that text too, or else what was kept
 kept_new : (b : Bool) (xs : List TextOf) (x : TextOf) → not b ≡ true → (if b then first_uses xs else first_uses xs ++ x ∷ []) ≡ first_uses xs ++ x ∷ []
 kept_new true xs x e = absurd (false≢true e)
 kept_new false xs x e = refl

@@ -1,4 +1,4 @@
--- What the bill of a release is made of, over looked-up rows.
+-- What the bill of a release is made from, over looked-up rows.
 use Rattle.std.specs.Prelude.{◌≡◌, ℕ, ◌+◌, Bool, true, false, List, [], ◌∷◌, ◌++◌, map, Option}
 use Rattle.std.specs.List.{list_any}
 use Rattle.std.specs.Option.{option_map_or, option_and_then}
@@ -46,18 +46,18 @@ AreAmong xs texts = (x : TextOf) → list_any (is_same_text x) texts ≡ true �
 abbrev pub is_met : Named → Bor (List ℕ) → Bool
 is_met named term = sorted.contains_by (λ k. slice_cmp nat_cmp term.now k.now) named.met
 
--- these are the texts that terms named, as far as their first uses go
+-- these are the texts that terms named, as far as first uses matter
 pub record AreNamed (w : Readings) (xs : List TextOf) (named : Named) : Type 0 where
   pub uses : first_uses named.texts.items ≡ first_uses xs
   pub same : (x : TextOf) → list_any (is_same_text x) named.texts.items ≡ list_any (is_same_text x) xs
-  -- a term that was met names none but these in any document
+  -- a term that was met names only these, in any document
   pub met : (term : Bor (List ℕ)) → is_met named term ≡ true → (d : ℕ) → AreAmong xs (texts_named w d term.now)
 
 -- these texts are named too
 abbrev pub Adds : Readings → List TextOf → Named → Named → Type 0
 Adds w texts old new = (xs : List TextOf) → AreNamed w xs old → AreNamed w (xs ++ texts) new
 
--- what a text is known by
+-- what identifies a text
 abbrev pub text_key : TextOf → TextKey
 text_key (Licence id) = record { document = 0; name = id }
 text_key (Reference d reference) = record { document = d + 1; name = reference }
@@ -78,10 +78,10 @@ abbrev pub licence_ids : TextOf → List (List ℕ)
 licence_ids (Licence id) = id ∷ []
 licence_ids (Reference d reference) = []
 
--- the texts of these ids in a catalogue are left of those that were found
+-- the texts of these ids in a catalogue are what remains of those that were found
 abbrev pub AreLeft : Readings → Option (List ℕ) → List (List ℕ) → IntoIter (Option LicenceText) Global → Type 0
 AreLeft w catalogue ids left = into_iter_items left ≡ map (licence_found w catalogue) ids
 
--- the line of a package with the rules of its terms
+-- the line of a package with the rules for its terms
 abbrev pub line_with : List (List ℕ) → PackageRow → BillLine
 line_with rules p = record { name = p.name; version = p.version; rules = rules; copyright = p.copyright }

@@ -1,4 +1,4 @@
--- What is told of a package that was looked up.
+-- The answer about a package that was looked up.
 use Rattle.std.specs.Prelude.{◌≡◌, ℕ, Bool, List, Option, Result, Ok, Err, not, if◌then◌else◌}
 use Rattle.std.specs.List.{list_any}
 use Rattle.std.specs.Option.{option_map_or}
@@ -24,22 +24,22 @@ abbrev pub priced : Result (Option Cheapest) ListFault → Answer
 priced (Ok found) = answered.Cheapest found
 priced (Err fault) = answered.Refused (list_refusal fault)
 
--- what is told of the conclusion of a package, if it has one
+-- the answer about the conclusion of a package, if it has one
 abbrev pub told_of : (Conclusion → Answer) → Option Conclusion → PackageRow → Answer
 told_of tell conclusion p = option_map_or tell conclusion (answered.Refused (why.NoConclusion p.document p.id))
 
--- what is told of a package of a document
+-- the answer about a package of a document
 abbrev pub of_package : (PackageRow → Answer) → Bool → Option PackageRow → Answer
 of_package tell known found =
     if not known then answered.Refused why.UnknownDocument
     else option_map_or tell found (answered.Refused why.UnknownPackage)
 
--- of the package, or why there is none
+-- the answer about the package, or why there is none
 abbrev pub told_found : (PackageRow → Answer) → Result PackageRow Refusal → Answer
 told_found tell (Ok p) = tell p
 told_found tell (Err refusal) = answered.Refused refusal
 
--- the package of a document of the tables, or why there is none: whatever is told of a package, it is the same
+-- the package of a document of the tables, or why there is none: any answer about a package is the same for both
 abbrev pub IsFound : Tables → ℕ → List ℕ → Result PackageRow Refusal → Type 0
 IsFound t d p found = (tell : PackageRow → Answer) → told_found tell found ≡ of_package tell (stands_document t d) (package_found t d p)
 
@@ -52,6 +52,6 @@ abbrev pub priced_by : Readings → Tables → List ℕ → PackageRow → Answe
 priced_by w t form p =
     told_of (λ c. priced (w.cheapest c.profile c.text (term_cost w t.adoption (rules_found t) form p.document))) (conclusion_found w t p) p
 
--- in a form that the catalogue in force has, or why not
+-- the same in a form that the catalogue in force has, or why not
 abbrev pub priced_found : Readings → Tables → List ℕ → PackageRow → Answer
 priced_found w t form p = if not (list_any (bytes_eq form) t.forms) then answered.Refused why.UnknownForm else priced_by w t form p

@@ -11,7 +11,7 @@ use Rattle.desk_model.specs.declared.row.DocumentHead.{DocumentHead}
 use Rattle.desk_model.specs.declared.row.ReleaseRow.{ReleaseRow}
 use Rattle.desk_history.specs.FromTables.{release_found}
 
--- the line of a release by its tally, which a release of the tables has
+-- the line of a release from its tally, which a release of the tables has
 abbrev pub counted_line : Tables → ReleaseRow → ReleaseLine
 counted_line t row = record {
   release = row;

@@ -1,4 +1,4 @@
--- On which side of a package's terms a frozen row stands, by the order of the table.
+-- On which side of a package's terms a frozen row is, by the order of the table.
 use Rattle.std.proofs.Common.{◌≡◌, ℕ, true, List, refl}
 use Rattle.std.specs.Prelude.{◌&&◌, ◌==◌}
 use Rattle.std.specs.Ordering.{nat_cmp, is_lt, is_eq, ordering_then, on, then_cmp}

@@ -1,4 +1,4 @@
-//! Questions are answered.
+//! Answers questions.
 
 ghost use Rattle.std.specs.Prelude.{◌≡◌, ℕ, IfOk, IfErr, map, filter};
 ghost use Rattle.desk_model.specs.Readings.{Readings};
@@ -65,7 +65,7 @@ pub fn duties<S: Store>(alloc: Global, store: &mut S, release: &Text) -> Result<
     Ok(Answer::Duties(duty_lines(alloc, store, rows)?))
 }
 
-/// How many duties of a release stand where.
+/// The duties of a release, counted by state.
 pub fn totals<S: Store>(store: &mut S, release: &Text) -> Result<Answer, Fault>
     ensures answer { (w : Readings) → IfOk result (λ answer.
         OfRows (λ t. answer ≡ queried_from w t (Query.Totals release.now))

@@ -1,4 +1,4 @@
-//! The bill of a frozen release: its packages with the rules that they were frozen by.
+//! The bill of a frozen release: its packages with the rules that they were frozen with.
 
 ghost use Rattle.std.specs.Prelude.{◌≡◌, IfOk, IfErr, filter, map};
 ghost use Rattle.std.specs.List.{flat_map};
@@ -38,7 +38,7 @@ fn packages_of<S: Store>(
     shipped_packages(alloc, store, attached.as_slice())
 }
 
-/// The rules of those rows that are terms of a package.
+/// The rules of the rows that are terms of a package.
 fn rules_of(
     alloc: Global,
     rows: &[FrozenRow],
@@ -56,7 +56,7 @@ fn rules_of(
     Ok(rules)
 }
 
-/// The line of a package with the rules of its terms.
+/// The line of a package with the rules for its terms.
 fn line_with(row: PackageRow, rules: Items<Text>) -> BillLine
     ensures { result ≡ line_with rules row }
 {
@@ -68,12 +68,12 @@ fn line_with(row: PackageRow, rules: Items<Text>) -> BillLine
     }
 }
 
-/// What packages are written as in a bill.
+/// What a bill says about packages.
 #[derive(Drop)]
 struct Parts {
     /// The line of each.
     lines: Items<BillLine>,
-    /// Texts that their terms name: the first uses among them are those of all.
+    /// Texts that their terms name: the first uses in this list are those in the full one.
     named: Vec<TextOf>,
 }
 
@@ -134,7 +134,7 @@ fn bill_of<T: Texts, S: Store>(
     })
 }
 
-/// What the notices of a frozen release are written of.
+/// What the notices of a frozen release are written from.
 pub fn bill<T: Texts, S: Store>(
     alloc: Global,
     texts: &T,

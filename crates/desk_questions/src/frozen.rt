@@ -17,7 +17,7 @@ use desk_sorted::{Appended, Sought};
 use std::alloc::Global;
 use std::cmp::Ordering;
 
-/// What the terms that a release was frozen with for a package are looked for by.
+/// The key by which the terms that a release was frozen with for a package are looked up.
 #[derive(Clone, Copy)]
 pub(crate) struct ByPackage<'a> {
     release: &'a str,
@@ -93,8 +93,8 @@ pub(crate) fn frozen_rows<S: Store>(
     appended(alloc, rows)
 }
 
-/// Rows among which the terms of a package stand. They are looked for at a place first, which moves
-/// behind them: both tables are in the order of packages.
+/// Rows that include the terms of a package. They are looked for at a place first, and the place
+/// moves past them: both tables are in the order of packages.
 pub(crate) fn terms_near<'a>(
     frozen: &'a Appended<FrozenRow>,
     place: &mut usize,

@@ -1,4 +1,4 @@
-//! The sets of terms that a package's conclusion in force is true under.
+//! The sets of terms under which a package's conclusion in force is true.
 
 ghost use Rattle.std.specs.Prelude.{◌≡◌, ℕ, List, IfOk, IfErr, map};
 ghost use Rattle.desk_base.specs.declared.profile.Profile.{Profile};
@@ -71,7 +71,7 @@ fn package_of<S: Store>(
     }
 }
 
-/// The minimal sets of terms that the conclusion in force for a package is true under, if it has
+/// The minimal sets of terms under which the conclusion in force for a package is true, if it has
 /// one.
 fn listed_for<T: Texts, S: Store>(
     alloc: Global,
@@ -91,8 +91,8 @@ fn listed_for<T: Texts, S: Store>(
     }
 }
 
-/// The minimal sets of terms that the conclusion in force for a package is true under, in the order
-/// of sets.
+/// The minimal sets of terms under which the conclusion in force for a package is true, in the
+/// order of sets.
 pub fn alternatives<T: Texts, S: Store>(
     alloc: Global,
     texts: &T,
@@ -118,7 +118,7 @@ fn rule_cost(rule: &Rule) -> u64
     (rule.codes.as_slice().len() as u64).min(limits::TERM_COST)
 }
 
-/// How many duties the adopted form of a term of a document owes in a form, where it has a rule.
+/// How many duties the adopted form of a term of a document owes in a form, if it has a rule.
 fn term_cost<T: Texts, S: Store>(
     alloc: Global,
     texts: &T,
@@ -140,7 +140,7 @@ fn term_cost<T: Texts, S: Store>(
 }
 
 #[tactic(auto, using(desk_access::proofs::Chains::same_then_kept, desk_access::proofs::Chains::same_then_same))]
-/// What each of some terms of a document costs in a form.
+/// What each of these terms of a document costs in a form.
 fn term_costs<T: Texts, S: Store>(
     alloc: Global,
     texts: &T,
@@ -164,8 +164,8 @@ fn term_costs<T: Texts, S: Store>(
     Ok(costs)
 }
 
-/// The cheapest set of terms that an expression is true under, by what its terms of a document cost
-/// in a form.
+/// The cheapest set of terms under which an expression is true, given what its terms of a document
+/// cost in a form.
 fn priced<T: Texts, S: Store>(
     alloc: Global,
     texts: &T,
@@ -190,7 +190,7 @@ fn priced<T: Texts, S: Store>(
     }
 }
 
-/// The cheapest set of terms that the conclusion in force for a package is true under, if it has
+/// The cheapest set of terms under which the conclusion in force for a package is true, if it has
 /// one.
 fn priced_by<T: Texts, S: Store>(
     alloc: Global,
@@ -213,8 +213,8 @@ fn priced_by<T: Texts, S: Store>(
     }
 }
 
-/// The cheapest set of terms that the conclusion in force for a package is true under, if the
-/// catalogue in force has the form and the package a conclusion.
+/// The cheapest set of terms under which the conclusion in force for a package is true, if the
+/// catalogue in force has the form and the package has a conclusion.
 fn priced_for<T: Texts, S: Store>(
     alloc: Global,
     texts: &T,
@@ -234,8 +234,8 @@ fn priced_for<T: Texts, S: Store>(
     priced_by(alloc, texts, store, form, row)
 }
 
-/// The set of terms that owes the fewest duties in a form, of those that the conclusion in force
-/// for a package is true under.
+/// Of the sets of terms under which the conclusion in force for a package is true, the one that
+/// owes the fewest duties in a form.
 pub fn cheapest<T: Texts, S: Store>(
     alloc: Global,
     texts: &T,

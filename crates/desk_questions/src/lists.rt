@@ -18,7 +18,7 @@ use desk_model::{
 };
 use std::alloc::Global;
 
-/// The line of a release. Only one of the desk is counted.
+/// The line of a release. Only a release of the desk is counted.
 fn release_line<S: Store>(store: &mut S, row: ReleaseRow) -> Result<ReleaseLine, Fault>
     ensures line { IfOk result (λ line.
         OfRows (λ t. line ≡ counted_line t row) (S.seen store.old) (S.seen store.new)) }
@@ -60,7 +60,7 @@ fn release_lines<S: Store>(
     Ok(lines)
 }
 
-/// All releases by name, with how many duties of each stand where.
+/// All releases by name, each with its duties counted by state.
 pub fn releases<S: Store>(alloc: Global, store: &mut S) -> Result<Answer, Fault>
     ensures answer { (w : Readings) → IfOk result (λ answer.
         OfRows (λ t. answer ≡ queried_from w t Query.Releases)
@@ -134,7 +134,7 @@ fn is_open(duty: &DutyRow) -> bool
     matches!(duty.state, DutyState::IsOpen)
 }
 
-/// Those of some duties that are open.
+/// The open ones of these duties.
 fn open_among(mut rows: Vec<DutyRow>) -> Vec<DutyRow>
     ensures { result.items ≡ filter (λ row. is_open row.state) rows.items }
 {
@@ -159,7 +159,7 @@ fn open_rows<S: Store>(alloc: Global, store: &mut S, release: &str) -> Result<Ve
 }
 
 #[tactic(auto, using(desk_access::proofs::Chains::same_then_kept, desk_access::proofs::Chains::same_then_same))]
-/// Each of some duties with the day of its last change.
+/// Each of these duties with the day of its last change.
 fn with_days<S: Store>(
     alloc: Global,
     store: &mut S,
@@ -196,7 +196,7 @@ fn open_of<S: Store>(
 }
 
 #[tactic(auto, using(desk_access::proofs::Chains::same_then_kept, desk_access::proofs::Chains::same_then_same))]
-/// The open duties of some releases, one release after the other.
+/// The open duties of these releases, one release after another.
 fn open_of_all<S: Store>(
     alloc: Global,
     store: &mut S,

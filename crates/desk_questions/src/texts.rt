@@ -46,7 +46,7 @@ fn main_text<T: Texts>(
     }
 }
 
-/// Whether a text is that of a licence, and so the same in each document.
+/// Whether a text is that of a licence, and therefore the same in each document.
 fn is_licence(text: &TextOf) -> bool
     ensures { result ≡ is_licence text.now }
 {
@@ -78,7 +78,7 @@ fn add_texts<T: Texts>(
 /// The texts that terms named.
 #[derive(Drop)]
 pub(crate) struct Named<'a> {
-    /// The texts in their order; of a term that was met, only those of its first use.
+    /// The texts in their order; for a term that was met, only those of its first use.
     pub(crate) texts: Vec<TextOf>,
     /// The terms that were met and name the same texts in each document.
     met: BTreeSet<&'a str>,
@@ -95,8 +95,8 @@ impl<'a> Named<'a> {
     }
 }
 
-/// Adds the texts that a term names, unless it was met before and named them too: most packages
-/// have one of few terms.
+/// Adds the texts that a term names, unless it was met before and named the same ones: most
+/// packages have one of few terms.
 fn add_term<'a, T: Texts>(
     alloc: Global,
     texts: &T,
@@ -117,7 +117,7 @@ fn add_term<'a, T: Texts>(
     Ok(())
 }
 
-/// Adds the texts that those rows name that are terms of a package.
+/// Adds the texts named by the rows that are terms of a package.
 pub(crate) fn add_terms<'a, T: Texts>(
     alloc: Global,
     texts: &T,
@@ -137,7 +137,7 @@ pub(crate) fn add_terms<'a, T: Texts>(
     Ok(())
 }
 
-/// What a text is known by: its name, and 0 for an id, or for a reference one more than the number
+/// What identifies a text: its name, and 0 for an id, or for a reference one more than the number
 /// of its document.
 #[derive(Drop, PartialEq, Eq)]
 pub(crate) struct TextKey {
@@ -219,7 +219,7 @@ fn licence_ids(alloc: Global, uses: &[TextOf]) -> Result<Vec<&str>, AllocError>
     Ok(ids)
 }
 
-/// So many places without a text.
+/// A place without a text for each of these.
 fn no_texts(alloc: Global, ids: &[&str]) -> Result<Items<Option<LicenceText>>, AllocError>
     ensures { IfOk result (λ found. found ≡ map (λ _. None) ids.now) }
 {
@@ -230,7 +230,7 @@ fn no_texts(alloc: Global, ids: &[&str]) -> Result<Items<Option<LicenceText>>, A
     Ok(found)
 }
 
-/// The texts of these ids by a revision of the catalogue, a place for each.
+/// The texts of these ids in a revision of the catalogue, a place for each.
 fn licences_found<T: Texts, S: Store>(
     alloc: Global,
     texts: &T,
@@ -340,7 +340,7 @@ fn bill_texts<S: Store>(
     Ok(bodies)
 }
 
-/// The texts themselves, by a revision of the catalogue.
+/// The texts themselves, from a revision of the catalogue.
 pub(crate) fn bill_texts_of<T: Texts, S: Store>(
     alloc: Global,
     texts: &T,

@@ -1,4 +1,4 @@
-//! What stands in the way of a freeze.
+//! What keeps a release from being frozen.
 
 ghost use Rattle.std.specs.Prelude.{◌≡◌, IfOk, IfErr};
 ghost use Rattle.desk_model.specs.Readings.{Readings};
@@ -14,7 +14,7 @@ use desk_packages::unready;
 use desk_wanting::open_wanting;
 use std::alloc::Global;
 
-/// All that stands in the way of a freeze of an open release.
+/// Everything that keeps an open release from being frozen.
 pub fn wanting<T: Texts, S: Store>(
     alloc: Global,
     texts: &T,

@@ -1,4 +1,4 @@
--- What a desk does for a command and for a question, it does for a request.
+-- What a desk does for a command and a query, it does for a request.
 use Rattle.std.proofs.Common.{◌≡◌, Bool, true, false, List, ◌∷◌, Result, Ok, Err, refl, arith}
 use Rattle.std.specs.Prelude.{IfOk, IfErr, if◌then◌else◌}
 use Rattle.desk_model.specs.Readings.{Readings}

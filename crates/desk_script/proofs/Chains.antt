@@ -1,4 +1,4 @@
--- Requests one after the other.
+-- Requests one after another.
 use Rattle.std.proofs.Common.{◌≡◌, ℕ, zero, suc, ◌+◌, Bool, true, false, List, [], ◌∷◌, ◌++◌, Option, take, drop, refl, sym, ◌∙◌, ap, subst, arith, append_assoc, ⊎_elim, inl, inr}
 use Rattle.std.specs.Prelude.{sum_by, ◌||◌}
 use Rattle.std.specs.Io.KnownBytes.{Appends}
@@ -41,7 +41,7 @@ either_false : (a b : Bool) → (a || b) ≡ false → (a ≡ false) × (b ≡ f
 either_false true b e = cc
 either_false false b e = (refl, e)
 
--- what follows from a fact where a script stops
+-- what follows from a fact if a script stops
 pub stop_then : {P Q : Type 0} (fault : ScriptFault) → (P → Q) → IfStop P fault → IfStop Q fault
 stop_then Refused f h = f h
 stop_then Failed f h = f h
@@ -133,7 +133,7 @@ module _ (is_right : Readings → Type 0) (tells : StoreFault → Type 0) {Left 
   replied_outlasts a b (r ∷ rs) (p ∷ ps) h =
       outlasts_then (seen a) (seen h.0) (seen b) (replied_honest h.0 b rs ps h.2) h.1.outlasts (replied_outlasts h.0 b rs ps h.2)
 
-  -- what is known of the commands among requests that were replied
+  -- what is known of the commands among requests that were answered
   abbrev RunsTo : Readings → List Command → List Request → List Reply → Desk → Type 0
   RunsTo w h rs ps b =
       AreAnswers w h (commands_of rs) (outcomes_of rs ps) × IsHistory w (history_after h (commands_of rs) (outcomes_of rs ps))
@@ -214,7 +214,7 @@ module _ (is_right : Readings → Type 0) (tells : StoreFault → Type 0) {Left 
     secures = replied_secures a b rs ps r;
   }
 
-  -- the desk after so many requests
+  -- the desk after this many requests
   replied_front : (n : ℕ) (a b : Desk) (rs : List Request) (ps : List Reply) → AreReplied is_right tells stands seen a rs ps b
       → (m : Desk) × AreReplied is_right tells stands seen a (take n rs) (take n ps) m × AreReplied is_right tells stands seen m (drop n rs) (drop n ps) b
   replied_front zero a b rs ps r = (a, refl, r)
@@ -253,7 +253,7 @@ module _ (is_right : Readings → Type 0) (tells : StoreFault → Type 0) {Left 
         failed = omega (arith, failed, h.failed, k.failed);
       }
 
-  -- what was served without a count is done
+  -- if nothing was counted, what was served is done
   uncounted_done : (a b : Desk) (rs : List Request) (u v : Option (List ℕ)) (from to : ScriptEnd) → (h : Serves is_right tells stands seen rs a b u v from to) → IsUncounted from to
       → AreDone h.replies
   uncounted_done a b rs u v from to h still = (omega (arith, h.refused, still.0), omega (arith, h.failed, still.1))
@@ -267,7 +267,7 @@ module _ (is_right : Readings → Type 0) (tells : StoreFault → Type 0) {Left 
     told = told_after fault h.replies k.replies u v w (stop_then fault (uncounted_done a b rs u v from mid h) still) h.written k.told;
   }
 
-  -- requests that were served before a fault that is no reply's
+  -- requests that were served before a fault that isn't that of a reply
   pub ServesUntil-line : (fault : ScriptFault) (a b : Desk) (rs : List Request) (u v : Option (List ℕ)) (from to : ScriptEnd) → IsOfLine fault
       → Serves is_right tells stands seen rs a b u v from to → ServesUntil is_right tells stands seen fault rs a b u v
   ServesUntil-line fault a b rs u v from to of_line h = record { replies = h.replies; replied = h.replied; told = inl (of_line, h.written) }

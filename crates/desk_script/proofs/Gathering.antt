@@ -15,7 +15,7 @@ use Rattle.desk_script.specs.Lines.{is_blank_line}
 use Rattle.desk_script.specs.declared.line.Line.{Line}
 use Rattle.desk_base.specs.Bytes.{is_blank}
 
--- the front of some bytes and more
+-- the first bytes that are kept, and more
 pub kept_more : (n : ℕ) (text kept run : List ℕ) → kept ≡ take n text → kept ++ take (n - length kept) run ≡ take n (text ++ run)
 kept_more n text kept run is = ⊎_elim (λ lt. full lt) (λ le. room le) (cases_lt n (length text))
   where
@@ -33,7 +33,7 @@ kept_more n text kept run is = ⊎_elim (λ lt. full lt) (λ le. room le) (cases
         let none : n - length kept ≡ 0 = omega arith in
         ap (λ (k : ℕ). kept ++ take k run) none ∙ (append-nil kept ∙ (is ∙ sym (take-append-le n text run (omega arith))))
 
--- more bytes that there is room for
+-- more bytes, if there is room for all
 pub kept_all : (n : ℕ) (text kept run : List ℕ) → kept ≡ take n text → length run ≤ n - length kept → kept ++ run ≡ take n (text ++ run)
 kept_all n text kept run is few =
     ap (λ (l : List ℕ). kept ++ l) (sym (take_all (n - length kept) run few)) ∙ kept_more n text kept run is
@@ -71,7 +71,7 @@ long_full n text kept run is many =
 pub blank_more : (text run : List ℕ) (was : Bool) → was ≡ is_blank_line text → (was && is_blank_line run) ≡ is_blank_line (text ++ run)
 blank_more text run was at = ap (λ (c : Bool). c && is_blank_line run) at ∙ sym (list_all-append is_blank text run)
 
--- bytes that there is room for are kept
+-- bytes are kept if there is room for all
 pub HasCome-all : (line next : Line) (text run : List ℕ) → HasCome line text → length run ≤ line_bytes - length line.kept.items
     → next.kept.items ≡ line.kept.items ++ run → next.is_long ≡ line.is_long → next.is_blank ≡ (line.is_blank && is_blank_line run)
     → HasCome next (text ++ run)
@@ -81,7 +81,7 @@ HasCome-all line next text run h few kept long blank = record {
   blank = blank ∙ blank_more text run line.is_blank h.blank;
 }
 
--- of more bytes than there is room for, a front is kept
+-- if there isn't room for all bytes, as many as there is room for are kept
 pub HasCome-front : (line next : Line) (text run : List ℕ) → HasCome line text → line_bytes - length line.kept.items < length run
     → next.kept.items ≡ line.kept.items ++ take (line_bytes - length line.kept.items) run → next.is_long ≡ true
     → next.is_blank ≡ (line.is_blank && is_blank_line run) → HasCome next (text ++ run)
@@ -109,18 +109,18 @@ IsLine-of true came text more is ends no_lf = (
 IsLine-of false came text more is ends no_lf =
     (Lf, (λ e. cc), record { cut = ap (λ (l : List ℕ). l ++ 10 ∷ more) is; no_lf = no_lf; ends = ends refl })
 
--- the part of what came that is no CR at its end
+-- what came, without a CR at its end, has no LF
 pub no_lf-of : (cr : Bool) (came text : List ℕ) → came ≡ with_cr cr text → All (λ b. b ≢ 10) came → All (λ b. b ≢ 10) text
 no_lf-of true came text is no_lf =
     subst (All (λ (b : ℕ). b ≢ 10)) (take-append_seam text (13 ∷ [])) (All-take (λ (b : ℕ). b ≢ 10) (length text) (text ++ 13 ∷ []) (subst (All (λ (b : ℕ). b ≢ 10)) is no_lf))
 no_lf-of false came text is no_lf = subst (All (λ (b : ℕ). b ≢ 10)) is no_lf
 
--- a line without a CR kept apart
+-- a line if no CR is kept apart
 pub HasCome-whole : (line : Line) (came : List ℕ) → Shows line came → line.ends_by_cr ≡ false → HasCome line came
 HasCome-whole line came h none =
     subst (HasCome line) (sym (h.2 ∙ ap (λ (b : Bool). with_cr b h.0) none)) h.1
 
--- of bytes that end by a CR, it is kept apart
+-- if bytes end with a CR, it is kept apart
 pub Shows-cr : (line : Line) (came front run : List ℕ) → HasCome line (came ++ front) → run ≡ front ++ 13 ∷ []
     → Shows (record { kept = line.kept; is_long = line.is_long; is_blank = line.is_blank; ends_by_cr = true }) (came ++ run)
 Shows-cr line came front run has is = (
@@ -130,7 +130,7 @@ Shows-cr line came front run has is = (
   (λ e. cc),
 )
 
--- of any others, nothing is
+-- if they don't, nothing is
 pub Shows-run : (line : Line) (came front run : List ℕ) (last : ℕ) → HasCome line (came ++ run) → line.ends_by_cr ≡ false → run ≡ front ++ last ∷ []
     → (last ≡ 13 → ⊥) → Shows line (came ++ run)
 Shows-run line came front run last has none is ne =

@@ -1,4 +1,4 @@
--- What is written of bytes where a writer fails.
+-- What is written of bytes if a writer fails.
 use Rattle.std.proofs.Common.{◌≡◌, ℕ, ◌-◌, List, [], ◌++◌, Option, Result, Ok, Err, length, take, drop, refl, sym, ap, ◌∙◌, subst, append_assoc, append-nil, take-append-drop}
 use Rattle.std.specs.Prelude.{OnErr, IfErr}
 use Rattle.std.specs.Io.KnownBytes.{Appends, Keeps}
@@ -17,13 +17,13 @@ front_moved bytes front rest n is =
     is ∙ (ap (λ (l : List ℕ). front ++ l) (sym (take-append-drop n rest)) ∙ (sym (append_assoc front (take n rest) (drop n rest))
     ∙ ap (λ (l : List ℕ). (front ++ take n rest) ++ l) (sym (take_rest rest n))))
 
--- a front of bytes is one of the bytes and more
+-- a prefix of bytes is a prefix of the bytes and more
 pub front_before : (u v : Option (List ℕ)) (text more bytes : List ℕ) → bytes ≡ text → AppendsFront u v bytes → AppendsFront u v (text ++ more)
 front_before u v text more bytes same h =
     let cut : bytes ≡ h.0 ++ h.1.0 = h.1.1 in
     (h.0, (h.1.0 ++ more, ap (λ (l : List ℕ). l ++ more) (sym same ∙ cut) ∙ append_assoc h.0 h.1.0 more), h.2)
 
--- bytes, and a front of more
+-- bytes, and a prefix of more
 pub front_after : (u v w : Option (List ℕ)) (text more bytes : List ℕ) → bytes ≡ text → Appends u v bytes → AppendsFront v w more → AppendsFront u w (text ++ more)
 front_after u v w text more bytes same first h =
     let cut : more ≡ h.0 ++ h.1.0 = h.1.1 in
@@ -49,7 +49,7 @@ lost_line (Err Memory) reply u v bytes is of front = absurd of
 lost_line (Err Refused) reply u v bytes is of front = absurd of
 lost_line (Err Failed) reply u v bytes is of front = absurd of
 
--- a reply is lost by a fault of its own
+-- the fault by which a reply is lost is that of a reply
 pub lost_by : (fault : ScriptFault) (reply : Reply) (u v : Option (List ℕ)) → Loses fault reply u v → IsOfReply fault
 lost_by Write reply u v h = tt
 lost_by Memory reply u v h = tt
@@ -58,7 +58,7 @@ lost_by Turns reply u v h = absurd h.lost
 lost_by Refused reply u v h = tt
 lost_by Failed reply u v h = tt
 
--- a reply that is written, whose line isn't done, ends the script where it is to end there
+-- a reply that is written, and whose line isn't done, ends the script if it is to end there
 pub stopped_at : (fault : ScriptFault) (reply : Reply) (u v : Option (List ℕ)) → IsStopAt reply fault → Appends u v (line_of reply) → Loses fault reply u v
 stopped_at Refused reply u v at written = record { front = line_of reply; lost = (at, refl); written = written }
 stopped_at Failed reply u v at written = record { front = line_of reply; lost = (at, refl); written = written }

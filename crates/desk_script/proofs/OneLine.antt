@@ -29,7 +29,7 @@ use Rattle.desk_script.specs.declared.serving.ScriptFault.{ScriptFault}
 use Rattle.desk_script.specs.declared.serving.ScriptFault.TheVariants.{Read, Write, Turns, Memory, Refused, Failed}
 use Rattle.desk_script.proofs.Chains.{AreReplied-one, Serves-none}
 
--- of no lines none is undone
+-- if there are no lines, all are done
 none_done : (fault : ScriptFault) → IfStop (AreDone []) fault
 none_done Refused = (refl, refl)
 none_done Failed = (refl, refl)
@@ -38,7 +38,7 @@ none_done Write = tt
 none_done Turns = tt
 none_done Memory = tt
 
--- a text within the limit is kept whole
+-- all of a text within the limit is kept
 kept_whole : (n : ℕ) (text : List ℕ) → nat_lt n (length text) ≡ false → take n text ≡ text
 kept_whole n text short = take_all n text (grind (arith, short))
 
@@ -70,7 +70,7 @@ module _ (is_right : Readings → Type 0) (tells : StoreFault → Type 0) {Left 
     leaves = λ w right clean h ok held. leaves w h;
   }
 
-  -- memory is wanting to read a request
+  -- no memory is left to read a request
   pub Replies-memory : (now : Seen Left) (request : Request) → Replies is_right tells stands now request (Became (outcome_is.Failed fault_is.Memory)) now
   Replies-memory now (Act c) = still now (Act c) (Became (outcome_is.Failed fault_is.Memory)) tt (λ w h. tt) (λ h. refl) (λ w. tt) (λ w h x left shown. inl left)
   Replies-memory now (Ask q) = still now (Ask q) (Became (outcome_is.Failed fault_is.Memory)) tt (λ w h. tt) (λ h. refl) (λ w. tt) (λ w h x left shown. left)

@@ -1,4 +1,4 @@
--- What more bytes make of a script.
+-- What more bytes do to a script.
 use Rattle.std.proofs.Common.{◌≡◌, ◌≢◌, ℕ, ◌+◌, true, false, List, [], ◌∷◌, ◌++◌, Option, None, Some, length, refl, sym, ap, ◌∙◌, subst, arith, append_assoc, append-nil}
 use Rattle.std.specs.Prelude.{All, if◌then◌else◌}
 use Rattle.std.specs.Io.KnownBytes.{Consumes, IsAtEnd}
@@ -63,7 +63,7 @@ module _ (is_right : Readings → Type 0) (tells : StoreFault → Type 0) {Left 
     serves = Serves-none is_right tells stands seen now w from;
   }
 
-  -- bytes among which there is no LF
+  -- bytes that contain no LF
   pub HasServed-run : (number : ℕ) (front run : List ℕ) (before now : Desk) (u v : Option (List ℕ)) (from to : ScriptEnd) (line next : Line)
       → (h : HasServed is_right tells stands seen number front before now u v from to line) → All (λ b. b ≢ 10) run → Shows next (h.came ++ run)
       → HasServed is_right tells stands seen number (front ++ run) before now u v from to next
@@ -90,7 +90,7 @@ module _ (is_right : Readings → Type 0) (tells : StoreFault → Type 0) {Left 
       subst (λ (rs : List Request). ServesUntil is_right tells stands seen fault rs a c u w) (sym (requests_of-append lines more))
       (ServesUntil-then is_right tells stands seen fault a b c (requests_of lines) (requests_of more) u v w from mid still h k)
 
-  -- more bytes, on the line so far
+  -- more bytes, after the line so far
   pub HasServed-then : (number : ℕ) (front more : List ℕ) (a b c : Desk) (u v w : Option (List ℕ)) (from mid to : ScriptEnd) (line next : Line)
       → (h : HasServed is_right tells stands seen number front a b u v from mid line)
       → HasServed is_right tells stands seen (number + length h.lines) (h.came ++ more) b c v w mid to next
@@ -116,7 +116,7 @@ module _ (is_right : Readings → Type 0) (tells : StoreFault → Type 0) {Left 
     serves = served_until fault h.lines k.lines a b c u v w from mid still h.serves k.serves;
   }
 
-  -- a fault that is no reply's
+  -- a fault that isn't that of a reply
   pub IsFrontAt-of : (number : ℕ) (fault : ScriptFault) (front more : List ℕ) (a b : Desk) (u v : Option (List ℕ)) (from to : ScriptEnd) (line : Line)
       → IsOfLine fault → HasServed is_right tells stands seen number front a b u v from to line → IsFrontAt is_right tells stands seen number fault (front ++ more) a b u v
   IsFrontAt-of number fault front more a b u v from to line of_line h = record {
@@ -181,7 +181,7 @@ module _ (is_right : Readings → Type 0) (tells : StoreFault → Type 0) {Left 
         serves = subst (λ (rs : List Request). ServesUntil is_right tells stands seen fault rs a b u v) (sym (requests_of-one number shows.0 at.0)) serves;
       }
 
-  -- nothing was replied
+  -- nothing was answered
   pub IsFrontAt-none : (number : ℕ) (fault : ScriptFault) (bytes : List ℕ) (a : Desk) (w : Option (List ℕ)) (from : ScriptEnd) → IsOfLine fault
       → IsFrontAt is_right tells stands seen number fault bytes a a w w
   IsFrontAt-none number fault bytes a w from of_line = record {
@@ -246,7 +246,7 @@ AreLeft-front None mid front h = ([], tt)
 AreLeft-front (Some xs) None front h = absurd h
 AreLeft-front (Some xs) (Some ys) front h = (ys, h)
 
--- what stood before the rest of a piece, and the rest
+-- what came before the rest of a piece, and the rest
 pub piece_rest : (front taken rest piece more : List ℕ) → piece ≡ taken ++ rest → (front ++ taken) ++ (rest ++ more) ≡ front ++ (piece ++ more)
 piece_rest front taken rest piece more is =
     append_assoc front taken (rest ++ more)
@@ -260,7 +260,7 @@ piece_cut taken text after rest piece is cut =
 pub front_line : (front taken text : List ℕ) → ((front ++ taken) ++ text) ++ 10 ∷ [] ≡ front ++ (taken ++ (text ++ 10 ∷ []))
 front_line front taken text = append_assoc (front ++ taken) text (10 ∷ []) ∙ append_assoc front taken (text ++ 10 ∷ [])
 
--- what stood before a line of a piece, the line, and what follows it
+-- what came before a line of a piece, the line, and what follows it
 pub piece_line : (front taken text after rest piece more : List ℕ) → piece ≡ taken ++ rest → rest ≡ text ++ 10 ∷ after
     → ((front ++ taken) ++ text) ++ 10 ∷ (after ++ more) ≡ front ++ (piece ++ more)
 piece_line front taken text after rest piece more is cut =

@@ -4,7 +4,8 @@ use Rattle.desk_base.specs.Limits as most
 use Rattle.desk_script.specs.declared.serving.ScriptFault.{ScriptFault}
 use Rattle.desk_script.specs.declared.serving.ScriptFault.TheVariants.{Read, Write, Turns, Memory, Refused, Failed}
 
--- a reply that couldn't be written, no memory for a line or a reply, or a line that isn't done where a script is to stop
+-- a reply that couldn't be written, no memory for a line or a reply, or a line that isn't done if a script is
+-- to stop there
 abbrev pub IsOfReply : ScriptFault → Type 0
 IsOfReply Write = Unit {0}
 IsOfReply Memory = Unit {0}
@@ -22,7 +23,7 @@ IsOfWriter Turns = ⊥
 IsOfWriter Refused = ⊥
 IsOfWriter Failed = ⊥
 
--- a reader that gave so many bytes and failed, or was asked too often: each time it gave a byte at least
+-- a reader that gave this many bytes and failed, or was asked too often and gave at least one byte each time
 abbrev pub IsOfReader : ScriptFault → ℕ → Type 0
 IsOfReader Read count = Unit {0}
 IsOfReader Turns count = most.script_reads ≤ count

@@ -8,24 +8,24 @@ use Rattle.desk_json.specs.declared.request.Request.{Request}
 use Rattle.desk_json.specs.declared.request.Request.TheVariants.{BadCommand}
 use Rattle.desk_base.specs.Bytes.{is_blank}
 
--- a line of spaces and tabs alone, or of nothing
+-- a line of only spaces and tabs, or of nothing
 abbrev pub is_blank_line : List ℕ → Bool
 is_blank_line text = list_all is_blank text
 
--- a longer line is no request
+-- the request of a line; a line that is too long is no request
 abbrev pub request_of : List ℕ → Request
 request_of text = if nat_lt line_bytes (length text) then BadCommand else request_in text
 
--- a line that isn't blank is a request
+-- a line that isn't blank has a request
 abbrev pub request_at : List ℕ → List Request
 request_at text = if is_blank_line text then [] else request_of text ∷ []
 
--- the requests of lines, a blank line having none
+-- the requests of lines; a blank line has none
 abbrev pub requests_of : List LineText → List Request
 requests_of [] = []
 requests_of (line ∷ lines) = if is_blank_line line.text then requests_of lines else request_of line.text ∷ requests_of lines
 
--- bytes begin with these lines, numbered on from a number, and a rest follows
+-- bytes begin with these lines, numbered from a number on, and a rest follows
 abbrev pub BeginsWith : ℕ → List ℕ → List LineText → List ℕ → Type 0
 BeginsWith number bytes [] rest = bytes ≡ rest
 BeginsWith number bytes (line ∷ lines) rest =

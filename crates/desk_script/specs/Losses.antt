@@ -1,4 +1,4 @@
--- What is written of the replies where a script stops.
+-- What is written of the replies if a script stops.
 use Rattle.std.specs.Prelude.{◌≡◌, ◌⊎◌, ℕ, List, [], ◌∷◌, ◌++◌, Option, sum_by}
 use Rattle.std.specs.Io.KnownBytes.{Appends}
 use Rattle.desk_script.specs.Texts.{TakesMemory, count_failed, count_refused, line_of, lines_of}
@@ -6,21 +6,21 @@ use Rattle.desk_script.specs.declared.answer.Reply.{Reply}
 use Rattle.desk_script.specs.declared.serving.ScriptFault.{ScriptFault}
 use Rattle.desk_script.specs.declared.serving.ScriptFault.TheVariants.{Read, Write, Turns, Memory, Refused, Failed}
 
--- bytes begin with a front
+-- these bytes are a prefix of others
 abbrev pub IsFrontOf : List ℕ → List ℕ → Type 0
 IsFrontOf front bytes = (rest : List ℕ) × (bytes ≡ front ++ rest)
 
--- some front of the bytes is written
+-- some prefix of the bytes is written
 abbrev pub AppendsFront : Option (List ℕ) → Option (List ℕ) → List ℕ → Type 0
 AppendsFront old new bytes = (front : List ℕ) × IsFrontOf front bytes × Appends old new front
 
--- where a script is to stop at the first line that isn't done: the fault is that the line of the reply isn't
+-- if a script is to stop at the first line that isn't done: the fault is that the line of this reply isn't
 abbrev pub IsStopAt : Reply → ScriptFault → Type 0
 IsStopAt reply Refused = count_refused reply ≡ 1
 IsStopAt reply Failed = count_failed reply ≡ 1
 IsStopAt reply _ = ⊥
 
--- the fact holds where the fault is such a line
+-- the fact is true if the fault is such a line
 abbrev pub IfStop : Type 0 → ScriptFault → Type 0
 IfStop fact Refused = fact
 IfStop fact Failed = fact
@@ -30,8 +30,9 @@ IfStop fact _ = Unit {0}
 abbrev pub AreDone : List Reply → Type 0
 AreDone replies = (sum_by count_refused replies ≡ 0) × (sum_by count_failed replies ≡ 0)
 
--- Why a reply is the last one, and what is written of it: its line couldn't be written, and some front of it was; its text found no
--- memory, and nothing of it was; or its line isn't done, and it is written whole.
+-- Why a reply is the last one, and what is written of it: its line couldn't be written, and some prefix of it
+-- was; no memory was left for its text, and nothing of it was written; or its line isn't done, and all of it
+-- is written.
 abbrev pub IsLost : ScriptFault → Reply → List ℕ → Type 0
 IsLost Write reply front = IsFrontOf front (line_of reply)
 IsLost Memory reply front = TakesMemory reply × (front ≡ [])
@@ -55,8 +56,8 @@ pub record Loses (fault : ScriptFault) (reply : Reply) (old new : Option (List �
   pub lost : IsLost fault reply front
   pub written : Appends old new front
 
--- the last of some replies is lost or ends the script, after the lines of the ones before it; one that ends it is the first whose line
--- isn't done
+-- the last of some replies is lost or ends the script, after the lines of the ones before it; if it ends the
+-- script, it is the first whose line isn't done
 pub record LosesLast (fault : ScriptFault) (replies : List Reply) (old new : Option (List ℕ)) : Type 0 where
   pub told : List Reply
   pub last : Reply
@@ -66,6 +67,6 @@ pub record LosesLast (fault : ScriptFault) (replies : List Reply) (old new : Opt
   pub first : IfStop (AreDone told) fault
   pub written : Appends old new (lines_of told ++ front)
 
--- the replies are written, a line each, but for the last one where it is lost
+-- the replies are written, a line each, except the last one if it is lost
 abbrev pub AreToldUntil : ScriptFault → List Reply → Option (List ℕ) → Option (List ℕ) → Type 0
 AreToldUntil fault replies old new = (IsOfLine fault × Appends old new (lines_of replies)) ⊎ LosesLast fault replies old new

@@ -1,4 +1,4 @@
--- What requests are replied, one after the other.
+-- The replies to requests, one after another.
 use Rattle.std.specs.Prelude.{◌≡◌, Bool, false, ◌||◌, List, [], ◌∷◌, sum_by}
 use Rattle.desk_model.specs.Readings.{Readings}
 use Rattle.desk_model.specs.Tables.{Tables, tables}
@@ -20,7 +20,7 @@ use Rattle.desk_script.specs.Texts.{count_failed}
 use Rattle.desk_script.specs.declared.answer.Reply.{Reply}
 use Rattle.desk_script.specs.declared.answer.Reply.TheVariants.{Became, NoRequest}
 
--- what is no request is told so, unless memory is wanting to find that out
+-- what is no request gets a reply that says so, unless no memory is left to find that out
 abbrev pub Fits : (StoreFault → Type 0) → Request → Reply → Type 0
 Fits tells (Act c) (Became o) = MayBecome tells o
 Fits tells (Ask q) (Became o) = MayBecome tells o
@@ -28,7 +28,7 @@ Fits tells BadCommand (Became (Failed Memory)) = Unit {0}
 Fits tells BadCommand NoRequest = Unit {0}
 Fits tells _ _ = ⊥
 
--- a command that is refused by itself has no fault of the store
+-- a command whose refusal is decided from the command alone has no fault of the store
 abbrev pub SparesStore : Readings → Request → Reply → Type 0
 SparesStore w (Act c) (Became o) = MayBecome (λ fault. refused_alone w c ≡ false) o
 SparesStore w _ _ = Unit {0}
@@ -44,7 +44,7 @@ IsReply w h (Act c) (Became o) = IsAnswer w h c o
 IsReply w h (Ask q) (Became o) = IsQueried w h q o
 IsReply w h _ _ = Unit {0}
 
--- the history with the command of a request, where it was recorded
+-- the history with the command of a request, if it was recorded
 abbrev pub history_past : List Command → Request → Reply → List Command
 history_past h (Act c) (Became o) = history_with h c o
 history_past h _ _ = h
@@ -64,10 +64,10 @@ IsLeftBy stands w h old (Act c) (Became o) x = IsLeft stands w h old c o x
 IsLeftBy stands w h old _ _ x = old.is_open → old.leaves x
 
 module _ (is_right : Readings → Type 0) (tells : StoreFault → Type 0) {Left : Type 0} (stands : Left → Tables → Type 0) where
-  -- A desk gives a request this reply: whatever its rows are, they are as they were where nothing was recorded; and for each right
-  -- reading and each history whose tables they are, it is the answer of the history, and leaves the tables of the history with
-  -- the command. What a stop leaves is told too, and that the desk still shows its rows, unless it had a fault; after a fault too, unless
-  -- its disk failed.
+  -- A desk gives a request this reply. Whatever its rows are, they are as they were if nothing was recorded.
+  -- For each right reading and each history whose tables they are, the reply is the answer of the history,
+  -- and the desk then has the tables of the history with the command. It is also said what a stop leaves, and
+  -- that the desk still shows its rows if the reply is no fault, and after a fault unless its disk failed.
   pub record Replies (old : Seen Left) (request : Request) (reply : Reply) (new : Seen Left) : Type 0 where
     pub fits : Fits tells request reply
     pub honest : new.is_honest → old.is_honest
@@ -80,15 +80,15 @@ module _ (is_right : Readings → Type 0) (tells : StoreFault → Type 0) {Left 
     pub leaves : InHistory is_right (λ w h. (x : Left) → new.leaves x → IsLeftBy stands w h old request reply x) old new
 
   module _ {Desk : Type 0} (seen : Desk → Seen Left) where
-    -- A desk gives requests these replies, one after the other, each on the desk as the ones before it left it: so there is a desk
-    -- between each two.
+    -- A desk gives requests these replies, one after another, each as the ones before it left the desk: so
+    -- there is a desk between any two of them.
     abbrev pub AreReplied : Desk → List Request → List Reply → Desk → Type 0
     AreReplied before [] [] after = before ≡ after
     AreReplied before (request ∷ requests) (reply ∷ replies) after =
         (between : Desk) × Replies (seen before) request reply (seen between) × AreReplied between requests replies after
     AreReplied before _ _ after = ⊥
 
--- the commands among requests, and what became of them
+-- the commands among requests, and their outcomes
 abbrev pub commands_of : List Request → List Command
 commands_of [] = []
 commands_of (Act c ∷ requests) = c ∷ commands_of requests
@@ -99,10 +99,11 @@ outcomes_of (Act c ∷ requests) (Became o ∷ replies) = o ∷ outcomes_of requ
 outcomes_of (_ ∷ requests) (_ ∷ replies) = outcomes_of requests replies
 outcomes_of _ _ = []
 
--- The commands among the requests are a run. Whatever the rows were, they stay where no command was recorded. For each right reading
--- and each history whose tables were the rows before, each outcome that is no fault is the answer at its place, the recorded commands
--- go on the history, and the rows after it are its tables. Where there was no fault and a stop left the rows before and no others, it
--- leaves those after it and no others. Only a fault of its disk shuts the desk.
+-- The commands among the requests are a run. Whatever the rows were, they are as they were if no command was
+-- recorded. For each right reading and each history whose tables were the rows before, each outcome that is
+-- no fault is the answer at its place, the recorded commands are added to the history, and the rows
+-- afterwards are its tables. If there was no fault, and a stop left the rows before the run and no others, a
+-- stop leaves the rows after it and no others. Only a fault of its disk closes the desk.
 pub record IsRun {Left : Type 0} (is_right : Readings → Type 0) (stands : Left → Tables → Type 0) (old : Seen Left) (requests : List Request) (replies : List Reply) (new : Seen Left) : Type 0 where
   pub honest : new.is_honest → old.is_honest
   pub keeps : is_any_recorded requests replies ≡ false → Spared old new

@@ -19,19 +19,19 @@ line_of reply = text_of reply ++ 10 ∷ []
 abbrev pub lines_of : List Reply → List ℕ
 lines_of replies = flat_map line_of replies
 
--- the text of a reply takes memory, unless it tells that memory was wanting or that there was no request
+-- the text of a reply needs memory, unless it says that no memory was left or that there was no request
 abbrev pub TakesMemory : Reply → Type 0
 TakesMemory (Became (Failed Memory)) = ⊥
 TakesMemory (Became _) = Unit {0}
 TakesMemory NoRequest = ⊥
 
--- a line counts as refused where its request is refused, or where it is none
+-- a line counts as refused if its request is refused, or if it is no request
 abbrev pub count_refused : Reply → ℕ
 count_refused (Became (Answered (Refused reason))) = 1
 count_refused (Became _) = 0
 count_refused NoRequest = 1
 
--- a line counts as failed where its request had a fault
+-- a line counts as failed if its request had a fault
 abbrev pub count_failed : Reply → ℕ
 count_failed (Became (Failed fault)) = 1
 count_failed _ = 0

@@ -16,16 +16,16 @@ use desk_json::{Request, read_command};
 use desk_model::{Command, Fault, Outcome, Query};
 use std::alloc::Global;
 
-/// What a line is replied.
+/// The reply to a line.
 #[derive(Drop)]
 pub enum Reply {
-    /// What became of its request.
+    /// The outcome of its request.
     Became(Outcome),
     /// It is no request.
     NoRequest,
 }
 
-/// Applies a command, and hands on the bytes of an import, so that they are not copied.
+/// Applies a command, and passes on the bytes of an import so that they are not copied.
 pub fn command_outcome<D: Desk>(desk: &mut D, command: Command) -> Outcome
     ensures { Replies D.are_right D.tells D.stands (D.seen desk.old) (Act command) (Became result)
         (D.seen desk.new) }
@@ -48,8 +48,8 @@ pub fn question_outcome<D: Desk>(desk: &mut D, query: &Query) -> Outcome
     Outcome::from(desk.ask(query))
 }
 
-/// Answers the request that the text of a line is. Where memory is wanting to read it, it failed.
-/// The text is let go of before the desk answers, which can use its memory.
+/// Answers the request in the text of a line. If no memory is left to read it, it fails. The text
+/// is dropped before the desk answers, so that it can use its memory.
 pub fn answer_line<D: Desk, V: Watch>(
     alloc: Global,
     desk: &mut D,

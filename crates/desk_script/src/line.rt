@@ -11,13 +11,13 @@ use std::alloc::{AllocError, Global};
 /// The bytes of a line as far as they came, without a CR at their end.
 #[derive(Drop)]
 pub struct Line {
-    /// The bytes, as many as a request may have.
+    /// The bytes, but no more than a request may have.
     pub kept: Vec<u8>,
     /// Whether there were more.
     pub is_long: bool,
-    /// Whether they are spaces and tabs alone.
+    /// Whether they are only spaces and tabs.
     pub is_blank: bool,
-    /// Whether a CR came after them, which belongs to the line's end where an LF comes next.
+    /// Whether a CR came after them, which belongs to the line end if an LF comes next.
     pub ends_by_cr: bool,
 }
 
@@ -40,7 +40,7 @@ fn stays_blank(was_blank: bool, run: &[u8]) -> bool
 }
 
 impl Line {
-    /// A line of which nothing came yet.
+    /// A line of which nothing has come yet.
     pub fn new(alloc: Global) -> Line
         ensures { Shows result [] }
     {
@@ -77,7 +77,7 @@ impl Line {
         self.kept.extend_from_slice(&run[..room])
     }
 
-    /// The CR that came is a byte of the line, since no LF came after it.
+    /// Adds the CR that came, if one did, to the line, since no LF came after it.
     pub fn keep_cr(&mut self) -> Result<(), AllocError>
         ensures came { (came : List ℕ) → Shows self.old came → OnOk result (HasCome self.new came) }
         ensures none { self.new.ends_by_cr ≡ false }
@@ -89,7 +89,7 @@ impl Line {
         Ok(())
     }
 
-    /// Adds bytes among which there is no LF.
+    /// Adds bytes that contain no LF.
     pub fn extend(&mut self, run: &[u8]) -> Result<(), AllocError>
         ensures { (came : List ℕ) → Shows self.old came
             → OnOk result (Shows self.new (came ++ run.now)) }

@@ -42,10 +42,10 @@ pub enum ScriptFault {
     Turns,
     #[error("no memory is left for a line or a reply")]
     Memory,
-    /// The script was to end with the first line that isn't done, which was refused or is no request.
+    /// The script was to end with the first line that isn't done: it was refused, or is no request.
     #[error("a line was refused or is no request")]
     Refused,
-    /// The same, where the request of the line failed.
+    /// The same, but the request of the line failed.
     #[error("the request of a line failed")]
     Failed,
 }
@@ -79,7 +79,7 @@ impl ScriptEnd {
     }
 }
 
-/// Writes some front of the bytes, which is empty where the writer was interrupted.
+/// Writes some prefix of the bytes, which is empty if the writer was interrupted.
 fn write_some<W: Write>(writer: &mut W, bytes: &[u8]) -> Result<usize, ScriptFault>
     ensures ok { IfOk result (λ taken. (taken ≤ length bytes.now)
         × Appends (W.contents writer.old) (W.contents writer.new) (take taken bytes.now)) }
@@ -94,8 +94,8 @@ fn write_some<W: Write>(writer: &mut W, bytes: &[u8]) -> Result<usize, ScriptFau
     }
 }
 
-/// Writes bytes as `write_all` does, of which nothing is known after a fault: here a front of them
-/// is written then.
+/// Writes bytes as `write_all` does. But after a fault of `write_all` nothing is known, and here a
+/// prefix of the bytes was written.
 pub fn write_bytes<W: Write>(writer: &mut W, bytes: &[u8]) -> Result<(), ScriptFault>
     ensures ok { OnOk result (Appends (W.contents writer.old) (W.contents writer.new) bytes.now) }
     ensures err { OnErr result
@@ -129,8 +129,8 @@ fn write_line<W: Write>(writer: &mut W, text: &str) -> Result<(), ScriptFault>
     }
 }
 
-/// Writes a reply as a line. That memory was wanting, and that there was no request, is told
-/// without taking memory.
+/// Writes a reply as a line. No memory is needed to write that no memory was left, or that there
+/// was no request.
 fn write_reply<W: Write>(alloc: Global, writer: &mut W, reply: &Reply) -> Result<(), ScriptFault>
     ensures ok { OnOk result
         (Appends (W.contents writer.old) (W.contents writer.new) (line_of reply.now)) }
@@ -148,7 +148,7 @@ fn write_reply<W: Write>(alloc: Global, writer: &mut W, reply: &Reply) -> Result
     }
 }
 
-/// The reply to a line that isn't blank. Its bytes are taken out of it.
+/// The reply to a line that isn't blank. The bytes are taken out of the line.
 fn answer_kept<D: Desk, V: Watch>(
     alloc: Global,
     desk: &mut D,
@@ -168,8 +168,8 @@ fn answer_kept<D: Desk, V: Watch>(
     answer_line(alloc, desk, watch, text)
 }
 
-/// Goes on past a reply, or ends the script with it where its line isn't done and it is to end
-/// there.
+/// Goes on after a reply, or ends the script with it if its line isn't done and the script is to
+/// end there.
 fn go_on(stops: bool, reply: &Reply) -> Result<(), ScriptFault>
     ensures goes { OnOk result
         (stops ≡ true → (count_refused reply.now ≡ 0) × (count_failed reply.now ≡ 0)) }
@@ -189,7 +189,7 @@ fn go_on(stops: bool, reply: &Reply) -> Result<(), ScriptFault>
     }
 }
 
-/// Writes a reply, and has it watched. The script goes on past it or ends with it.
+/// Writes a reply, and shows it to the watch. The script goes on after it or ends with it.
 fn tell_reply<W: Write, V: Watch>(
     alloc: Global,
     writer: &mut W,
@@ -210,7 +210,7 @@ fn tell_reply<W: Write, V: Watch>(
     go_on(watch.stops(), reply)
 }
 
-/// Serves a line of which these bytes came: a blank one is passed over; of any other the reply is
+/// Serves a line of which these bytes came: a blank one is skipped; for any other the reply is
 /// written and counted.
 pub fn serve<D: Desk, W: Write, V: Watch>(
     alloc: Global,

@@ -17,10 +17,10 @@ use memchr::memchr;
 use std::alloc::Global;
 use std::io::{Read, Write};
 
-/// The bytes that are read at once.
+/// How many bytes are read at once, at most.
 const PIECE_BYTES: usize = 65_536;
 
-/// What stands before the first LF of some bytes, and what follows it.
+/// What comes before the first LF of some bytes, and what follows it.
 fn cut_at_lf(bytes: &[u8]) -> Option<(&[u8], &[u8])>
     ensures { MatchOption result (All (λ b. b ≢ 10) bytes.now)
         (λ p. All (λ b. b ≢ 10) p.0.now × (bytes.now ≡ p.0.now ++ 10 ∷ p.1.now)) }
@@ -94,7 +94,7 @@ fn feed<D: Desk, W: Write, V: Watch>(
     Ok(())
 }
 
-/// Serves the last line, where it has no end of its own.
+/// Serves the last line, if it has no line end.
 fn finish<D: Desk, W: Write, V: Watch>(
     alloc: Global,
     desk: &mut D,
@@ -119,18 +119,19 @@ fn finish<D: Desk, W: Write, V: Watch>(
     serve(alloc, desk, writer, watch, end, line)
 }
 
-/// Reads requests, a line each, and writes a reply line for each line that isn't blank. Replies go
-/// out line by line: each is written and flushed before the next line is served.
+/// Reads requests, a line each, and writes a reply line for each line that isn't blank. Each reply
+/// is written and flushed before the next line is served.
 ///
-/// It goes on past refusals and faults, and counts them: want of memory for a request or for its
-/// answer is a reply, and ends nothing. At most 1,048,576 times the reader is asked for bytes, each
-/// time for at most 65,536. After a fault of the reader, of the writer or of memory for a line or a
-/// reply's text, what was accepted stands, and all replies are written but for the last one, where
-/// the fault was its: of that one a front of its line is written, and nothing where its text found
-/// no memory. Where the reader failed, or was asked too often, each line that ended among the bytes
-/// it gave is replied, and each reply written.
+/// It goes on after refusals and faults, and counts them: if no memory is left for a request or its
+/// answer, the reply says so, and the script doesn't end. The reader is asked for bytes at most
+/// 1,048,576 times, each time for at most 65,536. After a fault of the reader or the writer, or if
+/// no memory is left for a line or for the text of a reply, what was accepted stays applied, and
+/// all replies are written, except the last one if it had the fault: then a prefix of its line is
+/// written, or nothing if no memory was left for its text. If the reader failed or was asked too
+/// often, each line that ended within the bytes that it gave is answered, and each reply is
+/// written.
 ///
-/// Where the one who watches says so, it ends with the first line that isn't done, whose reply is
+/// If the watch says so, the script ends with the first line that isn't done, whose reply is
 /// written.
 pub fn script<D: Desk, R: Read, W: Write, V: Watch>(
     alloc: Global,

@@ -1,11 +1,11 @@
-//! Who watches a script.
+//! What watches a script.
 
 ghost use Rattle.std.specs.Prelude.{◌≡◌, Bool};
 
 use crate::answer::Reply;
 
-/// One who is told of each line of a script, and says whether it ends with the first line that
-/// isn't done.
+/// Sees each line of a script, and says whether the script ends with the first line that isn't
+/// done.
 pub trait Watch {
     /// Whether the script ends with the first line that isn't done.
     ghost stops: { Self → Bool };
@@ -18,12 +18,12 @@ pub trait Watch {
     fn came(&mut self)
         ensures { stops self.new ≡ stops self.old };
 
-    /// The line that came is no request: its bytes, or none where they are more than a request may
-    /// have.
+    /// The line that came is no request. Its bytes are given unless they are more than a request
+    /// may have.
     fn no_request(&mut self, text: Option<&[u8]>)
         ensures { stops self.new ≡ stops self.old };
 
-    /// The line that came was replied.
+    /// The line that came got this reply.
     fn replied(&mut self, reply: &Reply)
         ensures { stops self.new ≡ stops self.old };
 }

@@ -21,8 +21,8 @@ use Rattle.desk_snapshot.specs.declared.snapshot.Snapshot.{Snapshot}
 abbrev pub last_day_at : Snapshot → StoredChange → Option (List ℕ)
 last_day_at s row = option_map (λ waiver. waiver.last_day) (find (is_waiver_at row.duty row.step) s.waiver)
 
--- Which move goes from where: Meet and Waive from open, Reopen from met or waived, a withdrawal from open or waived, and the end of a
--- waiver from waived, where its last day is before the day of the end. A duty is raised once, and nothing moves it from withdrawn.
+-- Which move is allowed from which state: Meet and Waive from open, Reopen from met or waived, a withdrawal from open or waived, and the end of a waiver from
+-- waived, if its last day is before the day of the end. A duty is raised once, and nothing moves it from withdrawn.
 abbrev pub may_move : DutyState → Option (List ℕ) → List ℕ → Word → Bool
 may_move stands.IsOpen end day word.Met = true
 may_move stands.IsOpen end day word.Waived = true
@@ -33,7 +33,7 @@ may_move stands.Waived end day word.Withdrawn = true
 may_move stands.Waived end day word.Ended = option_map_or (λ last. is_before last day) end false
 may_move _ end day _ = false
 
--- a change goes on from where the one before it left the duty
+-- a change follows from the state in which the one before it left the duty
 abbrev pub goes_on : Snapshot → StoredChange → StoredChange → Bool
 goes_on s before row =
     option_map_or (λ left. option_map_or (may_move (state_after left) (last_day_at s before) row.day) (word_named row.word) false) (word_named before.word) false
@@ -42,12 +42,12 @@ abbrev pub go_on : Snapshot → StoredChange → List StoredChange → Bool
 go_on s before [] = true
 go_on s before (row ∷ rows) = goes_on s before row && go_on s row rows
 
--- the last of some changes
+-- the last of a list of changes
 abbrev pub last_change : StoredChange → List StoredChange → StoredChange
 last_change row [] = row
 last_change row (next ∷ rows) = last_change next rows
 
--- The text of a change: none where a duty was raised or a waiver ended, else 1 to 1,024 bytes without control bytes.
+-- The text of a change: empty if a duty was raised or a waiver ended, otherwise 1 to 1,024 bytes without control bytes.
 abbrev pub is_body : Word → List ℕ → Bool
 is_body word.Raised text = bytes_eq text []
 is_body word.Ended text = bytes_eq text []
@@ -71,13 +71,12 @@ is_raising row = bytes_eq row.word (word_name word.Raised)
 abbrev pub leaves : List ℕ → StoredChange → Bool
 leaves state row = option_map_or (λ word. bytes_eq (duty_state_name (state_after word)) state) (word_named row.word) false
 
--- The changes of a duty in a state: the first is its raising, each next one goes on from the one before it, and the last one left it in
--- that state.
+-- The changes of a duty in a state: the first is its raising, each next one follows from the one before it, and the last one left it in that state.
 abbrev pub are_moves : Snapshot → List ℕ → List StoredChange → Bool
 are_moves s state [] = false
 are_moves s state (row ∷ rows) = is_raising row && (go_on s row rows && leaves state (last_change row rows))
 
--- The changes of a duty: their steps are 1 to their number.
+-- The changes of a duty: their steps are the numbers from 1 to their count.
 pub record AreChangesOf (s : Snapshot) (duty : StoredDuty) : Type 0 where
   pub steps : AreFrom 1 (map (λ row. row.step) (filter (is_change_of duty.number) s.changes))
   pub formed : list_all is_formed (filter (is_change_of duty.number) s.changes) ≡ true
@@ -87,7 +86,7 @@ pub record AreChangesOf (s : Snapshot) (duty : StoredDuty) : Type 0 where
 abbrev pub is_within : ℕ → ℤ → Bool
 is_within n m = int_le (pos 1) m && int_le m (pos n)
 
--- a waiver stands at a waived step, with a last day that exists and isn't before the day of the step
+-- a waiver belongs to a waived step, with a last day that exists and isn't before the day of the step
 abbrev pub is_waiver_of : StoredChange → List ℕ → Bool
 is_waiver_of row last_day = bytes_eq row.word (word_name word.Waived) && (is_day last_day && not (is_before last_day row.day))
 

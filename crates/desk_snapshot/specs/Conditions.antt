@@ -1,6 +1,5 @@
--- The ten conditions that the tables of a desk meet (schema version 3), each said of a snapshot whose lists stand in the order of their
--- tables' keys. What texts say is told by a reading (`desk_model`): licence expressions by SPDX 2.3, Annex D, documents by its tag-value
--- form, catalogues by their own form.
+-- The ten conditions that the tables of a desk meet (schema version 3), each defined for a snapshot whose lists are in the order of their tables' keys. What
+-- texts say is given by a reading (`desk_model`): licence expressions by SPDX 2.3, Annex D, documents by its tag-value form, catalogues by their own form.
 use Rattle.std.specs.Prelude.{◌≡◌, ℕ, ℤ, pos, ◌&&◌, ◌||◌, not, nat_le, nat_lt, ◌==◌, Bool, true, false, List, [], ◌∷◌, length, map, filter, find, flat_map, Option, is_some, IsPermutation, if◌then◌else◌}
 use Rattle.std.specs.List.{list_all, list_any, AllByRecursion, join_with_byte, range_with_len, slice_split}
 use Rattle.std.specs.Option.{option_map, option_map_or, option_and_then}
@@ -68,7 +67,7 @@ is_read w row = option_map_or (λ read. bytes_eq read.namespace row.namespace) (
 abbrev pub is_profile : StoredReading → Bool
 is_profile row = int_eq row.profile (pos 1) || int_eq row.profile (pos 2)
 
--- The documents are 1 to n, the bytes of each are read and have that namespace, and each document, no other, has one profile.
+-- The documents are 1 to n, the bytes of each are read and have its namespace, and each document, and no other, has one profile.
 pub record AreDocuments (w : Readings) (s : Snapshot) : Type 0 where
   pub numbered : AreFrom 1 (map (λ row. row.number) s.document)
   pub read : list_all (is_read w) s.document ≡ true
@@ -100,7 +99,7 @@ pub record ArePackages (w : Readings) (s : Snapshot) : Type 0 where
   pub all : s.packages ≡ flat_map (packages_by w) s.document
   pub extracted : s.extracted ≡ flat_map (extracted_by w) s.document
 
--- a text is what is told
+-- a text is the one that is given, if one is
 abbrev pub is_that : List ℕ → Option (List ℕ) → Bool
 is_that text told = option_map_or (bytes_eq text) told false
 
@@ -108,7 +107,7 @@ is_that text told = option_map_or (bytes_eq text) told false
 abbrev pub is_printed : Readings → List ℕ → Bool
 is_printed w text = is_that text (w.term text)
 
--- from a reference alone to a licence alone: no plus, exception or reference
+-- from a reference alone to a licence alone: no plus, no exception, no reference
 abbrev pub is_adoption : Readings → StoredAdoption → Bool
 is_adoption w row = (is_printed w row.reference && is_that row.reference (w.reference row.reference)) && (is_printed w row.licence && w.is_licence row.licence)
 
@@ -125,7 +124,7 @@ profile_of row = if int_eq row.profile (pos 2) then Either else Capitals
 abbrev pub profile_at : Snapshot → ℤ → Profile
 profile_at s document = option_map_or profile_of (find (is_reading_of document) s.reading) Capitals
 
--- the conclusion in force for a package: the office's, else its own field where that is an expression
+-- the conclusion in force for a package: the office's, or else its own field if that is an expression
 abbrev pub conclusion_at : Readings → Snapshot → StoredPackage → Option Conclusion
 conclusion_at w s p =
     conclusion_by w (option_map (λ row. row.expression) (find (is_conclusion p.document p.id) s.conclusion)) (profile_at s p.document) p.concluded
@@ -146,8 +145,8 @@ are_minimal w terms conclusion = list_all (is_printed w) terms && is_minimal (w.
 abbrev pub ships_under : Readings → Snapshot → List (List ℕ) → StoredPackage → Bool
 ships_under w s terms p = int_eq p.shipped (pos 1) && option_map_or (are_minimal w terms) (conclusion_at w s p) false
 
--- A choice is of a release that isn't withdrawn, for a shipped package of an attached document, and the terms of the release for this
--- package are a minimal set for its conclusion.
+-- A choice is in a release that isn't withdrawn, for a shipped package of an attached document, and the terms of the release for this package are a minimal set
+-- for its conclusion.
 abbrev pub is_choice : Readings → Snapshot → StoredChoice → Bool
 is_choice w s row =
     option_map_or (λ release. not (is_withdrawn release)) (find (is_release row.release) s.releases) false
@@ -174,8 +173,8 @@ IsKept s release = is_frozen release ≡ true → chosen_in s release.name ≡ f
 abbrev pub numbers_to : ℕ → List ℤ
 numbers_to n = map pos (range_with_len 1 n)
 
--- Conclusions are expressions, adoptions go from references to plain licence ids, places are 1 to n, choices are such as can be held,
--- and a frozen release's choices are its frozen terms.
+-- Conclusions are expressions, adoptions go from references to plain licence ids, places are 1 to n, choices are ones that can be held, and a frozen release's
+-- choices are its frozen terms.
 pub record AreChoices (w : Readings) (s : Snapshot) : Type 0 where
   pub conclusions : list_all (λ row. w.is_expression Capitals row.expression) s.conclusion ≡ true
   pub adoptions : list_all (is_adoption w) s.adoption ≡ true
@@ -187,18 +186,18 @@ pub record AreChoices (w : Readings) (s : Snapshot) : Type 0 where
 abbrev pub was_frozen : Snapshot → List ℕ → Bool
 was_frozen s name = option_map_or (λ release. not (int_eq release.revision (pos 0))) (find (is_release name) s.releases) false
 
--- The duties are 1 to n, n at most 100,000, each of a release that was frozen.
+-- The duties are 1 to n, with n at most 100,000, each of a release that was frozen.
 pub record AreNumbered (s : Snapshot) : Type 0 where
   pub numbered : AreFrom 1 (map (λ row. row.number) s.duty)
   pub few : nat_le (length s.duty) 100000 ≡ true
   pub frozen : list_all (λ row. was_frozen s row.release) s.duty ≡ true
 
--- the rule of a release's revision and form that is spelled as a frozen term's rule
+-- the rule of a release's revision and form that is spelled like a frozen term's rule
 abbrev pub rule_for : Snapshot → StoredFrozen → Option StoredRule
 rule_for s row =
     option_and_then (λ release. find (is_rule_spelled release.revision release.form row.rule) s.rule) (find (is_release row.release) s.releases)
 
--- the codes that a text joins by one blank
+-- the codes that are joined by one blank in a text
 abbrev pub codes_in : List ℕ → List (List ℕ)
 codes_in text = filter (λ code. nat_lt 0 (length code)) (slice_split (λ byte. byte == 32) text)
 
@@ -230,7 +229,7 @@ pub record AreDuties (s : Snapshot) : Type 0 where
   pub ruled : list_all (is_ruled s) s.frozen ≡ true
   pub owed : IsPermutation (flat_map (owed_by s) s.frozen) (map owed_of s.duty)
 
--- The changes of each duty, and no other changes; and waivers that end only at waived steps.
+-- The changes of each duty, and no other changes; and last days only at waived steps.
 pub record AreChanges (s : Snapshot) : Type 0 where
   pub of_each : AllByRecursion (AreChangesOf s) s.duty
   pub of_duties : list_all (λ row. is_within (length s.duty) row.duty) s.changes ≡ true
@@ -244,7 +243,7 @@ abbrev pub stands_as : StoredRelease → StoredDuty → Bool
 stands_as release row =
     if is_withdrawn release then not (is_in_state duty.IsOpen row || is_in_state duty.Waived row) else not (is_in_state duty.Withdrawn row)
 
--- A withdrawn release has no open or waived duty, any other release no withdrawn one. A release is open, frozen or withdrawn.
+-- A withdrawn release has no open or waived duty, and any other release no withdrawn one. A release is open, frozen or withdrawn.
 pub record AreStates (s : Snapshot) : Type 0 where
   pub releases : list_all (λ row. is_some (release_state_named row.state)) s.releases ≡ true
   pub duties : list_all (λ row. option_map_or (λ release. stands_as release row) (find (is_release row.release) s.releases) true) s.duty ≡ true

@@ -33,7 +33,7 @@ audit_number BadDuty = 8
 audit_number BadChange = 9
 audit_number BadState = 10
 
--- the condition whose failure a fault tells
+-- the condition whose failure a fault reports
 abbrev pub Meets : Readings → Snapshot → AuditFault → Type 0
 Meets w s BadMeta = HasVersion s
 Meets w s BadRevision = AreRevisions w s
@@ -51,7 +51,7 @@ abbrev pub IsReport : Readings → Snapshot → AuditReport → Type 0
 IsReport w s Sound = (f : AuditFault) → Meets w s f
 IsReport w s (Unsound f) = (Meets w s f → ⊥) × ((g : AuditFault) → audit_number g < audit_number f → Meets w s g)
 
--- of some conditions, each told by its fault, the first that isn't met, if there is one
+-- of some conditions, each given by its fault, the first that isn't met, if there is one
 abbrev pub IsFirst : Readings → Snapshot → List AuditFault → Option AuditFault → Type 0
 IsFirst w s [] None = Unit {0}
 IsFirst w s [] (Some f) = ⊥

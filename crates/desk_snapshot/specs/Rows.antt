@@ -1,4 +1,4 @@
--- Which rows are meant: those of a document, a package, a release, a duty.
+-- Which rows are those of a document, a package, a release, a duty.
 use Rattle.std.specs.Prelude.{◌≡◌, ℕ, ◌+◌, ℤ, pos, ◌&&◌, Bool, List, [], ◌∷◌, Option, find}
 use Rattle.std.specs.Ordering.{int_eq}
 use Rattle.std.specs.Str.{bytes_eq}
@@ -20,7 +20,7 @@ use Rattle.desk_snapshot.specs.declared.rows.StoredRelease.{StoredRelease}
 use Rattle.desk_snapshot.specs.declared.rows.StoredRule.{StoredRule}
 use Rattle.desk_snapshot.specs.declared.rows.StoredWaiver.{StoredWaiver}
 
--- these are the numbers from n on
+-- these are the numbers from n
 abbrev pub AreFrom : ℕ → List ℤ → Type 0
 AreFrom n [] = Unit {0}
 AreFrom n (m ∷ ms) = (m ≡ pos n) × AreFrom (n + 1) ms
@@ -50,7 +50,7 @@ is_choice_of release document id row = bytes_eq row.release release && (int_eq r
 abbrev pub is_frozen_in : List ℕ → StoredFrozen → Bool
 is_frozen_in release row = bytes_eq row.release release
 
--- the rule of a revision and a form that is spelled so
+-- the rule of a revision and a form with this spelling
 abbrev pub is_rule_spelled : ℤ → List ℕ → List ℕ → StoredRule → Bool
 is_rule_spelled revision form spelled row = int_eq row.revision revision && (bytes_eq row.form form && bytes_eq row.spelled spelled)
 

@@ -1,4 +1,4 @@
--- On which side of what is sought a row stands, and that this splits rows in order.
+-- On which side of what is sought a row is, and that this splits rows in order.
 use Rattle.std.proofs.Common.{◌≡◌, ℕ, true, List, refl}
 use Rattle.std.specs.Prelude.{ℤ, ◌&&◌}
 use Rattle.std.specs.Ordering.{nat_cmp, int_cmp, int_eq, is_lt, is_eq, ordering_then, on, then_cmp}
@@ -134,7 +134,7 @@ step_splits duty step = side_by change_order (λ row. (row.duty, row.step)) two_
 pub waiver_splits : (duty step : ℤ) → IsSideOf waiver_order (waiver_side duty step)
 waiver_splits duty step = side_by waiver_order (λ row. (row.duty, row.step)) two_numbers two_numbers_total (λ x y e. e) (duty, step)
 
--- The rows at a key are those on neither side of it
+-- The rows with a key are those on neither side of it
 
 pub package_meets : (document : ℤ) (id : List ℕ) (row : StoredPackage) → is_package document id row ≡ is_eq (package_side document id row)
 package_meets document id row =

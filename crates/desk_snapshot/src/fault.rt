@@ -5,23 +5,22 @@
 pub enum AuditFault {
     /// The table `meta` has one row, with the version of the schema.
     BadMeta,
-    /// The revisions are numbered from 1 on, and the body of each is a catalogue.
+    /// The revisions are numbered from 1, and the body of each is a catalogue.
     BadRevision,
     /// The rules of each revision are those of its body.
     BadRule,
-    /// The documents are numbered from 1 on, the bytes of each are a document with that namespace,
-    /// and each has a profile.
+    /// The documents are numbered from 1, the bytes of each are a document with its namespace, and
+    /// each has a profile.
     BadDocument,
     /// The packages and the extracted licences are those of the documents.
     BadPackage,
-    /// The office's conclusions, adoptions, places and choices are such as it can have made.
+    /// The office's conclusions, adoptions, places and choices are ones that it can have made.
     BadChoice,
-    /// The duties are numbered from 1 on, at most 100,000, and each is of a release that was
-    /// frozen.
+    /// The duties are numbered from 1, at most 100,000, and each is of a release that was frozen.
     BadNumber,
     /// The duties of each release are those that its frozen terms owe.
     BadDuty,
-    /// The changes of each duty are moves that go on from each other and lead to its state.
+    /// The changes of each duty are moves that follow from each other and lead to its state.
     BadChange,
     /// A withdrawn release has no open or waived duty, and any other release no withdrawn one.
     BadState,
@@ -31,7 +30,7 @@ impl AuditFault {
     ghost use Rattle.std.specs.Prelude.{◌≡◌};
     ghost use Rattle.desk_snapshot.specs.Reports.{audit_name};
 
-    /// The name by which it is told.
+    /// The name by which it is reported.
     pub fn name(&self) -> &'static str
         ensures { result.now ≡ audit_name self.now }
     {
@@ -50,11 +49,11 @@ impl AuditFault {
     }
 }
 
-/// What an audit tells of a desk's tables.
+/// What an audit reports about a desk's tables.
 #[derive(Clone, Copy, PartialEq, Eq)]
 pub enum AuditReport {
     /// They meet all ten conditions.
     Sound,
-    /// They don't meet this one, and those before it.
+    /// They don't meet this one, but those before it.
     Unsound(AuditFault),
 }

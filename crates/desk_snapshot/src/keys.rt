@@ -1,4 +1,4 @@
-//! What the rows of a snapshot are looked up by.
+//! The keys by which the rows of a snapshot are looked up.
 
 ghost use Rattle.std.specs.Prelude.{refl};
 ghost use Rattle.desk_sorted.specs.Sides.{texts_meet};

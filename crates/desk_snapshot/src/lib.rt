@@ -1,9 +1,9 @@
-//! The rows of a desk's tables as anyone may have left them, and what an audit asks of them.
+//! The rows of a desk's tables as anyone may have left them, and what an audit requires of them.
 //!
 //! A `Snapshot` has a list of rows for each table, in the order of the table's key: numbers are
-//! whole numbers of any size, states and words are texts. In `specs/` stand the ten conditions that
-//! the tables of a desk meet (`Conditions`, with those of changes in `Changes`), what a report
-//! tells of them (`Reports`), and the snapshot of a recorded history's tables (`Tables`).
+//! whole numbers of any size, states and words are texts. `specs/` has the ten conditions that the
+//! tables of a desk meet (`Conditions`, with those of changes in `Changes`), what a report says
+//! about them (`Reports`), and the snapshot of a recorded history's tables (`Tables`).
 #![tactic(auto)]
 
 mod fault;

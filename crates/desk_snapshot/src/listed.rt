@@ -8,8 +8,8 @@ use desk_sorted::{Appended, Keyed, Sought};
 use std::alloc::Global;
 use std::marker::Model;
 
-/// The rows of a table, seen as their list. They are found by halving where they stand in the order
-/// of their keys, as they do where a database lists them so, else one after the other.
+/// The rows of a table, seen as their list. If they are in the order of their keys, as they are if
+/// a database lists them so, they are found by binary search, otherwise one after another.
 #[derive(Drop)]
 pub struct Listed<R: Keyed> {
     appended: Appended<R>,
@@ -24,7 +24,7 @@ impl<R: Keyed> Model for Listed<R> {
 }
 
 impl<R: Keyed + Drop> Listed<R> {
-    /// The list of no row, with room for so many.
+    /// An empty list, with room for this many rows.
     pub fn with_capacity(alloc: Global, count: usize) -> Result<Listed<R>, Fault>
         ensures none { IfOk result (λ rows. rows ≡ []) }
         ensures fault { IfErr result (λ fault. fault ≡ Fault.Memory) }
@@ -52,7 +52,7 @@ impl<R: Keyed + Drop> Listed<R> {
         self.appended.rows.as_slice()
     }
 
-    /// Rows among which all stand that are sought, and no others where the rows are in order.
+    /// Rows that include all that are sought, and no others if the rows are in order.
     pub fn among<K: Sought<R>>(&self, key: &K) -> &[R]
         ensures { filter (K.is_at key.now) result.now ≡ filter (K.is_at key.now) self.now }
     {

@@ -1,4 +1,4 @@
-//! The rows of the desk's tables as they stand. The fields are the columns, in their order; numbers
+//! The rows of the desk's tables as they are. The fields are the columns, in their order; numbers
 //! may be any.
 
 use desk_base::{Items, Text};
@@ -36,7 +36,7 @@ pub struct StoredDocument {
     pub bytes: Items<u8>,
 }
 
-/// A row of `reading`: the profile that a document is read by.
+/// A row of `reading`: the profile by which a document is read.
 #[derive(Drop)]
 pub struct StoredReading {
     pub document: i64,
@@ -52,7 +52,7 @@ pub struct StoredPackage {
     pub version: Option<Text>,
     pub concluded: Option<Text>,
     pub copyright: Option<Text>,
-    /// 1 where the document ships the package, else 0.
+    /// 1 if the document ships the package, otherwise 0.
     pub shipped: i64,
 }
 

@@ -1,4 +1,4 @@
--- Rows that go in beside those that are there.
+-- Rows that go in besides those that are there.
 use Rattle.std.proofs.Common.{◌≡◌, ℕ, suc, Bool, true, false, List, [], ◌∷◌, take, drop, sym, refl, ap, ◌∙◌}
 use Rattle.std.specs.Prelude.{filter, ◌||◌, not, Vec}
 use Rattle.std.specs.List.{list_all, list_any}
@@ -12,7 +12,7 @@ pub filter-true : {A : Type 0} (xs : List A) → filter (λ x. true) xs ≡ xs
 filter-true [] = refl
 filter-true (x ∷ xs) = ap (λ l. x ∷ l) (filter-true xs)
 
--- without those that pass a test, where none does
+-- the rows without those that pass a test, if none does
 pub all_left : {A : Type 0} (test : A → Bool) (xs : List A) → list_any test xs ≡ false → filter (λ x. not (test x)) xs ≡ filter (λ x. true) xs
 all_left test [] e = refl
 all_left test (x ∷ xs) e =

@@ -201,7 +201,7 @@ filled_joined {R = R} (x ∷ xs) last b d zero e f some =
     and_left (list_all (λ (y : Vec R Global). has_rows y.items) xs) (list_all (λ (y : Vec R Global). has_rows y.items) (last ∷ [])) split
 filled_joined (x ∷ xs) last b d (suc at) e f some = all_joined xs last b d at (omega (arith, e)) f some
 
--- blocks that are changed, none of which is left without rows
+-- blocks that are changed, none of which is left empty
 
 all_parted : {R : Type 0} (xs ys : List (Vec R Global)) → list_all (λ b. has_rows b.items) xs ≡ true → list_all (λ b. has_rows b.items) ys ≡ true → list_all (λ b. has_rows b.items) (xs ++ ys) ≡ true
 all_parted [] ys e f = f
@@ -232,7 +232,7 @@ whole_within bs cut low high some all =
     all_parted (take low bs) (cut ++ drop high bs) (all_take (λ b. has_rows b.items) low bs all)
     (all_parted cut (drop high bs) (each_filled cut some) (all_drop (λ b. has_rows b.items) high bs all))
 
--- the blocks behind the first
+-- the blocks after the first
 
 pub behind_filled : {R : Type 0} (bs : List (Vec R Global)) (at : ℕ) → are_filled bs ≡ true → are_all_filled (drop (suc at) bs) ≡ true
 behind_filled [] at all = refl

@@ -1,4 +1,4 @@
--- Runs of rows and places of rows, found by halving.
+-- Runs of rows and places of rows, found by binary search.
 use Rattle.std.proofs.Common.{◌≡◌, ℕ, zero, suc, ◌+◌, ◌-◌, ◌<◌, ◌≤◌, Bool, true, false, cond, List, [], ◌∷◌, ◌++◌, length, map, take, drop, get_or, Some, sym, refl, ap, subst, ◌∙◌, arith}
 use Rattle.std.specs.Prelude.{if◌then◌else◌, filter, find, ◌==◌, not, slice_get, nat_lt, insert}
 use Rattle.std.specs.List.{list_all, list_any, AllWithin, IsAllAdjacentAnswer}
@@ -76,7 +76,7 @@ is_run side xs low high m n p q = record {
   behind = λ k d a b. greater (side (get_or xs k d)) (q.1 k d a b);
 }
 
--- what stands in a run
+-- what is in a run
 
 filter_none : {A : Type 0} (test : A → Bool) (xs : List A) → AllWithin (λ x. test x ≡ false) xs 0 (length xs) → filter test xs ≡ []
 filter_none test [] h = refl
@@ -103,7 +103,7 @@ filter_run test (x ∷ xs) (suc low) (suc high) le within f t g =
     rw here (filter_run test xs low high (omega (arith, le)) (omega (arith, within)) (λ k d a b. f (suc k) d (omega arith) (omega (arith, b))) (λ k d a b. t (suc k) d (omega (arith, a)) (omega (arith, b))) (λ k d a b. g (suc k) d (omega (arith, a)) (omega (arith, b)))
     ∙ ap (λ n. take n (drop low xs)) same)
 
--- what a test that a side decides says along a run
+-- what a test that depends on the side says along a run
 pub record Tells {A : Type 0} (test : A → Bool) (xs : List A) (low high : ℕ) : Type 0 where
   pub before : AllWithin (λ x. test x ≡ false) xs 0 low
   pub sought : AllWithin (λ x. test x ≡ true) xs low high
@@ -276,7 +276,7 @@ pub climbs_by : {A : Type 0} (below : A → A → Bool) (xs : List A) (r : Bool)
 climbs_by below xs true h e = λ k d lt. sym (h k d lt)
 climbs_by below xs false h e = cc
 
--- one row more, or none where there was no room
+-- one more row, or none if there was no room
 pub ascends_either : {A : Type 0} (below : A → A → Bool) → IsOrder below → (b : Bool) (x : A) (xs : List A) (n : ℕ) → IsPlace below x xs n → ascends below xs ≡ true → ascends below (if b then insert xs n x else xs) ≡ true
 ascends_either below o true x xs n p up = ap (ascends below) (sym (put_at below x xs n p)) ∙ ascends-put below o x xs up
 ascends_either below o false x xs n p up = up
@@ -288,7 +288,7 @@ length-updated test change (x ∷ xs) = ap suc (length-updated test change xs)
 pub same_count : {A : Type 0} (test : A → Bool) (change : A → A) (xs ys : List A) → ys ≡ updated test change xs → length ys ≡ length xs
 same_count test change xs ys e = ap length e ∙ length-updated test change xs
 
--- a run is changed where it stands
+-- a run is changed in its place
 pub run_changed : {A : Type 0} (test : A → Bool) (side : A → Ordering) → ((x : A) → test x ≡ is_eq (side x)) → (change : A → A) (xs seen lent part : List A) (low high : ℕ) → IsRun side seen low high → seen ≡ xs → lent ≡ xs → part ≡ map change (take (high - low) (drop low lent)) → take low lent ++ (part ++ drop (high - low) (drop low lent)) ≡ updated test change xs
 run_changed test side meets change xs seen lent part low high run e f g =
     let here = subst (λ ys. IsRun side ys low high) e run in

@@ -11,7 +11,7 @@ use Rattle.desk_sorted.specs.Sorted.{Begins, IsEnd, IsRun, Rises}
 use Rattle.desk_sorted.proofs.Halving.{is_run, partitioned_lt, partitioned_le}
 
 module _ {A : Type 0} (test : A → Bool) (xs : List A) (by : IsPartitionedBy test xs) where
-  -- a test that fails at one row fails from there on
+  -- a test that fails for one row fails from there on
   fails_on : (i j : ℕ) (d : A) → i ≤ j → j < length xs → test (get_or xs i d) ≡ false → (b : Bool) → test (get_or xs j d) ≡ b → b ≡ false
   fails_on i j d le lt fails true e = sym (by i j d le lt e) ∙ fails
   fails_on i j d le lt fails false e = refl

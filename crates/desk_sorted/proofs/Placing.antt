@@ -10,7 +10,7 @@ use Rattle.desk_sorted.proofs.Halving.{first_found, last_at}
 use Rattle.desk_model.proofs.Orders.{IsOrder}
 use Rattle.desk_base.proofs.Bools.{and_left, and_right, both, not_true}
 
--- one more row behind the others
+-- one more row after the others
 
 over_later : {A : Type 0} (below : A → A → Bool) → IsOrder below → (y z : A) (ws : List A) → below z y ≡ false → over below z ws ≡ true → over below y ws ≡ true
 over_later below o y z [] e all = refl
@@ -44,7 +44,7 @@ ascends-push below o (y ∷ ys) last x is e up =
     let same : last ≡ last_of y ys = cc in
     push_on below o y ys x (ap (below x) (sym same) ∙ e) up
 
--- what passes a test among rows found by another
+-- what passes a test, among rows found by another test
 
 within_step : {A : Type 0} (p t : A → Bool) → ((x : A) → p x ≡ true → t x ≡ true) → (x : A) (xs : List A) (a b : Bool) → t x ≡ a → p x ≡ b → filter p (filter t xs) ≡ filter p xs → filter p (cond a (x ∷ filter t xs) (filter t xs)) ≡ cond b (x ∷ filter p xs) (filter p xs)
 within_step p t h x xs true b e f rest = rw (f, rest) refl
@@ -58,12 +58,12 @@ within p t h (x ∷ xs) = within_step p t h x xs (t x) (p x) refl refl (within p
 pub filter_within : {A : Type 0} (p t : A → Bool) → ((x : A) → p x ≡ true → t x ≡ true) → (xs ys : List A) → filter t xs ≡ filter t ys → filter p xs ≡ filter p ys
 filter_within p t h xs ys e = sym (within p t h xs) ∙ (ap (filter p) e ∙ within p t h ys)
 
--- the first that is sought, among rows where all stand that are
+-- the first that is sought, among rows that include all of them
 pub found_among : {A : Type 0} (p q : A → Bool) → ((x : A) → p x ≡ q x) → (xs ys : List A) → filter p xs ≡ filter p ys → find q xs ≡ find p ys
 found_among p q h xs ys e =
     sym (first_found q xs) ∙ (ap (λ l. slice_get l 0) (filter_agree q p (λ x. sym (h x)) xs ∙ e) ∙ first_found p ys)
 
--- the first that passes, once one is put in
+-- the first that passes, after one is put in
 
 find-push : {A : Type 0} (t : A → Bool) (xs : List A) (x : A) → find t (xs ++ x ∷ []) ≡ or_else (find t xs) (cond (t x) (Some x) None)
 find-push t [] x = refl
@@ -122,7 +122,7 @@ map-cond : {A B : Type 0} (f : A → B) (b : Bool) (x : A) → option_map f (con
 map-cond f true x = refl
 map-cond f false x = refl
 
--- the place of the first row that passes, kept once there is a row more
+-- the place of the first row that passes, kept when there is one more row
 pub place_kept : {E R : Type 0} (below : E → E → Bool) → IsOrder below → (t : E → Bool) → ((x y : E) → t x ≡ true → t y ≡ true → below x y ≡ false) → (p : R → Bool) (place : E → ℕ) (e : E) (entries : List E) (row : R) (rows : List R) → ascends below entries ≡ true → t e ≡ p row → place e ≡ length rows → option_map place (find t entries) ≡ position_from p 0 rows → option_map place (find t (put below e entries)) ≡ position_from p 0 (rows ++ row ∷ [])
 place_kept below o t alike p place e entries row rows up same at kept =
     let here : place e ≡ 0 + length rows = omega (arith, at) in

@@ -67,7 +67,7 @@ module _ {A : Type 0} (test : A → Bool) (side : A → Ordering) (meets : (x : 
       let here : test x ≡ false = meets x ∙ gt_apart (side x) (or_left (is_le (side x)) (list_any (λ y. is_le (side y)) xs) e) in
       rw here (none_behind xs (or_right (is_le (side x)) (list_any (λ y. is_le (side y)) xs) e))
 
--- all rows that are sought stand in the run of blocks
+-- all rows that are sought are in the run of blocks
 pub found_in_run : {R : Type 0} (test : R → Bool) (side : R → Ordering) → ((x : R) → test x ≡ is_eq (side x)) → (bs : List (Vec R Global)) (low high : ℕ) → IsBlockRun side bs low high → filter test (rows_in (take (high - low) (drop low bs))) ≡ filter test (rows_in bs)
 found_in_run test side meets bs low high run =
     let front = rows_in (take low bs) in
@@ -79,7 +79,7 @@ found_in_run test side meets bs low high run =
     ∙ (filter-append test middle back
     ∙ (ap (λ l. filter test middle ++ l) (filter_no test back (none_behind test side meets back run.behind)) ∙ append-nil (filter test middle))))))
 
--- the others stay when they are cut out of the run of blocks
+-- the others stay when those are cut out of the run of blocks
 pub cut_in_run : {R : Type 0} (test : R → Bool) (side : R → Ordering) → ((x : R) → test x ≡ is_eq (side x)) → (bs : List (Vec R Global)) (low high : ℕ) (cut : List R) → IsBlockRun side bs low high → cut ≡ filter (λ x. not (test x)) (rows_in (take (high - low) (drop low bs))) → rows_in (take low bs) ++ (cut ++ rows_in (drop high bs)) ≡ filter (λ x. not (test x)) (rows_in bs)
 cut_in_run {R = R} test side meets bs low high cut run e =
     let left : R → Bool = λ x. not (test x) in

@@ -1,4 +1,4 @@
--- Lists in order: a list has one order where what ties is the same.
+-- Lists in order: a list has only one order if items that tie are the same.
 use Rattle.std.proofs.Common.{◌≡◌, ℕ, suc, ◌<◌, Bool, true, false, cond, List, [], ◌∷◌, length, get_or, refl, sym, ap, ap₂, ◌∙◌, add-one, arith, Ordering, Less, Equal, Greater}
 use Rattle.std.specs.Prelude.{not, IsPermutation}
 use Rattle.std.specs.List.{sum_by}
@@ -19,7 +19,7 @@ over_each lt x [] h = refl
 over_each lt x (y ∷ ys) h =
     both (not (lt y x)) (over lt x ys) (ap not (h 0 y (omega arith))) (over_each lt x ys (λ k d less. h (suc k) d (omega arith)))
 
--- what a sort gives ascends
+-- a sorted list ascends
 pub ascends-sorted : {A : Type 0} (lt : A → A → Bool) → IsStrictWeakOrder lt → (xs : List A) → IsSortedBy lt xs
     → ascends lt xs ≡ true
 ascends-sorted lt o [] sorted = refl
@@ -30,7 +30,7 @@ ascends-sorted lt o (x ∷ xs) sorted =
     (over_each lt x xs (λ k d less. sorted_far lt o (x ∷ xs) sorted 0 (suc k) d (omega arith) (omega arith)))
     (ascends-sorted lt o xs tail)
 
--- the same members, each as often
+-- the same members, each equally often
 abbrev Same : {A : Type 0} → List A → List A → Type 0
 Same {A} xs ys = (f : A → ℕ) → sum_by f xs ≡ sum_by f ys
 

@@ -22,7 +22,7 @@ use Rattle.desk_sorted.proofs.Changing.{drop_at}
 use Rattle.desk_sorted.proofs.Searching.{drop_further}
 use Rattle.desk_base.proofs.Bools.{and_left, and_right, both, or_left, or_right, contrary, not_true}
 
--- rows that are turned to the end, and cut off there
+-- rows that are moved to the end, and cut off there
 pub turned_out : {A : Type 0} (xs : List A) (low high left : ℕ) → low ≤ high → high ≤ length xs → left + (high - low) ≡ length xs → take left (take low xs ++ (drop (high - low) (drop low xs) ++ take (high - low) (drop low xs))) ≡ take low xs ++ drop high xs
 turned_out xs low high left le within e =
     let front = take low xs in
@@ -46,7 +46,7 @@ pub rest_ascends : {R : Type 0} (below : R → R → Bool) (bs : List (Vec R Glo
 rest_ascends {R = R} below bs i d lt up =
     ascends_back below (get_or bs i d).items (rows_in (drop (i + 1) bs)) (ap (λ (l : List (Vec R Global)). ascends below (rows_in l)) (sym (drop_one bs i d lt)) ∙ up)
 
--- a block and those behind it
+-- a block and those after it
 pub parted : {R : Type 0} (bs : List (Vec R Global)) (at : ℕ) (b : Vec R Global) (back : List (Vec R Global)) → at < length bs → drop at bs ≡ b ∷ back → (b ≡ get_or bs at b) × (back ≡ drop (suc at) bs)
 parted bs at b back lt e =
     let both : b ∷ back ≡ get_or bs at b ∷ drop (suc at) bs = sym e ∙ drop_at bs at b lt in
@@ -73,7 +73,7 @@ pub find_any : {A : Type 0} (test : A → Bool) (xs : List A) → is_some (find 
 find_any test [] = refl
 find_any test (x ∷ xs) = elim (test x) as (λ b. is_some (cond b (Some x) (find test xs)) ≡ (b || list_any test xs)) [ true ↦ refl | false ↦ find_any test xs ]
 
--- the rows of one block more
+-- the rows of one more block
 
 pub filter_split : {R : Type 0} (test : R → Bool) (bs : List (Vec R Global)) (i : ℕ) (d : Vec R Global) → i < length bs → filter test (rows_in (drop i bs)) ≡ filter test (get_or bs i d).items ++ filter test (rows_in (drop (i + 1) bs))
 filter_split {R = R} test bs i d lt =
@@ -99,7 +99,7 @@ pub rows_put : {R : Type 0} (front middle back : List (Vec R Global)) → rows_i
 rows_put {R = R} front middle back =
     flat_map-append (λ (x : Vec R Global). x.items) front (middle ++ back) ∙ ap (λ l. rows_in front ++ l) (flat_map-append (λ (x : Vec R Global). x.items) middle back)
 
--- rows that are sought go where others were that are sought
+-- rows that are sought replace others that were sought
 
 sides_meet : (p o q : Ordering) → is_eq p ≡ true → is_eq q ≡ true → ordering_index p ≤ ordering_index o → ordering_index o ≤ ordering_index q → is_eq o ≡ true
 sides_meet Less o q e f a b = cc

@@ -1,4 +1,4 @@
--- The sides on which rows stand of what is sought.
+-- The sides of what is sought on which rows are.
 use Rattle.std.specs.Prelude.{◌≡◌, ℕ, ◌≤◌, ◌&&◌, ◌==◌, Bool, true, false, List, refl}
 use Rattle.std.specs.Ordering.{nat_cmp, is_lt, is_eq, on, ordering_index, ordering_reverse, ordering_then, then_cmp}
 use Rattle.std.specs.Cmp.{IsTotalOrder}
@@ -12,7 +12,7 @@ use Rattle.std.proofs.lemmas.Map.Text.{is_eq-slice_cmp}
 use Rattle.std.proofs.lemmas.Bool.Decides.{nat_tests}
 use Rattle.desk_sorted.specs.Sorted.{IsSideOf}
 
--- A side by what a key begins with
+-- A side by the beginning of a key
 
 not_less : (o : Ordering) → o ≡ Less → is_lt o ≡ false → ⊥
 not_less o e f = let t : is_lt o ≡ true = ap is_lt e in cc
@@ -39,7 +39,7 @@ pub side_by : {A K : Type 0} (order : A → A → Ordering) (key : A → K) (R :
 side_by order key R t begins k =
     λ x y h. sides_of R t (key x) (key y) k (R (key x) k) (R (key y) k) refl refl (untrue (is_lt (R (key y) (key x))) (is_lt (order y x)) (begins x y) h)
 
--- keys of a number and a text
+-- keys made of a number and a text
 abbrev pub number_cmp : ℕ × List ℕ → ℕ × List ℕ → Ordering
 number_cmp = then_cmp (on (λ p. p.0) nat_cmp) (on (λ p. p.1) (slice_cmp nat_cmp))
 
@@ -51,7 +51,7 @@ first_less Less p e = refl
 first_less Equal p e = cc
 first_less Greater p e = cc
 
--- The rows at a key are those on neither side of it
+-- The rows with a key are those on neither side of it
 
 pub texts_meet : (a b : List ℕ) → bytes_eq a b ≡ is_eq (slice_cmp nat_cmp a b)
 texts_meet a b = sym (is_eq-slice_cmp a b)
@@ -64,7 +64,7 @@ then_meets Less p a b e f = rw e refl
 then_meets Equal p a b e f = rw e f
 then_meets Greater p a b e f = rw e refl
 
--- Rows at one key stand on no side of each other
+-- Rows with the same key are on no side of each other
 
 equal_of : (o : Ordering) → is_eq o ≡ true → o ≡ Equal
 equal_of Less e = cc

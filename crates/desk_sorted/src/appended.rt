@@ -11,7 +11,7 @@ use crate::sorted::{Keyed, Run, Sought, reserve, run_near, run_of};
 use desk_model::Fault;
 use std::alloc::Global;
 
-/// Whether a row goes on behind rows that ascend.
+/// Whether a row may follow rows that ascend.
 fn goes_on<R: Keyed>(rows: &[R], row: &R) -> bool
     ensures { result ≡ true → ascends (below_by R.order) rows.now ≡ true
         → ascends (below_by R.order) (rows.now ++ row.now ∷ []) ≡ true }
@@ -28,7 +28,7 @@ fn first_of<'a, R: Keyed, K: Sought<R>>(rows: &'a [R], key: &K) -> Option<&'a R>
     rows.iter().find(|row| key.side_of(row).is_eq())
 }
 
-/// Rows in the order in which they came, which so far is that of their keys or isn't.
+/// Rows in the order in which they came, which so far is or isn't that of their keys.
 #[derive(Drop)]
 pub struct Appended<R: Keyed> {
     pub rows: Vec<R>,
@@ -52,8 +52,8 @@ impl<R: Keyed + Drop> Appended<R> {
         self.rows.len()
     }
 
-    /// Rows among which all stand that are sought: those alone, found by halving, where the rows
-    /// are in order.
+    /// Rows that include all that are sought: those alone, found by binary search, if the rows are
+    /// in order.
     pub fn among<K: Sought<R>>(&self, key: &K) -> &[R]
         ensures { filter (K.is_at key.now) result.now
             ≡ filter (K.is_at key.now) self.now.rows.items }
@@ -65,8 +65,8 @@ impl<R: Keyed + Drop> Appended<R> {
         &self.rows[run.start..run.end]
     }
 
-    /// A run in which all stand that are sought: of those alone, and found without halving where it
-    /// begins at a place, where the rows are in order.
+    /// A run that includes all rows that are sought: those alone, if the rows are in order, and
+    /// found without a search if the run begins at a place.
     pub fn run_near<K: Sought<R>>(&self, key: &K, place: usize) -> Run
         ensures ordered { result.start ≤ result.end }
         ensures within { result.end ≤ length self.now.rows.items }

@@ -1,5 +1,5 @@
-//! Rows in the order of their keys, cut into blocks: a row that is put in or taken out moves those
-//! of its block alone.
+//! Rows in the order of their keys, cut into blocks: when a row is put in or taken out, only those
+//! of its block are moved.
 
 ghost use Rattle.std.specs.Prelude.{◌≡◌, refl, ℕ, suc, Bool, true, false, not, ◌+◌, ◌^◌, ◌<◌, ◌≤◌, ◌++◌, [], ◌∷◌, filter, find, map, OnOk, OnErr, IfOk, IfErr, length, vec_len, ◌==◌, List, Vec, get_or, take, drop};
 ghost use Rattle.std.specs.Vec.{vec_capacity};
@@ -17,10 +17,10 @@ use crate::sorted::{Keyed, Run, Sought, put_row, put_rows, run_of};
 use std::alloc::{AllocError, Global};
 use std::cmp::Ordering;
 
-/// A block of so many rows is cut in two before another is put in.
+/// A block with this many rows is cut in two before another one is put in.
 const FULL: usize = 256;
 
-/// Whether all rows of a block stand before what is sought.
+/// Whether all rows of a block come before what is sought.
 fn ends_before<R: Keyed, K: Sought<R>>(block: &[R], key: &K) -> bool
     ensures { result ≡ ends_in (λ row. is_lt (K.side key.now row)) block.now }
 {
@@ -30,7 +30,7 @@ fn ends_before<R: Keyed, K: Sought<R>>(block: &[R], key: &K) -> bool
     }
 }
 
-/// Whether no row of a block stands behind what is sought.
+/// Whether no row of a block comes after what is sought.
 fn ends_by<R: Keyed, K: Sought<R>>(block: &[R], key: &K) -> bool
     ensures { result ≡ ends_in (λ row. is_le (K.side key.now row)) block.now }
 {
@@ -40,7 +40,7 @@ fn ends_by<R: Keyed, K: Sought<R>>(block: &[R], key: &K) -> bool
     }
 }
 
-/// Whether a row goes behind all rows of a block.
+/// Whether a row goes after all rows of a block.
 fn ends_under<R: Keyed>(block: &[R], row: &R) -> bool
     ensures { result ≡ ends_in (λ other. is_le (R.order other row.now)) block.now }
 {
@@ -59,7 +59,7 @@ fn first_block<R: Keyed, K: Sought<R>>(blocks: &[Vec<R>], key: &K) -> usize
     blocks.partition_point(|block| ends_before(block.as_slice(), key))
 }
 
-/// The first block that ends behind what is sought.
+/// The first block that ends after what is sought.
 fn last_block<R: Keyed, K: Sought<R>>(blocks: &[Vec<R>], key: &K) -> usize
     requires ascending { ascends (below_by R.order) (rows_in blocks.now) ≡ true }
     requires filled { are_filled blocks.now ≡ true }
@@ -68,7 +68,7 @@ fn last_block<R: Keyed, K: Sought<R>>(blocks: &[Vec<R>], key: &K) -> usize
     blocks.partition_point(|block| ends_by(block.as_slice(), key))
 }
 
-/// The blocks where the rows stand that are sought.
+/// The blocks that have the rows that are sought.
 fn blocks_of<R: Keyed, K: Sought<R>>(blocks: &[Vec<R>], key: &K) -> Run
     requires ascending { ascends (below_by R.order) (rows_in blocks.now) ≡ true }
     requires filled { are_filled blocks.now ≡ true }
@@ -113,7 +113,7 @@ pub fn run_in<'a, R: Keyed, K: Sought<R>>(block: &'a [R], key: &K) -> &'a [R]
     &block[run.start..run.end]
 }
 
-/// Turns so many rows from a place on to the end.
+/// Moves this many rows, from a place on, to the end.
 fn turn_out<R>(rows: &mut Vec<R>, start: usize, count: usize)
     requires within { start + count ≤ length rows.old.items }
     ensures items { rows.new.items ≡ take start rows.old.items ++
@@ -150,15 +150,15 @@ fn cut_each<R: Keyed + Drop, K: Sought<R>>(blocks: &mut [Vec<R>], key: &K)
     }
 }
 
-/// Whether a block has no rows.
+/// Whether some block has no rows.
 fn has_empty<R>(blocks: &[Vec<R>]) -> bool
     ensures { result ≡ list_any (λ block. length block.items == 0) blocks.now }
 {
     blocks.iter().any(|block| block.is_empty())
 }
 
-/// Cuts the rows that are sought out of the blocks where they stand. Whether one of these has no
-/// rows left.
+/// Cuts the rows that are sought out of the blocks that have them. Returns whether one of these has
+/// no rows left.
 fn cut_within<R: Keyed + Drop, K: Sought<R>>(blocks: &mut [Vec<R>], key: &K) -> bool
     requires ascending { ascends (below_by R.order) (rows_in blocks.old) ≡ true }
     requires filled { are_filled blocks.old ≡ true }
@@ -216,7 +216,7 @@ fn halve<R: Drop>(blocks: &mut Vec<Vec<R>>, at: usize) -> Result<(), AllocError>
 }
 
 /// Puts rows in place of those that are sought, into the block at a place, which has room for them.
-/// Whether a block that was changed has no rows left.
+/// Returns whether a block that was changed has no rows left.
 fn replace_within<R: Keyed + Drop, K: Sought<R>>(
     blocks: &mut [Vec<R>],
     at: usize,
@@ -300,7 +300,7 @@ fn join_last<R: Drop>(blocks: &mut Vec<Vec<R>>) -> Result<(), AllocError>
     }
 }
 
-/// Joins all blocks to one.
+/// Joins all blocks into one.
 fn join<R: Drop>(blocks: &mut Vec<Vec<R>>) -> Result<(), AllocError>
     requires some { 0 < vec_len blocks.old }
     requires filled { are_filled blocks.old.items ≡ true }
@@ -354,9 +354,9 @@ impl<R: Keyed> Sought<R> for NoRow {
 #[derive(Drop)]
 pub struct Blocks<R: Keyed> {
     alloc: Global,
-    /// Each but the first has a row.
+    /// Each of them but the first has a row.
     pub blocks: Vec<Vec<R>>,
-    /// Of the rows of all blocks.
+    /// The number of rows in all blocks.
     count: usize,
     pub ghost ascending: { ascends (below_by R.order) (rows_in blocks.items) ≡ true },
     pub ghost filled: { are_filled blocks.items ≡ true },
@@ -376,8 +376,8 @@ impl<R: Keyed + Drop> Blocks<R> {
         }
     }
 
-    /// The blocks where the rows stand that are sought: `run_in` finds them in each, so no memory
-    /// is taken for a list of them.
+    /// The blocks that have the rows that are sought: `run_in` finds them in each, so no list of
+    /// them is allocated.
     pub fn among<K: Sought<R>>(&self, key: &K) -> &[Vec<R>]
         ensures found { filter (K.is_at key.now) (rows_in result.now)
             ≡ filter (K.is_at key.now) (rows_in self.now.blocks.items) }
@@ -418,7 +418,7 @@ impl<R: Keyed + Drop> Blocks<R> {
         Ok(found)
     }
 
-    /// How many rows are sought. It takes no memory.
+    /// How many rows are sought. It allocates nothing.
     pub fn count_of<K: Sought<R>>(&self, key: &K) -> usize
         ensures { result ≡ length (filter (K.is_at key.now) (rows_in self.now.blocks.items)) }
     {
@@ -451,7 +451,7 @@ impl<R: Keyed + Drop> Blocks<R> {
         Ok(())
     }
 
-    /// The block into which a row goes, cut in two before where it is full.
+    /// The block into which a row goes, cut in two first if it is full.
     fn open(&mut self, row: &R) -> Result<usize, AllocError>
         requires { 0 < vec_len self.old.blocks }
         ensures rows { rows_in self.new.blocks.items ≡ rows_in self.old.blocks.items }
@@ -489,8 +489,8 @@ impl<R: Keyed + Drop> Blocks<R> {
         }
     }
 
-    /// Makes room for rows in place of those that are sought: all in one block, whose place is the
-    /// answer.
+    /// Makes room for rows in place of those that are sought: all in one block, whose place is
+    /// returned.
     pub fn make_room<K: Sought<R>>(&mut self, key: &K, more: &[R]) -> Result<usize, AllocError>
         ensures rows { rows_in self.new.blocks.items ≡ rows_in self.old.blocks.items }
         ensures room { IfOk result (λ at. HasRoom (below_by R.order) (λ row.
@@ -505,7 +505,7 @@ impl<R: Keyed + Drop> Blocks<R> {
         Ok(at)
     }
 
-    /// Puts rows in place of those that are sought, where there is room for them.
+    /// Puts rows in place of those that are sought. There is room for them.
     pub fn replace<K: Sought<R>>(&mut self, key: &K, at: usize, more: Vec<R>)
         requires { HasRoom (below_by R.order) (λ row.
             not (K.is_at key.now row)) more.items self.old.blocks.items at }
@@ -519,9 +519,9 @@ impl<R: Keyed + Drop> Blocks<R> {
         self.count = count;
     }
 
-    /// Makes room for rows beside those that are there: all in one block, whose place is the
-    /// answer. Where none of those is sought, and all that come are, it is the block into which
-    /// they go; else all blocks are joined.
+    /// Makes room for rows besides those that are there: all in one block, whose place is returned.
+    /// If none of those there is sought, and all new ones are, it is the block into which they go;
+    /// otherwise all blocks are joined.
     pub fn make_room_beside<K: Sought<R>>(
         &mut self,
         key: &K,
@@ -537,7 +537,7 @@ impl<R: Keyed + Drop> Blocks<R> {
         self.make_room(key, more)
     }
 
-    /// Puts rows in their places, where there is room for them.
+    /// Puts rows in their places. There is room for them.
     pub fn put_all(&mut self, at: usize, more: Vec<R>)
         requires { HasRoom (below_by R.order) (λ row. true) more.items self.old.blocks.items at }
         ensures { rows_in self.new.blocks.items

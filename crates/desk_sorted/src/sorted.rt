@@ -1,4 +1,4 @@
-//! Rows in the order of their keys, found by halving.
+//! Rows in the order of their keys, found by binary search.
 
 ghost use Rattle.std.specs.Prelude.{◌≡◌, ℕ, Bool, true, ◌+◌, ◌<◌, ◌≤◌, ◌++◌, [], ◌∷◌, filter, find, OnOk, OnErr, IfSome, IfErr, length, vec_len, slice_get, List, take, drop};
 ghost use Rattle.std.specs.Vec.{vec_capacity};
@@ -24,13 +24,13 @@ pub trait Keyed {
     ghost total: { IsTotalOrder order };
 }
 
-/// What rows are looked up by: their key, or what it begins with.
+/// What rows are looked up by: their key, or the beginning of it.
 pub trait Sought<R: Keyed> {
     ghost side: { Self → R → Ordering };
 
     ghost is_at: { Self → R → Bool };
 
-    /// On which side of what is sought a row stands.
+    /// On which side of what is sought a row is.
     fn side_of(&self, row: &R) -> Ordering
         ensures { result ≡ side self.now row.now };
 
@@ -67,7 +67,7 @@ fn begins_at<R: Keyed, K: Sought<R>>(rows: &[R], key: &K, place: usize) -> bool
     place == rows.len() || !key.side_of(&rows[place]).is_lt()
 }
 
-/// Up to where the rows from a place on aren't behind what is sought.
+/// The end of the rows from a place on that aren't after what is sought.
 fn end_from<R: Keyed, K: Sought<R>>(rows: &[R], key: &K, place: usize) -> usize
     requires { place ≤ length rows.now }
     ensures { IsEnd (K.side key.now) rows.now place result }
@@ -79,7 +79,7 @@ fn end_from<R: Keyed, K: Sought<R>>(rows: &[R], key: &K, place: usize) -> usize
     end
 }
 
-/// The run of the rows that are sought, without halving where it begins at a place.
+/// The run of the rows that are sought, found without a search if it begins at a place.
 pub fn run_near<R: Keyed, K: Sought<R>>(rows: &[R], key: &K, place: usize) -> Run
     requires { ascends (below_by R.order) rows.now ≡ true }
     ensures { IsRun (K.side key.now) rows.now result.start result.end }
@@ -92,7 +92,7 @@ pub fn run_near<R: Keyed, K: Sought<R>>(rows: &[R], key: &K, place: usize) -> Ru
     }
 }
 
-/// Where a row goes in.
+/// The place at which a row goes in.
 fn place_of<R: Keyed>(rows: &[R], row: &R) -> usize
     requires { ascends (below_by R.order) rows.now ≡ true }
     ensures { IsPlace (below_by R.order) row.now rows.now result }
@@ -107,7 +107,7 @@ fn climbs<R: Keyed>(rows: &[R]) -> bool
     rows.is_sorted_by(|row, next| row.compare(next).is_lt())
 }
 
-/// Where rows go in side by side, if they climb and all go to one place.
+/// The place at which rows go in side by side, if they climb and all go to one place.
 fn place_of_all<R: Keyed>(rows: &[R], more: &[R]) -> Option<usize>
     requires { ascends (below_by R.order) rows.now ≡ true }
     ensures within { IfSome result (λ place. place ≤ length rows.now) }
@@ -249,7 +249,8 @@ impl<R: Keyed + Drop> Sorted<R> {
         put_row(&mut self.rows, row);
     }
 
-    /// Puts rows in their places, one after another: alike ones stay in their order. There is room.
+    /// Puts rows in their places, one after another: rows with equal keys stay in their order.
+    /// There is room.
     pub fn put_in_turn(&mut self, more: Vec<R>)
         requires { vec_len self.old.rows + vec_len more ≤ vec_capacity self.old.rows }
         ensures { self.new.rows.items

@@ -1,4 +1,4 @@
--- A text that only asks leaves every database as it is.
+-- A text that only reads leaves every database as it is.
 use Rattle.std.proofs.Common.{◌≡◌, ◌⊎◌, inl, inr, ℕ, ◌+◌, Bool, true, false, List, IsTrue, Option, Some, None, Ok, Err, refl, sym, ap, subst, ◌∙◌}
 use Rattle.std.specs.Prelude.{IsSome}
 use Rattle.sqlite_value.specs.Order.{Row}

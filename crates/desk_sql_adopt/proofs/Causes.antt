@@ -1,4 +1,4 @@
--- That reading fails only with a cause.
+-- Reading fails only for a cause.
 use Rattle.std.proofs.Common.{IfErr, Ok, Err, Result}
 use Rattle.std.proofs.lemmas.Result.{IfErr-weaker}
 use Rattle.sqlite.specs.State.{State, HasCleanDisk}
@@ -14,7 +14,7 @@ pub read_clean : {A : Type 0} (old new : State) (r : Result A Fault) → HasRead
 read_clean old new (Ok x) it = clean_before old new (λ _. ⊥) it.0.survives
 read_clean old new (Err e) it = clean_before old new (λ _. ⊥) it.survives
 
--- what a cause rests on is so where something else is
+-- what a cause relies on is true if something else is
 pub cause_weaker : (P Q : Tables → Type 0) (old new : State) {A : Type 0} (r : Result A Fault) → (HasCleanDisk new → (t : Tables) → (seen_of old).holds t → AreWritten t → P t → Q t) → IfErr r (HasCauseIf Q old new)
     → IfErr r (HasCauseIf P old new)
 cause_weaker P Q old new r so =

@@ -35,13 +35,13 @@ use Rattle.desk_sql_adopt.proofs.Spared.{clean_before, of_shown}
 
 -- ---- rows that are read
 
--- the query failed, and `?` hands its fault on
+-- the query failed, and `?` returns its fault
 pub fails_to_find : {S A : Type 0} (g : Ghosts S) (old new : Held S) (r : Result A Fault) (Is : A → Tables → Type 0) (fault : Fault) → IsErrAnd r (λ e. e ≡ fault) → IsSpared (state g old) (state g new)
     → HasCause (state g old) (state g new) fault → new.in_transaction ≡ false → Finds g old new r Is
 fails_to_find g old new (Ok x) Is fault is spared cause mode = absurd is
 fails_to_find g old new (Err e) Is fault is spared cause mode = record { found = tt; read = spared; cause = rw is cause; mode = mode }
 
--- what is told of what was read, or that it couldn't be read
+-- a connection that stayed as it was has been read, whatever the result is
 as_read : {A : Type 0} (old new : State) (r : Result A Fault) → HasStayed old new → HasRead old new r
 as_read old new (Ok x) it = it
 as_read old new (Err e) it = it.0

@@ -1,4 +1,4 @@
--- What the database answers where it is asked for all releases, and for all duties.
+-- What the database answers when it is asked for all releases, and for all duties.
 use Rattle.std.proofs.Common.{◌≡◌, ℕ, true, List, [], ◌∷◌, codes, None, Ok, refl}
 use Rattle.sqlite_sql.specs.Term.{col}
 use Rattle.sqlite_schema.specs.declared.schema.Schema.{Schema}

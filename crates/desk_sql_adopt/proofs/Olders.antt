@@ -1,4 +1,4 @@
--- What a database is to a migration, and what one that holds a desk's tables in an older version tells.
+-- What a database is to a migration, and which version it gives if it holds a desk's tables in an older one.
 use Rattle.std.proofs.Common.{◌≡◌, ◌≢◌, ℕ, ℤ, pos, negsuc, Bool, true, false, List, [], ◌∷◌, map, length, codes, Option, Some, None, inr, refl, sym, ap, subst, subst₂, ◌∙◌, arith, IfSome, IfNone, IsPermutation}
 use Rattle.std.specs.Prelude.{◌==◌}
 use Rattle.std.specs.List.{AllByRecursion}
@@ -34,7 +34,7 @@ unfolding same_name
 older_has_version One = refl
 older_has_version Two = refl
 
--- ---- what is told
+-- ---- which version is given
 
 abbrev Asked : Schema → Type 0
 Asked schema =
@@ -85,7 +85,7 @@ declared_as schema (Some One) has lacks Two same = absurd (differ (sym has ∙ s
 declared_as schema (Some Two) has lacks One same = absurd (differ (sym same ∙ has))
 
 module _ (s : State) (declared : Option OlderVersion) (some : IfSome declared (λ version. s.now.schema ≡ older_schema version)) (none : IfNone declared ((version : OlderVersion) → s.now.schema ≢ older_schema version)) (content : OlderContent) where
-  -- the version that is told, where it is an older one
+  -- the version that is given, if it is an older one
   numbered : (version : OlderVersion) → (declared ≡ Some version → content ≡ Older version) → (declared ≢ Some version → content ≡ Other) → TellsVersion (Some (pos (version_number version))) s → IsOlderContent s content
   numbered version older bare tells = go declared refl some none version older bare tells
     where

@@ -1,4 +1,4 @@
--- What the library makes of the text of a query by any schema.
+-- What the library makes of the text of a query for any schema.
 use Rattle.std.proofs.Common.{◌≡◌, ℕ, List, None, Ok}
 use Rattle.sqlite_value.specs.declared.keys.Key.{Key}
 use Rattle.sqlite_sql.specs.Term.{Term}
@@ -9,7 +9,7 @@ use Rattle.desk_sql_lookup.proofs.Selecting.{IsSelect}
 use Rattle.desk_sql_adopt.specs.Reading.{Asks}
 use Rattle.desk_sql_adopt.proofs.Asking.{asks}
 
--- this query of a table, by the desk's schema, which by no schema changes anything
+-- this query of a table for the desk's schema, which changes nothing for any schema
 pub record IsBareSelect (text : List ℕ) (parameters tree : ℕ) (tests project : List Term) (by : List (Term × Key))
     (names : List (List ℕ)) : Type 0 where
   pub bare : (schema : Schema) (base : ℕ) → and_then (first text) (λ p. returning schema base p.statement) ≡ Ok None

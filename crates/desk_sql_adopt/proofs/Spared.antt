@@ -1,4 +1,4 @@
--- What is seen of a connection that was only read.
+-- What contracts see of a connection that was only read.
 use Rattle.std.proofs.Common.{◌⊎◌, inl, inr, ℕ, List, Ok, Err, Result, sym, subst, ◌∙◌, arith}
 use Rattle.std.specs.Result.{IsErr}
 use Rattle.sqlite_trees.specs.Tree.{Trees}
@@ -35,7 +35,7 @@ pub looked : {A : Type 0} (old new : State) (r : Result A Fault) → HasRead old
 looked old new (Ok x) it = record { kept = kept old new it.0; stays = it.1 }
 looked old new (Err e) it = kept old new it
 
--- a fault that is passed on
+-- a fault that is returned
 pub err_read : {A : Type 0} (old new : State) (r : Result A Fault) → IsErr r → IsSpared old new → HasRead old new r
 err_read old new (Ok x) is it = absurd (cc)
 err_read old new (Err e) is it = it
@@ -50,7 +50,7 @@ spared_then a b c p q =
       committed = λ clean is. q.committed clean is ∙ p.committed (before clean) (q.was_open clean is);
     }
 
--- what a query showed is so of the tables that were held
+-- what a query showed is true of the tables that were held
 pub of_shown : (sql : List ℕ) (params : Row) (old new : State) → Asks sql → (rows : List Row) (Is : Tables → Type 0) → IsSpared old new → (HasCleanDisk new → Shown sql params old new rows)
     → ((t : Tables) → Shown sql params old new rows → Holds t old.now → Is t) → OfRows Is (seen_of old) (seen_of new)
 of_shown sql params old new bare rows Is spared shown right = λ clean t holds.

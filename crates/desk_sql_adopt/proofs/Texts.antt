@@ -1,4 +1,4 @@
--- What the database answers where it is asked for its version, for how many rows there are, and for a body.
+-- What the database answers when it is asked for its version, for how many rows there are, and for a body.
 use Rattle.std.proofs.Common.{◌≡◌, ℕ, true, List, [], ◌∷◌, codes, length, None, Ok, refl}
 use Rattle.sqlite_value.specs.Order.{Row, column}
 use Rattle.sqlite_sql.specs.Term.{col}

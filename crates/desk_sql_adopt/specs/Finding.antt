@@ -1,4 +1,4 @@
--- What a query of a desk's tables finds, asked of a database that may be none of a desk's.
+-- What a query of a desk's tables finds in a database that may not be a desk's.
 use Rattle.std.specs.Prelude.{◌≡◌, ◌<◌, ◌^◌, ℕ, false, IfErr, IfOk, Result}
 use Rattle.sqlite_trees.specs.declared.store.Store.{Ghosts}
 use Rattle.sqlite.specs.Held.{Held, state}
@@ -11,14 +11,14 @@ use Rattle.desk_sql_adopt.specs.Reading.{HasRead}
 
 -- A query over a connection. `Is` says what was found of the tables, and `Given` what its caller says of them.
 pub record FindsGiven {S A : Type 0} (g : Ghosts S) (Given : Tables → Type 0) (old new : Held S) (result : Result A Fault) (Is : A → Tables → Type 0) : Type 0 where
-  -- what was found is so of each tables that the database holds
+  -- what was found is true of whatever tables the database holds
   pub found : IfOk result (λ x. OfRows (Is x) (seen_of (state g old)) (seen_of (state g new)))
   pub read : HasRead (state g old) (state g new) result
   pub cause : IfErr result (HasCauseIf Given (state g old) (state g new))
   -- no transaction is open after it
   pub mode : new.in_transaction ≡ false
 
--- a query that rests on nothing but the rows
+-- a query that relies on nothing but the rows
 abbrev pub Finds : {S A : Type 0} → Ghosts S → Held S → Held S → Result A Fault → (A → Tables → Type 0) → Type 0
 Finds g = FindsGiven g (λ t. Unit {0})
 

@@ -9,7 +9,7 @@ use Rattle.sqlite.specs.Listing.{understood, reads_listing, IsSourceOf}
 use Rattle.sqlite.specs.State.{State, HasCleanDisk, IsStatement, Survives}
 use Rattle.desk_model.specs.declared.command.Fault.{Fault}
 
--- in no database does the text write
+-- the text writes in no database
 abbrev pub Asks : List ℕ → Type 0
 Asks sql = (schema : Schema) (c : Compiled) → understood schema sql ≡ Ok c → c.returning ≡ None
 
@@ -20,7 +20,7 @@ pub record IsSpared (old new : State) : Type 0 where
   pub now : HasCleanDisk new → IsTrue new.is_open → new.now ≡ old.now
   pub committed : HasCleanDisk new → IsTrue new.is_open → new.committed ≡ old.committed
 
--- and the connection is as open as it was
+-- and the connection is still open if it was open
 abbrev pub HasStayed : State → State → Type 0
 HasStayed old new = IsSpared old new × (HasCleanDisk new → IsTrue old.is_open → IsTrue new.is_open)
 
@@ -28,7 +28,7 @@ abbrev pub HasRead : {A : Type 0} → State → State → Result A Fault → Typ
 HasRead old new (Ok x) = HasStayed old new
 HasRead old new (Err fault) = IsSpared old new
 
--- the database answers a text that only asks with these rows
+-- the database answers a text that only reads with these rows
 abbrev pub Answers : List ℕ → Row → State → List Row → Type 0
 Answers sql params s rows =
     (c : Compiled) × (it : IsStatement s sql params c) × (c.returning ≡ None) × (db : Database) × IsSourceOf (reads_listing s.now.schema sql) s.now db × Reads c.command db (timed params c.formats it.now) rows

@@ -13,6 +13,6 @@ is_revision n row = row.revision == n
 abbrev pub body_of : Tables → ℕ → Option (List ℕ)
 body_of t n = option_map (λ row. row.body) (find (is_revision n) t.catalogue)
 
--- the database answers so many rows
+-- the query shows this many rows
 abbrev pub ShowsCount : List ℕ → ℕ → State → State → Type 0
 ShowsCount sql count old new = (rows : List Row) × Shown sql [] old new rows × (length rows ≡ count)

@@ -1,4 +1,4 @@
--- The version that a database tells of its tables, and what it is taken for.
+-- The version that a database gives for its tables, and what it is taken for.
 use Rattle.std.specs.Prelude.{◌≡◌, ◌≢◌, ◌⊎◌, ℕ, ℤ, pos, Bool, true, false, ◌&&◌, List, [], ◌∷◌, codes, Option, Some, None}
 use Rattle.std.specs.List.{list_any}
 use Rattle.sqlite_value.specs.declared.value.Value.{Value}
@@ -32,20 +32,21 @@ abbrev pub version_in : List Row → Option ℤ
 version_in (row ∷ []) = whole_number (column row 0)
 version_in _ = None
 
--- the version, if there is just one and it is a whole number, is what the database answers when it is asked
+-- the database answers with this version when it is asked, or with no single whole number if there is no
+-- version
 abbrev pub TellsVersion : Option ℤ → State → Type 0
 TellsVersion version s = (rows : List Row) × Answers version_text [] s rows × (version_in rows ≡ version)
 
--- it is what a query for it shows
+-- the same for what a query for the version shows
 abbrev pub ShowsVersion : Option ℤ → State → State → Type 0
 ShowsVersion version old new = (rows : List Row) × Shown version_text [] old new rows × (version_in rows ≡ version)
 
--- no other version is told
+-- no other version is given
 abbrev pub TellsNoOther : State → Type 0
 TellsNoOther s = TellsVersion (Some (pos 3)) s ⊎ TellsVersion None s
 
--- What a database is taken for: a desk by its schema, where it tells no other version; a file of another version by that alone; else
--- something other.
+-- What a database is taken for: a desk by its schema, if it gives no other version; a database of another
+-- version by that alone; and else something else.
 abbrev pub IsContent : State → Content → Type 0
 IsContent s Desk = TellsNoOther s × (s.now.schema ≡ desk_schema)
 IsContent s (OtherVersion n) = TellsVersion (Some n) s × (n ≢ pos 3) × (has_version s.now.schema ≡ true)

@@ -21,7 +21,7 @@ fn has_indexes(schema: &Schema) -> bool
 }
 
 /// Whether a schema is that of a desk: its tables as they are declared, with the indexes of their
-/// keys, and nothing beside them.
+/// keys, and nothing else.
 pub fn is_declared(schema: &Schema) -> bool
     ensures { Decides result (schema.now ≡ desk_schema) }
 {

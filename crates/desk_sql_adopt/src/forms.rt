@@ -1,4 +1,4 @@
-//! How the desk's tables are declared, in few words.
+//! How the desk's tables are declared, in short form.
 
 use crate::forms::ColumnForm::{NotNull, Nullable};
 use sqlite_schema::schema::Kind;
@@ -9,8 +9,8 @@ pub(crate) enum ColumnForm {
     Nullable(&'static str, Kind),
 }
 
-/// A table of such columns: the place of the one that is its rowid, and where in a row, whose place
-/// 0 is the rowid, its primary key and each key that it keeps unique stand.
+/// A table of such columns: the place of the one that is its rowid, and the places in a row of its
+/// primary key and of each key that it keeps unique. Place 0 of a row is the rowid.
 pub(crate) struct TableForm {
     pub(crate) name: &'static str,
     pub(crate) tree: u32,

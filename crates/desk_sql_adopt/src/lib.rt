@@ -1,22 +1,22 @@
 //! A database that is adopted as a desk: whether it holds a desk's tables, and what a store keeps
 //! beside them.
 //!
-//! `examine` tells what a database holds: the tables of a desk, those of another version, or
-//! something other. It asks the table `meta` for its version, and compares the schema that the
+//! `examine` reports what a database holds: the tables of a desk, those of another version, or
+//! something else. It asks the table `meta` for its version, and compares the schema that the
 //! connection shows with the desk's, field by field (`is_declared`): each table with its columns
-//! and keys, the indexes of the keys, and nothing beside them. The database may have any schema,
-//! and its clause tells the version as what it answers when it is asked (`specs/Version.antt`).
+//! and keys, the indexes of the keys, and nothing else. The database may have any schema, and in
+//! the contract its version is what it answers when it is asked (`specs/Version.antt`).
 //!
 //! `examine_older` does the same for a migration: whether a database holds the tables of version 1
 //! or 2 (`specs/Older.antt`).
 //!
-//! The rest is asked of a desk's tables: how many revisions, documents, releases and duties there
-//! are, the body of a revision, and the releases and duties themselves. What is told is so of each
-//! tables that the database holds (`found`, `specs/Finding.antt`).
+//! The rest is found in a desk's tables: how many revisions, documents, releases and duties there
+//! are, the body of a revision, and the releases and duties themselves. What is found is true of
+//! whatever tables the database holds (`found`, `specs/Finding.antt`).
 //!
-//! Each statement only asks, whatever the schema of the database is (`Asks`): the connection shows
-//! what it showed as far as it still shows anything, a stop leaves nothing that it couldn't leave
-//! before, and only after a fault may the connection be shut (`read`, `specs/Reading.antt`).
+//! Each statement only reads, whatever the schema of the database is (`Asks`): the connection shows
+//! what it showed, as far as it still shows anything, a stop leaves nothing that it couldn't leave
+//! before, and only after a fault may the connection be closed (`read`, `specs/Reading.antt`).
 #![tactic(auto)]
 
 mod catalogue;

@@ -1,4 +1,4 @@
-//! Whether what a schema has is as a form says.
+//! Whether what a schema has is as a form declares it.
 
 ghost use Rattle.std.specs.Prelude.{◌≡◌, ◌==◌, true, List, map};
 ghost use Rattle.std.specs.Bool.{Decides};
@@ -95,7 +95,7 @@ impl Form for &'static [usize] {
 }
 
 #[tactic(auto, using(crate::proofs::Turns::plain_alike))]
-/// Whether each key is of so many, in the order of its columns.
+/// Whether each of these keys is in the order of its columns.
 fn are_plain(orders: &[Order], keys: &[&'static [usize]]) -> bool
     ensures { Decides result (orders.now ≡ plain_orders keys.now) }
 {

@@ -1,4 +1,4 @@
-//! Databases of the versions before this one.
+//! Databases of older versions.
 
 ghost use Rattle.std.specs.Prelude.{◌≡◌, ◌≢◌, ℤ, pos, false, Some, None, IfErr, IfOk, IfSome, IfNone, IsTrue, take};
 ghost use Rattle.std.specs.Bool.{Decides};
@@ -17,7 +17,7 @@ use desk_model::Fault;
 use sqlite::{Alter, Connection};
 use sqlite_schema::schema::Schema;
 
-/// A version of a desk's tables before this one.
+/// An older version of a desk's tables.
 #[derive(Clone, Copy, Drop, PartialEq, Eq)]
 pub enum OlderVersion {
     /// Version 1: neither profiles of documents nor last days of waivers.
@@ -43,11 +43,11 @@ impl OlderVersion {
 pub enum OlderContent {
     /// The tables of an older version.
     Older(OlderVersion),
-    /// A table `meta` that tells no one version.
+    /// A table `meta` that gives no single version.
     Untold,
-    /// A table `meta` that tells another version.
+    /// A table `meta` that gives another version.
     OtherVersion(i64),
-    /// Something other, or not all tables of the version that `meta` tells.
+    /// Something else, or not exactly the tables of the version that `meta` gives.
     Other,
 }
 
@@ -70,14 +70,14 @@ fn has_older_indexes(schema: &Schema) -> bool
     are(schema.indexes.as_slice(), &INDEXES[..13])
 }
 
-/// Whether a schema has the tables of version 1, and nothing beside them.
+/// Whether a schema has the tables of version 1, and nothing else.
 fn is_first(schema: &Schema) -> bool
     ensures { Decides result (schema.now ≡ older_schema OlderVersion.One) }
 {
     has_first_tables(schema) && has_older_indexes(schema) && schema.views.is_empty()
 }
 
-/// Whether a schema has the tables of version 2, and nothing beside them.
+/// Whether a schema has the tables of version 2, and nothing else.
 fn is_second(schema: &Schema) -> bool
     ensures { Decides result (schema.now ≡ older_schema OlderVersion.Two) }
 {
@@ -112,7 +112,7 @@ fn older_version(number: i64) -> Option<OlderVersion>
     }
 }
 
-/// What a database is by the version that it tells, and the older version whose tables it has.
+/// What a database is, by the version that it gives and the older version whose tables it has.
 fn content_by(told: Option<i64>, declared: Option<OlderVersion>) -> OlderContent
     ensures untold { told ≡ None → result ≡ OlderContent.Untold }
     ensures older { (version : OlderVersion) → told ≡ Some (pos (version_number version))
@@ -132,7 +132,7 @@ fn content_by(told: Option<i64>, declared: Option<OlderVersion>) -> OlderContent
     }
 }
 
-/// What a database is to a migration, by the version that it tells and by its schema. It is only
+/// What a database is to a migration, by the version that it gives and by its schema. It is only
 /// read.
 pub fn examine_older<S: Alter>(conn: &mut Connection<S>) -> Result<OlderContent, Fault>
     requires { conn.old.in_transaction ≡ false }

@@ -1,4 +1,4 @@
-//! A query of a database that may be none of a desk's.
+//! A query of a database that may not be a desk's.
 
 ghost use Rattle.std.specs.Prelude.{◌≡◌, false, IfErr, IfOk};
 ghost use Rattle.sqlite.specs.Held.{state};

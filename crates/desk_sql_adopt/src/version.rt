@@ -1,4 +1,4 @@
-//! The version that a database tells of its tables.
+//! The version that a database gives for its tables.
 
 ghost use Rattle.std.specs.Prelude.{◌≡◌, ◌≢◌, ℤ, pos, codes, true, false, Some, None, IfErr, IfOk, IsTrue};
 ghost use Rattle.std.specs.List.{list_any};
@@ -26,11 +26,11 @@ const VERSION: i64 = 3;
 /// What a database holds.
 #[derive(Clone, Copy, Drop, PartialEq, Eq)]
 pub enum Content {
-    /// The tables of a desk, which tell no other version.
+    /// The tables of a desk, which give no other version.
     Desk,
-    /// A table `meta` that tells another version.
+    /// A table `meta` that gives another version.
     OtherVersion(i64),
-    /// Something other.
+    /// Something else.
     Other,
 }
 
@@ -48,7 +48,7 @@ fn is_meta(table: &Table) -> bool
         && has_version_column(table.columns.as_slice())
 }
 
-/// Whether a table `meta` stands, with the column `version`.
+/// Whether there is a table `meta` with the column `version`.
 pub(crate) fn has_version(schema: &Schema) -> bool
     ensures { result ≡ has_version schema.now }
 {
@@ -64,7 +64,7 @@ fn whole_number(row: &Row) -> Option<i64>
     }
 }
 
-/// The number in the one row, if there is no other row and no other value.
+/// The whole number in the only row. None if there are more rows, or there is another value.
 fn version_in(rows: &[Row]) -> Option<i64>
     ensures { result ≡ version_in rows.now }
 {
@@ -74,7 +74,7 @@ fn version_in(rows: &[Row]) -> Option<i64>
     }
 }
 
-/// The version that the table `meta` tells: the whole number in its only row.
+/// The version that the table `meta` gives: the whole number in its only row.
 pub(crate) fn version<S: Alter>(conn: &mut Connection<S>) -> Result<Option<i64>, Fault>
     requires { conn.old.in_transaction ≡ false }
     ensures told { HasCleanDisk (state S.Store conn.new)
@@ -93,7 +93,7 @@ pub(crate) fn version<S: Alter>(conn: &mut Connection<S>) -> Result<Option<i64>,
     Ok(version_in(&rows))
 }
 
-/// What a database is taken for by its version and whether its schema is that of a desk.
+/// What a database is taken for, by its version and by whether its schema is that of a desk.
 fn content_by(version: Option<i64>, is_declared: bool) -> Content
     ensures desk { version ≡ Some (pos 3) → is_declared ≡ true → result ≡ Content.Desk }
     ensures undeclared { version ≡ Some (pos 3) → is_declared ≡ false → result ≡ Content.Other }
@@ -108,11 +108,11 @@ fn content_by(version: Option<i64>, is_declared: bool) -> Content
     }
 }
 
-/// What a database holds, by the version that it tells and by its schema. It is only read.
+/// What a database holds, by the version that it gives and by its schema. It is only read.
 ///
-/// A database that shows a desk's tables, and whose table `meta` tells no other version, is a desk:
-/// whether `meta` has just one row is for an audit to say. A table, an index or a view more, or one
-/// that is declared otherwise, makes it `Other`.
+/// A database that shows a desk's tables, and whose table `meta` gives no other version, is a desk:
+/// whether `meta` has just one row is for an audit to say. One more table, index or view, or one
+/// that is declared differently, makes it `Other`.
 pub fn examine<S: Alter>(conn: &mut Connection<S>) -> Result<Content, Fault>
     requires { conn.old.in_transaction ≡ false }
     ensures found { HasCleanDisk (state S.Store conn.new)

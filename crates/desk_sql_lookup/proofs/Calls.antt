@@ -1,4 +1,4 @@
--- What a query does to what is seen of a connection.
+-- What a query does to what contracts see of a connection.
 use Rattle.std.proofs.Common.{◌≡◌, ◌⊎◌, inl, inr, ℕ, List, IsTrue, Option, Some, None, sym, subst, ◌∙◌, ap, arith}
 use Rattle.sqlite_trees.specs.Tree.{Trees}
 use Rattle.sqlite_value.specs.Order.{Row}
@@ -48,7 +48,7 @@ module _ (sql : List ℕ) (params : Row) (old new : State) where
       let bare = subst IsPlain (sym known) plain in
       let it = subst (ShowsRows old new sql h.0 (timed params h.0.formats h.1.now) rows) bare.0 h.2 in it.3
 
-  -- a query whose rows are to come left all as it was, or is none
+  -- a query that begins left everything as it was, or showed its rows
   abbrev pub Begins : Type 0
   Begins = IsUnchanged old new ⊎ ((rows : List Row) × Shown sql params old new rows)
 

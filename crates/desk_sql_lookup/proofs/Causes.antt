@@ -1,4 +1,4 @@
--- That a look-up fails only with a cause.
+-- A look-up fails only for a cause.
 use Rattle.std.proofs.Common.{◌≡◌, ◌≤◌, ◌⊎◌, inl, inr, ℕ, Bool, true, false, nat_le, List, [], ◌∷◌, length, map, filter, IfErr, None, Ok, Err, Result, IsTrue, append-nil, refl, sym, subst, ◌∙◌, ap, arith}
 use Rattle.std.specs.List.{AllByRecursion}
 use Rattle.std.specs.Result.{IsErrAnd}
@@ -29,7 +29,7 @@ use Rattle.desk_sql_layout.specs.Layout.{desk_schema}
 use Rattle.desk_sql_layout.proofs.Queries.{query_on}
 use Rattle.desk_sql_lookup.specs.Causes.{AreWritten, HasCauseIf, HasCause, IsAsked, IsRow}
 
--- ---- what a query is refused for
+-- ---- why a query is refused
 
 -- the statement is whole, and has this many parameters
 abbrev pub Suits : List ℕ → ℕ → Result Compiled CompileError → Type 0
@@ -119,7 +119,7 @@ failed_cause sql params old new P survives asked e fails = record {
 
 -- ---- what is read of rows
 
--- the rows that a query showed of some rows of a table are such as a desk writes
+-- what a query shows of some rows of a table is as a desk writes it
 pub filter_written : {X : Type 0} (full part : X → Row) → ((x : X) → IsRow (full x) → IsRow (part x)) → (p : X → Bool) (xs : List X) → AllByRecursion IsRow (map full xs) → AllByRecursion IsRow (map part (filter p xs))
 filter_written full part keeps p [] all = tt
 filter_written {X} full part keeps p (x ∷ xs) all = go (filter_written full part keeps p xs all.1) (p x) refl
@@ -150,7 +150,7 @@ module _ (Is : Tables → Type 0) (old new : State) {A : Type 0} (r : Result A F
   read_cause P right = IfErr-weaker r P (HasCauseIf Is old new) (λ fault told. record { cause = λ clean opened unlimited t holds written is. inl (right clean t holds written is fault told) })
 
 module _ (Is : Tables → Type 0) (a b c : State) (same : Same (seen_of a) (seen_of b)) (limit : b.step_limit ≡ a.step_limit) (honest : HasCleanDisk c → HasCleanDisk b) where
-  -- a call after another failed
+  -- a call after another one failed
   pub cause_after : (fault : Fault) → HasCauseIf Is b c fault → HasCauseIf Is a c fault
   cause_after fault has = record {
     cause = λ clean opened unlimited t holds written is.
@@ -169,7 +169,7 @@ memory_cause Is old new fault is = record { cause = λ clean opened unlimited t 
 pub never_cause : (Is : Tables → Type 0) (old new : State) {A : Type 0} (r : Result A Fault) (P : Type 0) → (HasCleanDisk new → (t : Tables) → (seen_of old).holds t → Is t → P) → IfErr r (λ fault. ¬ P) → IfErr r (HasCauseIf Is old new)
 never_cause Is old new r P is = IfErr-weaker r (λ fault. ¬ P) (HasCauseIf Is old new) (λ fault never. record { cause = λ clean opened unlimited t holds written so. absurd (never (is clean t holds so)) })
 
--- a call failed, and `?` hands its fault on
+-- a call failed, and `?` returns its fault
 pub err_cause : (Is : Tables → Type 0) (old new : State) {A : Type 0} (r : Result A Fault) (fault : Fault) → IsErrAnd r (λ e. e ≡ fault) → HasCauseIf Is old new fault → IfErr r (HasCauseIf Is old new)
 err_cause Is old new (Ok x) fault is has = absurd is
 err_cause Is old new (Err e) fault is has = rw is has

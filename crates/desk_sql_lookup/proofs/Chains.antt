@@ -16,11 +16,11 @@ module _ (a b c : Seen Trees) (first : Same a b) where
   pub same_then_same : Same b c → Same a c
   same_then_same s = record { kept = same_then_kept s.kept; stays = λ clean is. s.stays clean (first.stays (s.kept.spared.honest clean) is) }
 
-  -- what is so of the rows after the first call is so of those before it
+  -- what is true of the rows after the first call is true of those before it
   pub of_rows_after : (Is : Tables → Type 0) → OfRows Is b c → OfRows Is a c
   of_rows_after Is right = λ clean t h. right clean t (first.kept.spared.holds t h)
 
-  -- what a first call told stays so
+  -- what a first call found stays true
   pub of_rows_still : (Is : Tables → Type 0) → OfRows Is a b → Kept b c → OfRows Is a c
   of_rows_still Is right k = λ clean t h. right (k.spared.honest clean) t h
 

@@ -87,7 +87,7 @@ changes_of_finds duty =
     (0 ∷ 1 ∷ []) (0 ∷ 1 ∷ 2 ∷ 3 ∷ 4 ∷ []) (λ r. refl) (λ r. refl) (is_change_of duty) (λ x. number_test x.duty duty)
     change_apart in_order
 
--- no two of them have one step
+-- no two of them have the same step
 pub changes_of_apart : (duty : ℕ) → Finds changes_of_text (number duty ∷ []) (λ t rows.
     IsAscending (λ (a : ChangeRow) (b : ChangeRow). is_eq (key_cmp 0 (keys (1 ∷ 2 ∷ []))
     (number a.duty ∷ number a.step ∷ []) (number b.duty ∷ number b.step ∷ [])) ≡ false)

@@ -80,7 +80,7 @@ states_of_finds release =
     (0 ∷ []) (0 ∷ 7 ∷ []) (λ r. refl) (λ r. refl) (is_duty_of release) (λ x. last_text_test x.release release)
     duty_apart in_order
 
--- ---- the duties that stand in a state
+-- ---- the duties in a state
 
 abbrev pub duties_at_text : List ℕ
 duties_at_text = codes "SELECT number, release, document, package, term, code, rule, state FROM duty WHERE state = ?1 ORDER BY number"

@@ -45,7 +45,7 @@ shown_is (x ∷ xs) = go (shown_is xs) x.last_day refl
 pub waivers_shown : (p q : ChangeRow → Bool) (rows : List Row) (changes : List ChangeRow) → filter p changes ≡ filter q changes → rows ≡ map shown (filter p (filter is_waiver changes)) → rows ≡ map ending_cells (waivers_in (filter q changes))
 waivers_shown p q rows changes same is = is ∙ ap (map shown) (filters_swap p is_waiver changes ∙ ap (filter is_waiver) same) ∙ shown_is (filter q changes)
 
--- the changes of one duty with no two at one key are steps
+-- if no two changes of a duty have the same key, no two have the same step
 pub are_steps : (duty : ℕ) (changes : List ChangeRow)
     → IsAscending (λ (a : ChangeRow) (b : ChangeRow). is_eq (key_cmp 0 (keys (1 ∷ 2 ∷ [])) (number a.duty ∷ number a.step ∷ []) (number b.duty ∷ number b.step ∷ [])) ≡ false) (filter (is_change_of duty) changes)
     → AreSteps (filter (is_change_of duty) changes)
@@ -67,7 +67,7 @@ are_steps duty changes apart = ascending_among _ _ (filter (is_change_of duty) c
             subst (λ k. is_eq (key_cmp 0 (keys (1 ∷ 2 ∷ [])) k (number b.duty ∷ number b.step ∷ [])) ≡ true) (sym same) (ap is_eq (tied_itself (key_cmp_total (keys (1 ∷ 2 ∷ [])) 0) (number b.duty ∷ number b.step ∷ []))) in
             absurd (true≢false (sym tie ∙ apart))
 
--- a step takes its own waiver from those of the steps from it on
+-- a step takes its own waiver from those of this step and later ones
 pub taken_is : (x : ChangeRow) (rest : List ChangeRow) → AllByRecursion (λ y. (x.step == y.step) ≡ false) rest → taken x.step (waivers_in (x ∷ rest)) ≡ (x.last_day, waivers_in rest)
 taken_is x rest apart = here x.last_day refl
   where
@@ -89,7 +89,7 @@ taken_is x rest apart = here x.last_day refl
     here None e = rw e (later rest apart)
     here (Some day) e = rw (e, same x.step) refl
 
--- the item at a place, and those behind it
+-- the item at a place, and those after it
 pub front_rest : {X Y : Type 0} (f : X → Y) (R : X → X → Type 0) (xs : List X) (i : ℕ) (d : Y) → i < length (map f xs) → IsAscending R xs
     → (x : X) × (rest : List X) × (get_or (map f xs) i d ≡ f x) × (take (suc i) xs ≡ take i xs ++ x ∷ []) × (drop i xs ≡ x ∷ rest) × (drop (suc i) xs ≡ rest) × AllByRecursion (R x) rest
 front_rest f R [] i d low up = absurd (omega arith)

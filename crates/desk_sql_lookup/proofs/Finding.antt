@@ -22,13 +22,13 @@ use Rattle.desk_sql_lookup.proofs.Selects.{apart_shown, at_one_key, counts, keys
 use Rattle.desk_sql_lookup.proofs.Ties.{keys, picked}
 use Rattle.desk_sql_lookup.proofs.Views.{StandApart, View}
 
--- with these values a text is a query of the desk's tables, and what it shows is so of the rows
+-- with these values a text is a query of the desk's tables, and what it shows is true of the rows
 pub record Finds (text : List ℕ) (params : Row) (Is : Tables → List Row → Type 0) : Type 1 where
   pub asked : IsAsked text params
   pub right : (old new : State) (rows : List Row) (t : Tables) → Shown text params old new rows → Holds t old.now
       → Is t rows
 
--- and more is so of them
+-- and more is true of them
 pub finds_more : {text : List ℕ} {params : Row} {Is : Tables → List Row → Type 0} → Finds text params Is
     → {More : Tables → List Row → Type 0} → ((t : Tables) (rows : List Row) → AreOrderly t → Is t rows → More t rows)
     → Finds text params More
@@ -45,7 +45,7 @@ finds_both one two = record {
       (one.right old new rows t shown holds, two.right old new rows t shown holds);
 }
 
--- what it shows are the cells of these, which are such as a desk writes
+-- what it shows are the cells of these, which are as a desk writes them
 pub record FindsRows (text : List ℕ) (params : Row) {X : Type 0} (f : X → Row) (xs : Tables → List X) : Type 1 where
   pub finds : Finds text params (λ t rows. rows ≡ map f (xs t))
   pub written : (t : Tables) → AreWritten t → AllByRecursion IsRow (map f (xs t))
@@ -58,7 +58,7 @@ finds_mapped f g {xs} it = record {
   written = λ t are. subst (AllByRecursion IsRow) (sym (map-map f g (xs t))) (it.written t are);
 }
 
--- all rows, of which each passes
+-- all rows, each of which passes
 pub finds_every : {text : List ℕ} {params : Row} {X : Type 0} {f : X → Row} {xs : Tables → List X}
     → FindsRows text params f (λ t. filter (λ x. true) (xs t)) → FindsRows text params f xs
 finds_every {f = f} {xs = xs} it = record {
@@ -130,7 +130,7 @@ module _ {X : Type 0} (view : View X) (ps : List ℕ) {text : List ℕ} {paramet
           (subst (AllByRecursion IsRow) (view.here t) (are.cells this.tree));
     }
 
-    -- of those that pass no two are at one key
+    -- no two of those that pass have the same key
     pub finds_apart : Finds text params (λ t rows.
         IsAscending (λ a b. is_eq (output_cmp (query_on this.tree tests project (order_by ps))
         (shown_of (view.cells_of a)) (shown_of (view.cells_of b))) ≡ false) (filter p (view.held t)))
@@ -142,14 +142,14 @@ module _ {X : Type 0} (view : View X) (ps : List ℕ) {text : List ℕ} {paramet
           project ps it.is it.plain params q shown_of p tested acts picks old new rows shown refl (apart t old holds);
     }
 
-    -- those that pass are at one key
+    -- all that pass have the same key
     pub finds_one : (k : Row) → ((x : X) → p x ≡ true → key_of x ≡ k) → FindsThem
     finds_one k same = finds_sorted (λ t old holds.
         at_one_key this.name this.tree this.columns this.key this.primary this.uniques this.orders view.place
         view.listed view.cells_of (rows_of t) (view.held t) (view.here t) old.now holds.rows text names tests project
         ps it.is it.plain params q shown_of p tested acts picks k same)
 
-    -- the rows of the table stand in order
+    -- the rows of the table are in order
     pub finds_all : ((t : Tables) → AreOrderly t
         → IsAscending (λ a b. is_lt (key_cmp 0 (keys ps) (key_of b) (key_of a)) ≡ false) (view.held t))
         → FindsThem

@@ -138,7 +138,7 @@ module _ {S : Type 0} (g : Ghosts S) {sql : List ℕ} {params : Row} (old new : 
       kept (Ok v) it = tt
       kept (Err e) it = it
 
-  -- a query failed, and `?` hands its fault on
+  -- a query failed, and `?` returns its fault
   pub query_failed : {V W : Type 0} {Shows : V → Type 0} {Tells : W → Type 0} (If : Tables → Type 0) (fault : Fault)
       → Queries g sql params old new (Err fault) Shows (λ t. Unit {0}) → (r : Result W Fault)
       → IsErrAnd r (λ e. e ≡ fault) → Queries g sql params old new r Tells If
@@ -162,7 +162,7 @@ on_ok (Ok x) P it = it
 on_ok (Err fault) P it = tt
 
 module _ {S A : Type 0} (g : Ghosts S) (old new : Held S) {Given : Tables → Type 0} {Is : A → Tables → Type 0} {x : A} (first : LooksUpGiven g Given old new (Ok x) Is) {B : Type 0} (If : Tables → Type 0) (r : Result B Fault) (Has : B → Tables → Type 0) where
-  -- what comes of it, without another look
+  -- the outcome, without another look-up
   pub then_tells : IfOk r (λ y. OfRows (Has y) (seen_of (state g old)) (seen_of (state g new))) → IfErr r (HasCauseIf If (state g old) (state g new)) → LooksUpGiven g If old new r Has
   then_tells found cause = record {
     found = found;
@@ -186,7 +186,7 @@ module _ {S A : Type 0} (g : Ghosts S) (old new : Held S) {Given : Tables → Ty
 -- ---- of a look-up that failed
 
 module _ {S A B : Type 0} (g : Ghosts S) (old new : Held S) {Is : A → Tables → Type 0} (r : Result B Fault) (fault : Fault) (is : IsErrAnd r (λ e. e ≡ fault)) (Has : B → Tables → Type 0) where
-  -- its fault is handed on
+  -- its fault is returned
   pub fails_too : (If : Tables → Type 0) → LooksUpGiven g If old new (Err fault) Is → LooksUpGiven g If old new r Has
   fails_too If first = go r is
     where

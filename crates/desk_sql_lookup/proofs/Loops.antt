@@ -46,7 +46,7 @@ any_attached release document (x ∷ xs) = go (any_attached release document xs)
     go more true is = rw is (ap (λ b. (x.document == document) || b) more)
     go more false is = rw is more
 
--- what is so of each row, and of each of the values that they are the cells of, is so at one place
+-- what is true of each row, and of each value whose cells it has, is true at one place
 pub at_place : {X : Type 0} (f : X → Row) (P : Row → Type 0) (Q : X → Type 0) (xs : List X) (rows : List Row) (i : ℕ) (d : Row) → rows ≡ map f xs → i < length rows → AllByRecursion P rows → AllByRecursion Q xs
     → (x : X) × (get_or rows i d ≡ f x) × P (get_or rows i d) × Q x
 at_place f P Q [] [] i d is low all each = absurd (omega (arith, low))
@@ -55,7 +55,7 @@ at_place f P Q (x ∷ xs) [] i d is low all each = absurd (omega (arith, low))
 at_place f P Q (x ∷ xs) (r ∷ rows) zero d is low all each = let one : r ≡ f x = cc in (x, one, all.0, each.0)
 at_place f P Q (x ∷ xs) (r ∷ rows) (suc i) d is low all each = let rest : rows ≡ map f xs = cc in at_place f P Q xs rows i d rest (omega (arith, low)) all.1 each.1
 
--- and at the place that a look into the rows told
+-- and at the place that a look into the rows found
 pub got_place : {X : Type 0} (f : X → Row) (P : Row → Type 0) (Q : X → Type 0) (xs : List X) (rows : List Row) (k : ℕ) (row : Row) → rows ≡ map f xs → Some row ≡ slice_get rows k → AllByRecursion P rows → AllByRecursion Q xs
     → (x : X) × (row ≡ f x) × P row × Q x
 got_place f P Q [] [] k row is got all each = absurd cc

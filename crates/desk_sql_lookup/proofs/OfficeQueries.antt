@@ -46,7 +46,7 @@ conclusion_finds document id =
     (0 ∷ 1 ∷ []) (2 ∷ []) (λ r. refl) (λ r. refl) (is_conclusion document id) (λ x. number_then x.document document (last_text_test x.package_id id))
     conclusion_apart (number document ∷ Text id ∷ []) (λ x. number_text_key x.document document x.package_id id)
 
--- ---- the licence that a reference is adopted as
+-- ---- the licence as which a reference is adopted
 
 abbrev pub adoption_text : List ℕ
 adoption_text = codes "SELECT licence FROM adoption WHERE document = ?1 AND reference = ?2 ORDER BY document, reference"

@@ -73,7 +73,7 @@ attached_count_finds release =
     finds_count attached_view [] attached_count_is (Text release ∷ []) refl refl (equals ((0, Text release) ∷ []))
     [] (1 ∷ []) (λ r. refl) (λ r. refl) (is_attached_to release) (λ x. last_text_test x.release release)
 
--- ---- the terms that a release was frozen with
+-- ---- the terms with which a release was frozen
 
 abbrev pub frozen_text : List ℕ
 frozen_text = codes "SELECT release, document, package, term, rule FROM frozen WHERE release = ?1 ORDER BY release, document, package, term"

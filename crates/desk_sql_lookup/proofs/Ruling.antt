@@ -49,7 +49,7 @@ split_joined word (next ∷ words) h =
     let p = and_parts (is_word word) (list_all is_word (next ∷ words)) h in
     slice_split_at (λ b. b == 32) word 32 (joined (next ∷ words)) (no_blank word p.0) refl ∙ ap (λ l. word ∷ l) (split_joined next words p.1)
 
--- joined words are no empty text
+-- joined words are not the empty text
 pub none_joined : (words : List (List ℕ)) → list_all is_word words ≡ true → [] ≡ joined words → words ≡ []
 none_joined [] h e = refl
 none_joined (word ∷ []) h e = absurd (let p : nat_lt 0 (length word) ≡ true = (and_parts (nat_lt 0 (length word)) _ (and_parts (is_word word) true h).0).0 in let q : nat_lt 0 (length word) ≡ false = ap (λ w. nat_lt 0 (length w)) (sym e) in cc)

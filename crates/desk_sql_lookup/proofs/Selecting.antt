@@ -1,4 +1,4 @@
--- What the library makes of the text of a query, known once for all that is said of it.
+-- What the library makes of the text of a query, proved once for all that is said of it.
 use Rattle.std.proofs.Common.{◌≡◌, ℕ, true, false, List, [], length, subst}
 use Rattle.sqlite_value.specs.declared.keys.Key.{Key}
 use Rattle.sqlite_value.specs.Order.{Row}
@@ -13,7 +13,7 @@ use Rattle.desk_sql_layout.proofs.Queries.{query_on}
 use Rattle.desk_sql_lookup.specs.Causes.{IsAsked}
 use Rattle.desk_sql_lookup.proofs.Causes.{Suits, asked}
 
--- a text with so many parameters is this query of a table, and the library plans it as it stands
+-- a text with this many parameters is this query of a table, and the library plans it as it is
 pub record IsSelect (text : List ℕ) (parameters tree : ℕ) (tests project : List Term) (by : List (Term × Key))
     (names : List (List ℕ)) : Type 0 where
   pub is : (command_of (understood desk_schema text)
@@ -31,7 +31,7 @@ select_asked {text} {parameters} {tree} {tests} {project} {by} {names} it params
     asked text params tree tests project by names it.is it.plain
     (subst (λ n. Suits text n (understood desk_schema text)) many it.suits) accepts
 
--- a table by its parts, beside which a desk's tables have none
+-- a table by these parts, besides which a desk's tables have none
 abbrev pub as_declared : Table → Table
 as_declared table =
     table_of table.name table.tree table.columns table.key table.primary table.uniques table.orders

@@ -48,7 +48,7 @@ picked_is : (ps : List ℕ) (params r : Row) → eval_all (map (λ (k : Term × 
 picked_is [] params r = refl
 picked_is (p ∷ ps) params r = ap (λ l. column r p ∷ l) (picked_is ps params r)
 
--- no two of them are at one key
+-- no two of them have the same key
 abbrev pub AreApart : List ℕ → List Row → Type 0
 AreApart ps = IsAscending (λ a b. is_eq (key_cmp 0 (keys ps) (picked ps a) (picked ps b)) ≡ false)
 
@@ -108,7 +108,7 @@ module _ (name : List ℕ) (tree : ℕ) (columns : List Column) (key : Option �
           let x = has_mapped f xs (cells this r) shown in
           keyed r ∙ ap k x.2 ∙ are x.0
 
-  -- the rows that pass, of which none are at one key, shown in the order of the key
+  -- the rows that pass, no two of which have the same key, shown in the order of the key
   module _ (sql : List ℕ) (names : List (List ℕ)) (tests project : List Term) (ps : List ℕ)
       (is : (command_of (understood desk_schema sql) ≡ Select (record { lets = []; body = query_on tree tests project (order_by ps) }) names) × (reads_listing desk_schema sql ≡ false))
       (plain : IsPlain (understood desk_schema sql)) (params : Row) (q : Row → Bool) (u : Row → Output) (p : X → Bool)
@@ -131,7 +131,7 @@ module _ (name : List ℕ) (tree : ℕ) (columns : List Column) (key : Option �
         ap (map u) (filter-map q table (db.trees tree)) ∙ map-map u table (filter (λ r. q (table r)) (db.trees tree)) ∙ sym (λ i. map (λ r. acts r i) (filter (λ r. tested r i) (db.trees tree))) in
         subst₂ (λ a b. IsPermutation a b) left right (IsPermutation-map u _ _ (IsPermutation-filter q _ _ mine.same))
 
-    -- those that pass are all at one key
+    -- all that pass have the same key
     pub at_one_key : (k : Row) → ((x : X) → p x ≡ true → (u (f x)).0 ≡ k) → IsAscending (λ a b. is_lt (output_cmp asked (u (f b)) (u (f a))) ≡ false) (filter p xs)
     at_one_key k same =
         let all : AllByRecursion (λ x. (u (f x)).0 ≡ k) (filter p xs) = all_from _ (filter p xs) (λ x there. same x (has_filtered p xs x there).1) in
@@ -165,7 +165,7 @@ module _ (name : List ℕ) (tree : ℕ) (columns : List Column) (key : Option �
             (λ a b ha hb h. rw (keys_are ps, picked_is ps params a, picked_is ps params b) h)
             (ascending-filter _ (passes tests params) (db.trees tree) apart))
 
-        -- none of them are at one key
+        -- no two of them have the same key
         pub apart_shown : IsAscending (λ a b. is_eq (output_cmp asked (u (f a)) (u (f b))) ≡ false) (filter p xs)
         apart_shown =
             let cmp = output_cmp asked in

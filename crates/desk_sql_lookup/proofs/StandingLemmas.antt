@@ -1,4 +1,4 @@
--- Where duties stand, one after the other.
+-- The standings of duties, one after another.
 use Rattle.std.proofs.Common.{◌≡◌, ◌<◌, ◌≤◌, ◌+◌, ◌-◌, slice_get, ℕ, zero, suc, Bool, true, false, List, [], ◌∷◌, ◌++◌, map, filter, take, length, get_or, Option, Some, None, refl, sym, ap, ◌∙◌, arith, add-one}
 use Rattle.std.specs.Prelude.{bytes_eq}
 use Rattle.std.specs.List.{filter_map, last_or}
@@ -69,7 +69,7 @@ waived_is duty.Met = refl
 waived_is duty.Waived = refl
 waived_is duty.Withdrawn = refl
 
--- of the waived duties, those whose waivers ended
+-- the waived duties whose waivers ended
 pub ended_are : (t : Tables) (day : List ℕ) (rows : List DutyRow) → filter_map (ended_standing t day) (filter (stands_at (duty_state_name duty.Waived)) rows) ≡ map (standing_found t) (filter (ends t day) rows)
 ended_are t day [] = refl
 ended_are t day (x ∷ xs) = go (ended_are t day xs) (is_waived x.state) (has_end_before day (filter (is_change_of x.number) t.changes)) refl refl

@@ -1,4 +1,4 @@
--- How many changes duties have, by the duties of those that are numbered one after the other.
+-- How many changes duties with consecutive numbers have, by the duties of the changes.
 use Rattle.std.proofs.Common.{◌≡◌, ◌⊎◌, ◌∙◌, ◌<◌, ◌≤◌, ◌+◌, ◌-◌, ◌^◌, ◌++◌, ℕ, Bool, true, false, true≢false, cond, not, List, [], ◌∷◌, map, filter, length, ap, arith, inl, inr, refl, subst, suc, sym, zero}
 use Rattle.std.specs.Prelude.{◌==◌, ◌&&◌, nat_le, slice_index_or, slice_set}
 use Rattle.std.proofs.lemmas.Bool.Decides.{nat_tests}
@@ -11,7 +11,7 @@ use Rattle.desk_model.specs.declared.row.ChangeRow.{ChangeRow}
 use Rattle.desk_sql_lookup.specs.Steps.{AreCounts, HaveSteps, is_change_within}
 use Rattle.desk_sql_lookup.proofs.Keyed.{same_number}
 
--- a change of a duty of the run is one of those within it
+-- a number outside the range isn't in the run
 within_run : (first last i n : ℕ) → first + i ≤ last → (nat_le first n && nat_le n last) ≡ false → (n == first + i) ≡ false
 within_run first last i n low out = grind (arith, nat_tests)
 

@@ -47,7 +47,7 @@ read_more cells rows row found x read one xs e =
     let last = last_mapped cells rows row xs e in
     (λ i. read last.0 last.3 i ++ one last.1 last.4 i ∷ []) ∙ sym last.2
 
--- what is shown after a query that left all as it was
+-- what is shown after a query that left everything as it was
 
 pub shown_since : (sql : List ℕ) (params : Row) (a b c : State) (rows : List Row) → IsPlain (understood b.now.schema sql) → IsUnchanged a b → Shown sql params b c rows → Shown sql params a c rows
 unfolding Shown
@@ -108,7 +108,7 @@ module _ {S T : Type 0} (g : Ghosts S) (cells : T → Row) (sql : List ℕ) (par
         let is : (state g old).now.schema ≡ desk_schema = ap (λ (d : Database). d.schema) same.0.now_is ∙ schema in
         (so_far.0, shown_since sql params (state g first) (state g old) (state g new) so_far.0 (subst (λ s. IsPlain (understood s sql)) (sym is) plain) same shown, so_far.3)
 
--- ---- reading on fails
+-- ---- reading further fails
 
 -- the row at this place, of rows that can be read
 one_of : {X : Type 0} (f : X → Row) (P : Row → Type 0) (Q : X → Type 0) (front : List Row) (row : Row) (tail : List Row) (xs : List X) → (front ++ row ∷ []) ++ tail ≡ map f xs
@@ -132,7 +132,7 @@ begins_since sql params a b rows now h = (
 no_end : (k : Command) (query : Query) (names : List (List ℕ)) → k ≡ Select (record { lets = []; body = query }) names → (db : Database) (params : Row) → EndsIn k db params
 no_end k query names is db params = subst (λ k. EndsIn k db params) (sym is) tt
 
--- the first rows of an answer to a query of the desk's tables begin a whole one
+-- the first rows of an answer to a query of the desk's tables are the beginning of a whole one
 whole_answer : (sql : List ℕ) (params : Row) (a b : State) (rows : List Row) → IsAsked sql params → a.now.schema ≡ desk_schema → IsUnchanged a b → Begun sql params b rows → (tail : List Row) × Shown sql params a b (rows ++ tail)
 whole_answer sql params a b rows asked has same begins = begins_shown sql params a b rows (begins_since sql params a b rows same.0.now_is begins) same
     (λ c db it source. let e = sym (ap (λ s. understood s sql) has ∙ asked.is) ∙ it.is in let is : asked.compiled ≡ c = cc in

@@ -1,4 +1,4 @@
--- What the tests of a query say of the cells of a row.
+-- What the tests of a query say about the cells of a row.
 use Rattle.std.proofs.Common.{◌≡◌, ℕ, Bool, true, List, [], ◌∷◌, ap, ap₂, ◌∙◌}
 use Rattle.std.specs.Prelude.{◌&&◌, ◌==◌, bytes_eq}
 use Rattle.std.proofs.lemmas.Bool.{and_parts}
@@ -34,7 +34,7 @@ pub text_then : (a b : List ℕ) {rest more : Bool} → rest ≡ more
     → (is_true (binary (Compare Eq Binary) (Text a) (Text b)) && rest) ≡ (bytes_eq a b && more)
 text_then a b is = ap₂ (λ x y. x && y) (text_test a b) is
 
--- ---- rows that pass stand at one key
+-- ---- rows that pass have the same key
 
 pub number_key : (a b : ℕ) → (a == b) ≡ true → (number a ∷ []) ≡ (number b ∷ [])
 number_key a b same = ap (λ n. number n ∷ []) (same_number a b same)

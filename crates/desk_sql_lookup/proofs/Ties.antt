@@ -1,4 +1,4 @@
--- Stored rows with no two at one key, and lists that ascend.
+-- Stored rows, no two of which have the same key, and lists that ascend.
 use Rattle.std.proofs.Common.{◌≡◌, inl, inr, ℕ, zero, suc, Bool, true, false, List, [], ◌∷◌, map, refl, sym, ap, ◌∙◌, arith, add-one, true≢false, IsSorted, Less, Equal, Greater, is_lt, is_eq}
 use Rattle.std.specs.Prelude.{◌&&◌}
 use Rattle.std.specs.List.{AllByRecursion}
@@ -125,7 +125,7 @@ false_or : (b : Bool) → (b ≡ true → ⊥) → b ≡ false
 false_or true h = absurd (h refl)
 false_or false h = refl
 
--- the rows of a table tie at no key that is declared unique
+-- no two rows of a table tie by a key that is declared unique
 pub apart_by : (ps : List ℕ) (stored : List Row) → IsTable stored → AllByRecursion (λ r. is_int (rowid r) ≡ true) stored → AllByRecursion (λ r. are_keys ps r ≡ true) stored
     → ((row : Row) → Has stored row → clashes plain ps stored row ≡ false) → IsAscending (λ a b. is_eq (key_cmp 0 (keys ps) (picked ps a) (picked ps b)) ≡ false) stored
 apart_by ps stored rising ints are unique = ascending_among _ _ stored two rising
@@ -144,6 +144,6 @@ below_apart Less h = refl
 below_apart Equal h = absurd (cc)
 below_apart Greater h = absurd (cc)
 
--- nor at their rowids
+-- nor by their rowids
 pub apart_by_rowid : (stored : List Row) → IsTable stored → IsAscending (λ a b. is_eq (key_cmp 0 (keys (0 ∷ [])) (picked (0 ∷ []) a) (picked (0 ∷ []) b)) ≡ false) stored
 apart_by_rowid stored rising = ascending_among _ _ stored (λ a b ha hb less. below_apart _ less) rising

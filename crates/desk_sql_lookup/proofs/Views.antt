@@ -1,4 +1,4 @@
--- The desk's tables, each with the rows that it holds, of which no two are at one key.
+-- The desk's tables, each with the rows that it holds, no two of which have the same key.
 use Rattle.std.proofs.Common.{◌≡◌, ℕ, true, List, [], ◌∷◌, map, filter, get_or, slice_get, Some, refl}
 use Rattle.sqlite_value.specs.Keys.{plain}
 use Rattle.sqlite_value.specs.Order.{Row}
@@ -52,7 +52,7 @@ pub record View (X : Type 0) : Type 0 where
   pub held : Tables → List X
   pub here : (t : Tables) → rows_of t table.tree ≡ map cells_of (held t)
 
--- no two of its rows are at one key
+-- no two of its rows have the same key
 abbrev pub StandApart : {X : Type 0} → View X → List ℕ → Type 1
 StandApart view ps = (t : Tables) (old : State) → Holds t old.now → AreApart ps (old.now.trees view.table.tree)
 
@@ -90,7 +90,7 @@ document_view = record { table = d.document_table; place = 3; listed = refl; cel
 pub document_apart : StandApart document_view (0 ∷ [])
 document_apart = apart_by_rowid document_view
 
--- nor at one namespace
+-- nor the same namespace
 pub namespace_apart : StandApart document_view (2 ∷ [])
 namespace_apart = apart_by_key document_view 0 (2 ∷ []) (1 ∷ []) refl refl (λ r. refl) (λ x. refl)
 

@@ -49,8 +49,9 @@ pub record AreWritten (t : Tables) : Type 0 where
   pub days : AllByRecursion HasDay t.changes
   pub last_days : AllByRecursion HasLastDay t.changes
 
--- With rows as a desk writes them, and no limit on the steps of a query, a look-up fails only if no memory is left, or with a fault of
--- the database as the disk failed once more. `Is` is what its caller says of the tables.
+-- If the rows are as a desk writes them, and the steps of a query have no limit, a look-up fails only if no
+-- memory is left, or with a fault of the database if the disk failed once more. `Is` is what its caller says
+-- of the tables.
 pub record HasCauseIf (Is : Tables → Type 0) (old new : State) (fault : Fault) : Type 0 where
   pub cause : HasCleanDisk new → IsTrue old.is_open → old.step_limit ≡ None → (t : Tables) → (seen_of old).holds t → AreWritten t → Is t → (fault ≡ Memory) ⊎ ((fault ≡ Store DatabaseFault) × MoreFaults old.faults new.faults)
 

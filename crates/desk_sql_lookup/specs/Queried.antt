@@ -1,4 +1,4 @@
--- What a call does that asks a query.
+-- What a call that makes a query does.
 use Rattle.std.specs.Prelude.{◌≡◌, false, IfErr, IfOk, IsTrue, List, OnErr, Result, ℕ}
 use Rattle.sqlite_trees.specs.declared.store.Store.{Ghosts}
 use Rattle.sqlite_value.specs.Order.{Row}
@@ -14,8 +14,8 @@ use Rattle.desk_sql_layout.specs.Layout.{desk_schema}
 use Rattle.desk_sql_lookup.specs.Causes.{HasCauseIf, IsAsked}
 use Rattle.desk_sql_lookup.specs.Streamed.{CanBeRead, ShowsTold}
 
--- A query that changes nothing. `Shows` says what an answer shows of it, and `If` what has to be so of the tables
--- for it to fail only with a cause.
+-- A query that changes nothing. `Shows` says what an answer shows of it, and `If` what has to be true of the
+-- tables for it to fail only for a cause.
 pub record Queries {S V : Type 0} (g : Ghosts S) (sql : List ℕ) (params : Row) (old new : Held S)
     (result : Result V Fault) (Shows : V → Type 0) (If : Tables → Type 0) : Type 0 where
   pub ok : IsPlain (understood desk_schema sql) → IfOk result (λ value.
@@ -26,7 +26,8 @@ pub record Queries {S V : Type 0} (g : Ghosts S) (sql : List ℕ) (params : Row)
   pub limit : new.step_limit ≡ old.step_limit
   pub mode : old.in_transaction ≡ false → new.in_transaction ≡ false
 
--- Its rows are read, if they are of a desk's tables: `Told` says what was read of those whose cells they are.
+-- Its rows are read, if they are of a desk's tables: `Told` says what was read, by the values whose cells
+-- they are.
 abbrev pub ReadsQuery : {S T V : Type 0} → Ghosts S → (T → Row) → (T → Type 0) → (V → List T → Type 0) → List ℕ → Row
     → Held S → Held S → Result V Fault → Type 0
 ReadsQuery g cells has_days Told sql params old new result =

@@ -1,4 +1,4 @@
--- What a query shows of a row where it shows some of its columns.
+-- What a query shows of a row if it shows only some of its columns.
 use Rattle.std.specs.Prelude.{ℕ, ◌==◌, Bool, List, [], ◌∷◌}
 use Rattle.sqlite_value.specs.Order.{Row}
 use Rattle.sqlite_value.specs.declared.value.Value.TheVariants.{Text, Blob}
@@ -36,10 +36,10 @@ name_cells row = number row.number ∷ Text row.namespace ∷ []
 abbrev pub import_cells : DocumentRow → Row
 import_cells row = number row.number ∷ Blob row.bytes ∷ []
 
--- the text of a reference, where it has one
+-- the text of a reference, or NULL if it has none
 abbrev pub extracted_body_cells : ExtractedRow → Row
 extracted_body_cells row = text_or_null row.body ∷ []
 
--- what the office concluded for a package of a document
+-- a conclusion for a package of this document
 abbrev pub is_conclusion_in : ℕ → ConclusionRow → Bool
 is_conclusion_in document row = row.document == document

@@ -1,4 +1,4 @@
--- The last days of waivers, as their table tells them apart from the changes of a duty.
+-- The last days of waivers, which are in a table apart from the changes of a duty.
 use Rattle.std.specs.Prelude.{◌≡◌, ◌==◌, ℕ, false, if◌then◌else◌, List, [], ◌∷◌, map, filter, Option, Some, None, IsTrue, unwrap_or}
 use Rattle.sqlite_value.specs.Order.{Row}
 use Rattle.sqlite_value.specs.declared.value.Value.TheVariants.{Text}
@@ -8,14 +8,14 @@ use Rattle.desk_sql_layout.specs.Cells.{number, is_waiver}
 use Rattle.desk_model.specs.declared.row.ChangeRow.{ChangeRow}
 use Rattle.desk_sql_lookup.specs.declared.rows.Waiver.{Waiver}
 
--- no two changes are one step
+-- no two changes have the same step
 abbrev pub AreSteps : List ChangeRow → Type 0
 AreSteps = IsAscending (λ a b. (a.step == b.step) ≡ false)
 
 abbrev pub waiver_of : ChangeRow → Waiver
 waiver_of row = record { step = row.step; last_day = unwrap_or row.last_day [] }
 
--- the waivers that end, of some changes
+-- the waivers that end among some changes
 abbrev pub waivers_in : List ChangeRow → List Waiver
 waivers_in rows = map waiver_of (filter is_waiver rows)
 
@@ -30,7 +30,7 @@ ending_cells waiver = number waiver.step ∷ Text waiver.last_day ∷ []
 abbrev pub day_cells : ChangeRow → Row
 day_cells row = Text row.day ∷ []
 
--- the last day of a step's waiver, where that is the first of some, and the waivers behind it
+-- the last day of a step's waiver, if that is the first of these, and the waivers that are left
 abbrev pub taken : ℕ → List Waiver → Option (List ℕ) × List Waiver
 taken step [] = (None, [])
 taken step (waiver ∷ waivers) = if waiver.step == step then (Some waiver.last_day, waivers) else (None, waiver ∷ waivers)

@@ -36,7 +36,7 @@ fn select_steps<S: Alter>(
     )
 }
 
-/// How many changes a duty has, of so many duties.
+/// How many changes a duty has, if there are this many duties.
 pub fn steps<S: Alter>(conn: &mut Connection<S>, duties: u32, duty: u64) -> Result<u64, Fault>
     ensures { LooksUp S.Store conn.old conn.new result (λ found t.
         length t.duty ≡ duties → found ≡ steps_found t duty) }
@@ -95,7 +95,7 @@ fn select_both<S: Alter>(
     Ok((changes, waivers))
 }
 
-/// The last day of a step's waiver, where that is the first of some, and the waivers behind it.
+/// The last day of a step's waiver, if that is the first of these, and the waivers that are left.
 fn take_waiver(waivers: &[Waiver], step: u32) -> (Option<Day>, &[Waiver])
     ensures { (result.0, result.1.now) ≡ taken step waivers.now }
 {
@@ -105,7 +105,7 @@ fn take_waiver(waivers: &[Waiver], step: u32) -> (Option<Day>, &[Waiver])
     }
 }
 
-/// Changes, whose last days stand in waivers in the order of their steps.
+/// Changes, whose last days are in waivers in the order of their steps.
 fn with_waivers(alloc: Global, rows: &[Row], waivers: &[Waiver]) -> Result<Vec<ChangeRow>, Fault>
     ensures value { IfOk result (λ found. (xs : List Change) → AreSteps xs
         → rows.now ≡ map change_cells xs
@@ -137,7 +137,7 @@ fn read_changes(alloc: Global, rows: &[Row], ends: &[Row]) -> Result<Vec<ChangeR
     with_waivers(alloc, rows, &waivers)
 }
 
-/// The changes of a duty, by step, of so many duties.
+/// The changes of a duty, by step, if there are this many duties.
 pub fn changes_of<S: Alter>(
     alloc: Global,
     conn: &mut Connection<S>,

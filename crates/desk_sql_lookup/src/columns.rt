@@ -1,4 +1,4 @@
-//! What stands in a column of a row. Where it is of another kind, no desk's table has it.
+//! The value in a column of a row. No desk's table has a value of another kind.
 
 ghost use Rattle.std.specs.Prelude.{◌≡◌, ◌<◌, IfErr, IfOk, IsTrue, if◌then◌else◌, Bool, List, Option, ℕ, length};
 ghost use Rattle.sqlite_value.specs.Order.{column};
@@ -60,7 +60,7 @@ pub(crate) fn text_at(alloc: Global, row: &Row, at: usize) -> Result<Text, Fault
     Ok(Text::of(alloc, text)?)
 }
 
-/// A text, or none where the column is NULL.
+/// A text, or none if the column is NULL.
 pub(crate) fn text_or_null_at(alloc: Global, row: &Row, at: usize) -> Result<Option<Text>, Fault>
     ensures value { IfOk result (λ text. column row.now at ≡ text_or_null text) }
     ensures cause { IfErr result (λ fault. (text : Option (List ℕ)) → at < length row.now

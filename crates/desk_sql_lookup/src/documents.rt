@@ -33,7 +33,7 @@ fn numbered(found: Option<(u32, Profile)>, number: u64) -> Result<Option<(u32, P
     }
 }
 
-/// A document by its number, of so many documents: the number, and its profile.
+/// A document by its number, if there are this many documents: the number and its profile.
 pub fn document<S: Alter>(
     alloc: Global,
     conn: &mut Connection<S>,
@@ -54,7 +54,7 @@ pub fn document<S: Alter>(
     numbered(found, number)
 }
 
-/// The bytes of a document, of so many documents.
+/// The bytes of a document, if there are this many documents.
 fn document_bytes<S: Alter>(
     alloc: Global,
     conn: &mut Connection<S>,
@@ -87,7 +87,7 @@ fn source_from(
     }
 }
 
-/// The bytes of a document, and its profile, of so many documents.
+/// The bytes of a document and its profile, if there are this many documents.
 pub fn document_source<S: Alter>(
     alloc: Global,
     conn: &mut Connection<S>,
@@ -151,7 +151,7 @@ pub fn import_of<S: Alter>(
     first_import(&rows, bytes)
 }
 
-/// A package of a document, of so many documents.
+/// A package of a document, if there are this many documents.
 pub fn package_row<S: Alter>(
     alloc: Global,
     conn: &mut Connection<S>,

@@ -24,7 +24,7 @@ fn numbered(found: Option<DutyRow>, number: u64) -> Result<Option<DutyRow>, Faul
     }
 }
 
-/// The duty with a number, of so many duties.
+/// The duty with a number, if there are this many duties.
 pub fn duty<S: Alter>(
     alloc: Global,
     conn: &mut Connection<S>,

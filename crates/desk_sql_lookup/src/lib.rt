@@ -1,20 +1,21 @@
-//! What is looked up in the desk's tables in a SQL database (`desk_sql_layout`): for each look-up
-//! of `desk_access::Store` that reads rows, a function over a connection.
+//! Look-ups in the desk's tables in a SQL database (`desk_sql_layout`): for each look-up of
+//! `desk_access::Store` that reads rows, a function over a connection.
 //!
-//! Each statement is a SELECT over one table: the rows that equal given values in named columns, by
-//! the table's key. What more is asked is told from these rows. A connection shows the rows of the
-//! tables that its database holds, in each way in which it may hold them. What each look-up does is
-//! said by `LooksUp` (`specs/LookUps.antt`): what is told of the rows as of those of a store
-//! (`found`), that it leaves them (`kept`), and with an answer the whole database (`unchanged`), and
-//! that no transaction is open after it where none was before (`mode`).
+//! Each statement is a SELECT over one table: the rows with given values, or values in a range, in
+//! named columns, in the order of the table's key unless they are only counted. Anything else that
+//! is asked for is found from these rows. A connection shows the rows of the tables that its
+//! database holds, in whatever way it holds them. `LooksUp` (`specs/LookUps.antt`) says what each
+//! look-up does: what it finds is true of the rows (`found`), it leaves them as they were (`kept`)
+//! and, if it answers, also the whole database (`unchanged`), and no transaction is open after it
+//! if none was before (`mode`).
 //!
-//! Its `cause` says when it fails: with rows as a desk writes them (`specs/Causes.antt`) and no
-//! limit on the steps of a query, only if no memory is left, or with a fault of the database as the
-//! disk failed once more. `limit` says that the look-up sets no such limit.
+//! Its `cause` says when it fails: if the rows are as a desk writes them (`specs/Causes.antt`), and
+//! the steps of a query have no limit, only if no memory is left, or with a fault of the database
+//! if the disk failed once more. `limit` says that the look-up sets no such limit.
 //!
-//! Documents, duties and revisions are numbered from 1, and the caller says how many there are.
-//! What stands in a column is read as the desk knows it: a value of another kind, which no desk's
-//! table has, is told as a fault of the store's rows. `read_releases` and `read_duties` read rows
+//! Documents, duties and revisions are numbered from 1, and the caller says how many there are. The
+//! value in a column is read as the desk knows it: a value of another kind, which no desk's table
+//! has, is reported as a fault of the store's rows. `read_releases` and `read_duties` read rows
 //! that another statement showed.
 #![tactic(auto)]
 

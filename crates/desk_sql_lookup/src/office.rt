@@ -63,7 +63,7 @@ pub fn conclusions_in<S: Alter>(
     )
 }
 
-/// The licence that a reference of a document is adopted as.
+/// The licence as which a reference of a document is adopted.
 pub fn adoption<S: Alter>(
     alloc: Global,
     conn: &mut Connection<S>,

@@ -38,7 +38,7 @@ pub(crate) fn query<S: Alter>(
     }
 }
 
-/// The next row of a query, read, if there is one.
+/// Reads the next row of a query, if there is one.
 fn read_next<S: Alter, T: ReadRow + Drop>(
     alloc: Global,
     rows: &mut Rows<'_, S>,
@@ -71,7 +71,7 @@ fn read_next<S: Alter, T: ReadRow + Drop>(
     }
 }
 
-/// The rows of a query that changes nothing, each read before the next, so that none is kept as
+/// The rows of a query that changes nothing, each read before the next one, so that none is kept as
 /// cells.
 pub(crate) fn read_rows<S: Alter, T: ReadRow + Drop>(
     alloc: Global,
@@ -93,7 +93,7 @@ pub(crate) fn read_rows<S: Alter, T: ReadRow + Drop>(
             None => return Ok(found),
         }
     }
-    // No memory holds so many rows.
+    // No memory holds that many rows.
     Err(Fault::Memory)
 }
 
@@ -111,15 +111,15 @@ pub(crate) fn read_one<S: Alter, T: ReadRow + Drop>(
     read_first(alloc, &rows)
 }
 
-/// A text as a query takes it.
+/// A text in the form that a query takes.
 pub(crate) fn text<'a>(text: &'a str) -> ValueRef<'a>
     ensures { bound_value (owned result) ≡ Words text.now }
 {
     ValueRef::Text(text.as_bytes())
 }
 
-/// A number as a query takes it. Where so many things are numbered from 1, one past the last stands
-/// for each that is beyond them.
+/// A number in the form that a query takes. If this many things are numbered from 1, the number
+/// after the last stands for every number beyond it.
 pub(crate) fn among(n: u64, count: u32) -> ValueRef<'static>
     ensures { bound_value (owned result) ≡ number (min n (count + 1)) }
 {

@@ -39,7 +39,7 @@ pub(crate) fn read_all<T: ReadRow + Drop>(alloc: Global, rows: &[Row]) -> Result
     Ok(found)
 }
 
-/// The first row.
+/// The first row, if there is one.
 pub(crate) fn read_first<T: ReadRow + Drop>(alloc: Global, rows: &[Row]) -> Result<Option<T>, Fault>
     ensures value { IfOk result (λ found. (xs : List T) → rows.now ≡ map T.ReadRow.cells xs
         → found ≡ slice_get xs 0) }

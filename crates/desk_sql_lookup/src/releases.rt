@@ -130,7 +130,7 @@ pub fn chosen<S: Alter>(
     )
 }
 
-/// The terms that a release was frozen with, by document and package, each with its rule.
+/// The terms with which a release was frozen, by document and package, each with its rule.
 pub fn frozen<S: Alter>(
     alloc: Global,
     conn: &mut Connection<S>,

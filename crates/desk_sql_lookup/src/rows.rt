@@ -187,7 +187,7 @@ impl ReadRow for Waiver {
     }
 }
 
-/// A change, with the last day that another table has of it.
+/// A change, with the last day that another table has for it.
 pub(crate) fn read_change(
     alloc: Global,
     row: &Row,

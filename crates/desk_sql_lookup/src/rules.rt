@@ -37,7 +37,7 @@ fn copies(alloc: Global, parts: &[&str]) -> Result<Vec<Text>, AllocError>
     Ok(copies)
 }
 
-/// The words that a text joins by one blank.
+/// The words that are joined by one blank in a text.
 fn words_of(alloc: Global, text: &str) -> Result<Items<Text>, AllocError>
     ensures { IfOk result (λ words. (xs : List (List ℕ)) → list_all is_word xs ≡ true
         → text.now ≡ joined xs → words ≡ xs) }
@@ -92,7 +92,7 @@ fn select_rule<S: Alter>(
     )
 }
 
-/// The rule for a term and a form of the revision in force, of so many revisions.
+/// The rule for a term and a form in the revision in force, if there are this many revisions.
 pub fn rule<S: Alter>(
     alloc: Global,
     conn: &mut Connection<S>,

@@ -1,4 +1,4 @@
-//! How many changes duties have that are numbered one after the other.
+//! How many changes duties with consecutive numbers have.
 
 ghost use Rattle.std.specs.Prelude.{◌≡◌, ◌<◌, ◌^◌, ◌++◌, ◌∷◌, [], ℕ, List, IfOk, IfSome, filter, map, length};
 ghost use Rattle.desk_history.specs.FromTables.{steps_found};
@@ -14,7 +14,7 @@ use desk_sql_layout::values::number;
 use sqlite::{Alter, Connection};
 use std::alloc::{AllocError, Global};
 
-/// The duty of each change of those from a first to a last one.
+/// The duty of each change, for duties from a first to a last one.
 fn changed_duties<S: Alter>(
     alloc: Global,
     conn: &mut Connection<S>,
@@ -32,7 +32,7 @@ fn changed_duties<S: Alter>(
     )
 }
 
-/// So many zeros.
+/// This many zeros.
 fn zeros(alloc: Global, many: u32) -> Result<Vec<u64>, AllocError>
     ensures counts { IfOk result (λ zeros. (first : ℕ) → AreCounts first [] zeros.items) }
     ensures many { IfOk result (λ zeros. length zeros.items ≡ many) }
@@ -60,7 +60,7 @@ fn count(counts: &mut Vec<u64>, first: u32, number: u32)
     }
 }
 
-/// How often each of so many numbers, from a first one on, is among some.
+/// How often each of this many numbers, from a first one on, is among some numbers.
 fn counted(alloc: Global, first: u32, many: u32, numbers: &[u32]) -> Result<Vec<u64>, AllocError>
     ensures counts { IfOk result (λ counts. AreCounts first numbers.now counts.items) }
     ensures many { IfOk result (λ counts. length counts.items ≡ many) }
@@ -72,7 +72,7 @@ fn counted(alloc: Global, first: u32, many: u32, numbers: &[u32]) -> Result<Vec<
     Ok(counts)
 }
 
-/// How many changes each duty has from a first one on, and so many more.
+/// How many changes each duty has, for a first duty and this many more.
 fn steps_from<S: Alter>(
     alloc: Global,
     conn: &mut Connection<S>,
@@ -88,7 +88,7 @@ fn steps_from<S: Alter>(
     Ok(counted(alloc, first, many, &changed)?)
 }
 
-/// How many changes a duty has by the counts from a first one on.
+/// How many changes a duty has, by the counts from a first duty on.
 fn steps_in(steps: &[u64], first: u32, number: u32) -> Option<u64>
     ensures { IfSome result (λ found. (t : Tables) → HaveSteps first steps.now t
         → found ≡ steps_found t number) }
@@ -97,7 +97,7 @@ fn steps_in(steps: &[u64], first: u32, number: u32) -> Option<u64>
     steps.get(at as usize).copied()
 }
 
-/// Where duties stand by the counts from a first one on, if these are of all of them.
+/// The standings of duties, by the counts from a first duty on, if these include all of them.
 fn standings_in(
     alloc: Global,
     steps: &[u64],
@@ -121,7 +121,7 @@ fn standings_in(
     Ok(Some(found))
 }
 
-/// Where duties stand, if they are numbered one after the other from this one on.
+/// The standings of duties, if their numbers are consecutive from this one on.
 pub(crate) fn standings_from<S: Alter>(
     alloc: Global,
     conn: &mut Connection<S>,

@@ -1,4 +1,4 @@
-//! Where duties stand.
+//! The standings of duties.
 
 ghost use Rattle.std.specs.Prelude.{◌≡◌, false, OnOk, filter, map, length};
 ghost use Rattle.std.specs.List.{filter_map, last_or};
@@ -20,7 +20,7 @@ use desk_sql_layout::values::duty_state;
 use sqlite::{Alter, Connection};
 use std::alloc::{AllocError, Global};
 
-/// Where a duty stands.
+/// The standing of a duty.
 fn standing<S: Alter>(
     conn: &mut Connection<S>,
     duties: u32,
@@ -37,7 +37,7 @@ fn standing<S: Alter>(
     })
 }
 
-/// Where duties stand, each looked up by itself.
+/// The standings of duties, each looked up separately.
 fn each_standing<S: Alter>(
     alloc: Global,
     conn: &mut Connection<S>,
@@ -54,8 +54,8 @@ fn each_standing<S: Alter>(
     Ok(found)
 }
 
-/// Where duties stand. Those that a freeze raised are numbered one after the other, so that their
-/// changes are looked up together.
+/// The standings of duties. Those that a freeze raised have consecutive numbers, so their changes
+/// are looked up together.
 fn standings<S: Alter>(
     alloc: Global,
     conn: &mut Connection<S>,
@@ -91,7 +91,7 @@ fn states_of<S: Alter>(
     )
 }
 
-/// Where the duties of a release stand, by number, of so many duties.
+/// The standings of the duties of a release, by number, if there are this many duties.
 pub fn standings_of<S: Alter>(
     alloc: Global,
     conn: &mut Connection<S>,
@@ -118,7 +118,7 @@ fn waived<S: Alter>(alloc: Global, conn: &mut Connection<S>) -> Result<Vec<DutyR
     )
 }
 
-/// The last day of the last change, if that is a waiver that ends.
+/// The last day of the last change, if it is a waiver that ends.
 fn end_of(changes: &[ChangeRow]) -> Option<Day>
     ensures { result ≡ option_and_then (λ change. change.last_day) (last_or None changes.now) }
 {
@@ -128,7 +128,7 @@ fn end_of(changes: &[ChangeRow]) -> Option<Day>
     }
 }
 
-/// Whether the last change is a waiver up to a day before this one.
+/// Whether the last change is a waiver whose last day is before this one.
 fn has_end_before(changes: &[ChangeRow], day: Day) -> bool
     ensures { result ≡ has_end_before day changes.now }
 {
@@ -138,7 +138,7 @@ fn has_end_before(changes: &[ChangeRow], day: Day) -> bool
     }
 }
 
-/// Where a duty stands, if its last change is a waiver up to a day before this one.
+/// The standing of a duty, if its last change is a waiver whose last day is before this one.
 fn standing_if_ended<S: Alter>(
     alloc: Global,
     conn: &mut Connection<S>,
@@ -188,8 +188,8 @@ fn ended_among<S: Alter>(
     Ok(found)
 }
 
-/// Where the duties stand that are waived up to a day before this one, by number, of so many
-/// duties.
+/// The standings of the duties whose waivers have a last day before this one, by number, if there
+/// are this many duties.
 pub fn ended<S: Alter>(
     alloc: Global,
     conn: &mut Connection<S>,

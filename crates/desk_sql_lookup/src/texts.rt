@@ -18,7 +18,7 @@ use desk_sql_layout::values::number;
 use sqlite::{Alter, Connection, Row};
 use std::alloc::Global;
 
-/// The text of each revision with a number: of one, or there is none.
+/// The text of each revision with a number: there is one, or none.
 fn catalogue_texts<S: Alter>(
     alloc: Global,
     conn: &mut Connection<S>,
@@ -43,7 +43,7 @@ fn first_of(texts: Vec<Text>) -> Option<Text>
     texts.into_iter().next()
 }
 
-/// The text of a revision of the catalogue, of so many revisions.
+/// The text of a revision of the catalogue, if there are this many revisions.
 #[tactic(auto, using(crate::proofs::Loops::first_mapped))]
 pub fn catalogue_text<S: Alter>(
     alloc: Global,
@@ -74,7 +74,7 @@ fn select_extracted<S: Alter>(
     )
 }
 
-/// The text of the first reference; none where it has none, or there is no reference.
+/// The text of the first reference, if there is a reference and it has a text.
 fn first_body(alloc: Global, rows: &[Row]) -> Result<Option<Text>, Fault>
     ensures value { IfOk result (λ found. (xs : List Extracted)
         → rows.now ≡ map extracted_body_cells xs

@@ -1,4 +1,4 @@
--- What asking for rows does, one after another.
+-- What one request for rows after another does.
 use Rattle.std.proofs.Common.{◌≡◌, ◌⊎◌, inl, inr, ◌∙◌, Ok, Err, Result, IsTrue, List, ℕ, sym}
 use Rattle.sqlite_value.specs.Order.{Row}
 use Rattle.sqlite.specs.declared.error.Error.{Error}
@@ -29,7 +29,7 @@ spared_then a b c one two =
           two.now clean (λ is. same.0.now_is ∙ settled same.0.was_open ∙ sym same.0.committed_is) is ∙ same.0.now_is;
     }
 
--- of a connection of which all is committed
+-- if the connection shows only what is committed
 pub read_outside : {A : Type 0} (old new : State) (r : Result A Fault) → IsSettled old → HasAsked old new r → HasRead old new r
 read_outside old new (Ok x) settled it = (
   record {

@@ -1,4 +1,5 @@
--- The revisions and rules of the catalogue, and the version of the tables: what is shown where all of them are asked for.
+-- The revisions and rules of the catalogue, and the version of the tables: what is shown when all of them are
+-- asked for.
 use Rattle.desk_sql_layout.specs.Layout as d
 use Rattle.std.proofs.Common.{◌≡◌, ℕ, pos, List, [], ◌∷◌, map, codes, refl}
 use Rattle.std.specs.Ordering.{int_cmp, nat_cmp}

@@ -1,4 +1,4 @@
--- That reading all rows of a table fails only with a cause.
+-- Reading all rows of a table fails only for a cause.
 use Rattle.std.proofs.Common.{◌≡◌, ◌⊎◌, inl, inr, ℕ, List, [], IfErr, Option, Some, None, Ok, Err, Result, sym, subst, ◌∙◌, arith}
 use Rattle.std.specs.Prelude.{IsSome}
 use Rattle.std.proofs.lemmas.Result.{IfErr-weaker}
@@ -31,7 +31,7 @@ failed_scan_inside sql old new bare asked e fails = failed_scan sql old new aske
     in_time (inl failed) = failed
     in_time (inr late) = absurd (none_some late.0.returning (bare old.now.schema late.0 late.1.is) late.2)
 
--- a call after another failed
+-- a call after another one failed
 pub scan_after : (a b c : State) → Stays a b → (HasCleanDisk c → HasCleanDisk b) → (fault : Fault) → ScanFailsFor b c fault → ScanFailsFor a c fault
 scan_after a b c one honest fault two = record {
   cause = λ clean opened unlimited t holds written any.
@@ -47,7 +47,7 @@ pub asked_clean : {A : Type 0} (old new : State) (r : Result A Fault) → HasAsk
 asked_clean old new (Ok x) it = clean_before old new (λ _. ⊥) it.0
 asked_clean old new (Err e) it = clean_before old new (λ _. ⊥) it.survives
 
--- of a connection outside a transaction
+-- for a connection outside a transaction
 pub scan_cause : (old new : State) → (HasCleanDisk new → HasCleanDisk old) → {A : Type 0} (r : Result A Fault) → IfErr r (ScanFailsFor old new) → IfErr r (HasCause old new)
 scan_cause old new honest r = IfErr-weaker r (ScanFailsFor old new) (HasCause old new) (λ fault has. record {
   cause = λ clean opened unlimited t holds written any. has.cause clean opened unlimited t (holds (honest clean) opened).holds written tt;

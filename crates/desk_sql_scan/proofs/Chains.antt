@@ -34,7 +34,7 @@ module _ {S : Type 0} (g : Ghosts S) where
     cause = scan_after (g.shows a) (g.shows b) (g.shows c) one.asked (clean_before (g.shows b) (g.shows c) (λ _. ⊥) two.spared.survives) fault two.cause;
   }
 
-  -- `?` hands the fault on
+  -- `?` returns the fault
   pub hands_on : {A : Type 0} (Raw : A → Database → Type 0) (Is : A → Tables → Type 0) {old new : S} (r : Result A Fault) {fault : Fault} → IsErrAnd r (λ e. e ≡ fault) → Fails old new fault → Scans g old new r Raw Is
   hands_on Raw Is (Ok x) is it = absurd is
   hands_on Raw Is (Err e) is it = record { ok = tt; asked = it.spared; ready = it.ready; same_reference = it.same_reference; cause = rw is it.cause }

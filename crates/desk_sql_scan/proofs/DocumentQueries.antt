@@ -1,4 +1,4 @@
--- Documents, their profiles, packages and extracted licences: what is shown where all of them are asked for.
+-- Documents, their profiles, packages and extracted licences: what is shown when all of them are asked for.
 use Rattle.desk_sql_layout.specs.Layout as d
 use Rattle.std.proofs.Common.{◌≡◌, ℕ, List, [], ◌∷◌, map, codes, refl}
 use Rattle.std.specs.Ordering.{int_cmp, nat_cmp}

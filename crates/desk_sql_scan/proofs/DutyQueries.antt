@@ -1,4 +1,4 @@
--- Duties, their changes, and the last days of waivers: what is shown where all of them are asked for.
+-- Duties, their changes, and the last days of waivers: what is shown when all of them are asked for.
 use Rattle.desk_sql_layout.specs.Layout as d
 use Rattle.std.proofs.Common.{◌≡◌, ℕ, List, [], ◌∷◌, map, filter, codes, refl}
 use Rattle.std.specs.Ordering.{int_cmp}

@@ -1,4 +1,5 @@
--- A database that has a snapshot's rows holds them as cells, where the rows of its tables stand by their rowids.
+-- A database that has a snapshot's rows holds them as cells, if the rows of its tables are in the order of
+-- their rowids.
 use Rattle.std.proofs.Common.{◌≡◌, true, List, map, IsPermutation}
 use Rattle.std.specs.List.{AllByRecursion}
 use Rattle.sqlite_value.specs.Order.{Row}

@@ -1,4 +1,4 @@
--- Conclusions and adoptions of the office: what is shown where all of them are asked for.
+-- Conclusions and adoptions of the office: what is shown when all of them are asked for.
 use Rattle.desk_sql_layout.specs.Layout as d
 use Rattle.std.proofs.Common.{◌≡◌, ℕ, List, [], ◌∷◌, map, codes, refl}
 use Rattle.std.specs.Ordering.{nat_cmp}

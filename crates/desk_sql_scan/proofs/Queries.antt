@@ -1,4 +1,5 @@
--- A query for all rows of a table, in the order of its key: what it tells, once it is known what the library makes of its text.
+-- A query for all rows of a table, in the order of its key: what it shows, once it is known what the library
+-- makes of its text.
 use Rattle.std.proofs.Common.{◌≡◌, ℕ, true, false, List, [], ◌∷◌, map, Some, Result, refl, sym, subst, Ordering, is_lt, IsPermutation, get_or}
 use Rattle.std.specs.Prelude.{slice_get}
 use Rattle.std.specs.List.{AllByRecursion}
@@ -32,7 +33,8 @@ use Rattle.desk_sql_scan.specs.declared.source.Source.{Ghosts}
 use Rattle.desk_sql_scan.proofs.Scanning.{sorted_by, scanned, is_held, all_written}
 use Rattle.desk_sql_scan.proofs.Telling.{scan_told}
 
--- whoever reads what the text shows, reads the rows of the table in their order, and this is so of the tables
+-- whoever reads what the text shows reads the rows of the table in their order, and this is true of the
+-- tables
 abbrev pub TellsRows : {S A : Type 0} → Ghosts S → List ℕ → ℕ → Table → (A → Row) → (A → A → Ordering) → (List A → Tables → Type 0) → Type 0
 TellsRows {S} {A} g text width table cells_of order Is =
     (old new : S) (r : Result (List A) Fault) → Lists g text width cells_of old new r → Scans g old new r (IsScan table cells_of order) Is
@@ -43,11 +45,11 @@ module _ {S : Type 0} (g : Ghosts S) (table : Table) (place : ℕ) (listed : sli
   abbrev this : Table
   this = as_declared table
 
-  -- those that are held stand in order
+  -- those that are held are in order
   abbrev pub Rise : Tables → Type 0
   Rise t = IsAscending (λ a b. is_lt (order (stored_of b) (stored_of a)) ≡ false) (xs t)
 
-  -- what is so of the tables follows from it
+  -- what is true of the tables follows from it
   abbrev Tells : (List A → Tables → Type 0) → Type 0
   Tells Is = (rows : List A) (t : Tables) → AreOrderly t → (Rise t → rows ≡ map stored_of (xs t)) → Is rows t
 

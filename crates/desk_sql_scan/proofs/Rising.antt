@@ -1,4 +1,4 @@
--- Rows that are held stand in the order of their tables' keys, as they do where they are read.
+-- Rows that are held are in the order of their tables' keys, as they are when they are read.
 use Rattle.std.proofs.Common.{◌≡◌, ℕ, pos, Bool, false, List, [], ◌∷◌, refl, sym, ap, ◌∙◌, arith, is_lt}
 use Rattle.std.specs.Prelude.{◌&&◌, ◌||◌, ◌==◌, nat_lt}
 use Rattle.std.specs.Cmp.{IsTotalOrder}
@@ -45,7 +45,7 @@ two_lower a b o = grind (arith, nat_tests)
 in_order : {X : Type 0} (below : X → X → Bool) (cmp : X → X → Ordering) (xs : List X) → ((a b : X) → is_lt (cmp a b) ≡ below a b) → Ascends below xs → IsAscending (λ a b. is_lt (cmp b a) ≡ false) xs
 in_order below cmp xs same up = ascending_weaker (λ a b. below b a ≡ false) (λ a b. is_lt (cmp b a) ≡ false) (λ a b h. same b a ∙ h) xs (ascends below xs up)
 
--- rows of which each goes before those behind it
+-- rows, each of which comes before those after it
 falls : {X : Type 0} {order : X → X → Ordering} → IsTotalOrder order → (xs : List X) → Rises (below_by order) xs → Ascends (below_by order) xs
 falls total [] up = tt
 falls total (x ∷ xs) up = (λ y there. (order_of total).asym x y (up.0 y there), falls total xs up.1)

@@ -49,12 +49,13 @@ each (x ∷ xs) = (refl, each xs)
 same_map : {X Y : Type 0} (f g : X → Y) → ((x : X) → f x ≡ g x) → (xs : List X) → map f xs ≡ map g xs
 same_map f g same xs = λ i. map (λ x. same x i) xs
 
--- the order of columns of which the first is written as `+column`: so no index gives it, whose rows are sought one by one
+-- the order of columns, the first of which is written as `+column`: so it isn't taken from an index, by which
+-- rows are sought one by one
 abbrev pub sorted_by : List ℕ → List (Term × Key)
 sorted_by [] = []
 sorted_by (p ∷ ps) = (op2 Coalesce (col 1 p) (lit Null), ascending Binary) ∷ order_by ps
 
--- what stands there is what stands in the column
+-- this is the value in the column
 pub itself : (v : Value) → binary Coalesce v Null ≡ v
 unfolding binary
 itself Null = refl
@@ -119,14 +120,14 @@ module _ (table : Table) where
         let up = from_sorted (output_cmp asked) (output_cmp_total asked) answer.ordered answer.sorted in
         ascending_from_map (λ a b. is_lt (output_cmp asked b a) ≡ false) of_cells rows (subst (IsAscending (λ a b. is_lt (output_cmp asked b a) ≡ false)) (sym ordered_are) up)
 
-    -- what is shown stands in the table
+    -- what is shown is in the table
     shown_are : IsPermutation (map (cells this) (db.trees table.tree)) shown
     shown_are =
         let second = λ (o : Output). o.1 in
         let left : map second (map out (db.trees table.tree)) ≡ map (cells this) (db.trees table.tree) = map-map second out (db.trees table.tree) ∙ same_map (λ r. second (out r)) (cells this) (λ r. ap second (acts r)) (db.trees table.tree) in
         subst₂ (λ a b. IsPermutation a b) left (sym answer.shown) (IsPermutation-map second _ _ outs_are)
 
-    -- it can be read, where the rows that are held are such as a desk writes them
+    -- it can be read, if the rows that are held are as a desk writes them
     pub all_written : {A X : Type 0} (cells_of : A → Row) (stored_of : X → A) (xs : List X) → IsPermutation (map (λ x. cells_of (stored_of x)) xs) (map (cells this) (db.trees table.tree))
         → AllByRecursion IsRow (map (λ x. cells_of (stored_of x)) xs) → AllByRecursion (AreCells cells_of) shown
     all_written {A} {X} cells_of stored_of xs same written =
@@ -146,7 +147,7 @@ module _ (table : Table) where
             ascending_weaker (λ a b. is_lt (by_key (cells_of b) (cells_of a)) ≡ false) (λ a b. is_lt (order b a) ≡ false) (λ a b h. ap is_lt (sym (agrees b a)) ∙ h) found up;
       }
 
-      -- they are the rows that are held, where these stand in order
+      -- they are the rows that are held, if these are in order
       module _ (apart : AreApart ps (db.trees table.tree)) (picks : (r : Row) → pick (cells this r) ≡ picked ps r) {X : Type 0} (stored_of : X → A) (xs : List X)
           (same : IsPermutation (map (λ x. cells_of (stored_of x)) xs) (map (cells this) (db.trees table.tree))) (sorted : IsAscending (λ a b. is_lt (order (stored_of b) (stored_of a)) ≡ false) xs)
           (back : Row → A) (inverse : (a : A) → back (cells_of a) ≡ a) where

@@ -1,4 +1,4 @@
--- What a query for all rows of a table tells, of the database that is shown and of the tables that it holds.
+-- What a query for all rows of a table shows, of the database and of the tables that it holds.
 use Rattle.std.proofs.Common.{◌≡◌, ℕ, List, [], map, false, refl, sym, ap, subst, ◌∙◌, Ok, Err, Result, IfOk}
 use Rattle.std.specs.List.{AllByRecursion}
 use Rattle.std.proofs.lemmas.Result.{IfErr-weaker}
@@ -40,7 +40,7 @@ module _ (text : List ℕ) (asks : Asks text) (known : IsPlain (understood desk_
       reads : old.now.schema ≡ desk_schema → (clean : HasCleanDisk new) → Reads (command_of (understood desk_schema text)) old.now [] (it clean).0
       reads has clean = let o = it clean in reads_as text [] old new desk_schema has (command_of (understood desk_schema text)) refl known.0 known.1 o.0 o.1
 
--- what comes of a query's rows that are read
+-- the outcome when a query's rows are read
 module _ (text : List ℕ) (asks : Asks text) (asked : IsAsked text []) (known : IsPlain (understood desk_schema text) × (reads_listing desk_schema text ≡ false)) {A : Type 0} (width : ℕ) (cells_of : A → Row)
     {S : Type 0} (g : Ghosts S) (old new : S) (r : Result (List A) Fault) (it : Lists g text width cells_of old new r) where
   abbrev before : State

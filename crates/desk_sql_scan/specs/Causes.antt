@@ -14,8 +14,9 @@ use Rattle.desk_sql_lookup.specs.Causes.{AreWritten, IsRow}
 abbrev pub AreCells : {A : Type 0} → (A → Row) → Row → Type 0
 AreCells {A} cells_of row = IsRow row × ((x : A) × (row ≡ cells_of x))
 
--- With rows as a desk writes them, and no limit on the steps of a query, reading fails only if no memory is left, or with a fault of the
--- database as the disk failed once more: of what is shown, committed or not. `Given` is what its caller says besides.
+-- If the rows that are shown, committed or not, are as a desk writes them, and the steps of a query have no
+-- limit, reading fails only if no memory is left, or with a fault of the database if the disk failed once
+-- more. `Given` is what its caller says besides.
 pub record ScanFailsIf (Given : Type 0) (old new : State) (fault : Fault) : Type 0 where
   pub cause : HasCleanDisk new → IsTrue old.is_open → old.step_limit ≡ None → (t : Tables) → Holds t old.now → AreWritten t → Given → (fault ≡ Memory) ⊎ ((fault ≡ Store DatabaseFault) × MoreFaults old.faults new.faults)
 

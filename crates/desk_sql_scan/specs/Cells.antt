@@ -1,4 +1,4 @@
--- The cells of each row as it stands, in the order of its table's columns.
+-- The cells of each row as it is, in the order of its table's columns.
 use Rattle.std.specs.Prelude.{ℕ, [], ◌∷◌, map}
 use Rattle.std.specs.List.{range_with_len}
 use Rattle.sqlite_value.specs.declared.value.Value.TheVariants.{Int, Text, Blob}
@@ -21,7 +21,7 @@ use Rattle.desk_snapshot.specs.declared.rows.StoredRelease.{StoredRelease}
 use Rattle.desk_snapshot.specs.declared.rows.StoredRule.{StoredRule}
 use Rattle.desk_snapshot.specs.declared.rows.StoredWaiver.{StoredWaiver}
 
--- the first so many columns of a row
+-- the first `width` columns of a row
 abbrev pub columns_of : ℕ → Row → Row
 columns_of width row = map (column row) (range_with_len 0 width)
 

@@ -1,4 +1,4 @@
--- What the parts of a snapshot are of a database, and of the tables that it holds.
+-- What the parts of a snapshot have of a database, and of the tables that it holds.
 use Rattle.std.specs.Prelude.{◌≡◌, pos, [], ◌∷◌, map, filter}
 use Rattle.sqlite.specs.Effect.{Database}
 use Rattle.desk_history.specs.Laws.{AreSortedAsListed}

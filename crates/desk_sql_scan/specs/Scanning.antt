@@ -1,4 +1,4 @@
--- What asking for all rows of a table does to what is asked.
+-- What asking for all rows of a table does to the source.
 use Rattle.std.specs.Prelude.{◌≡◌, ℕ, List, [], IfErr, IfOk, Result}
 use Rattle.std.specs.List.{AllByRecursion}
 use Rattle.sqlite_value.specs.Order.{Row}
@@ -19,10 +19,11 @@ pub record Lists {S A : Type 0} (g : Ghosts S) (sql : List ℕ) (width : ℕ) (c
   pub asked : Asks sql → HasAsked (g.shows old) (g.shows new) result
   pub ready : g.is_ready new
   pub same_reference : g.name new ≡ g.name old
-  -- where whatever is shown are the cells of such rows
+  -- if whatever is shown are the cells of such rows
   pub cause : Asks sql → IsAsked sql [] → IfErr result (ScanFailsIf ((rows : List Row) → Shown sql [] (g.shows old) (g.shows new) rows → AllByRecursion (AreCells cells_of) rows) (g.shows old) (g.shows new))
 
--- Tables are read. `Raw` is what the rows are of the database that is shown, and `Is` of the tables that it holds.
+-- Tables are read. `Raw` says what was read of the database that is shown, and `Is` what was read of the
+-- tables that it holds.
 pub record Scans {S A : Type 0} (g : Ghosts S) (old new : S) (result : Result A Fault) (Raw : A → Database → Type 0) (Is : A → Tables → Type 0) : Type 0 where
   pub ok : IfOk result (λ x. IsRead (Raw x) (Is x) (g.shows old) (g.shows new))
   pub asked : HasAsked (g.shows old) (g.shows new) result

@@ -20,7 +20,7 @@ use Rattle.desk_snapshot.specs.declared.snapshot.Snapshot.{Snapshot}
 use Rattle.desk_sql_scan.specs.Cells.{columns_of, stored_meta_cells, stored_catalogue_cells, stored_rule_cells, stored_document_cells, stored_reading_cells, stored_package_cells, stored_extracted_cells, stored_conclusion_cells, stored_adoption_cells, stored_release_cells, stored_attached_cells, stored_choice_cells, stored_frozen_cells, stored_duty_cells, stored_change_cells, stored_waiver_cells}
 use Rattle.desk_sql_scan.specs.Orders.{meta_order, catalogue_order, rule_order, document_order, extracted_order, adoption_order, duty_order}
 
--- no row stands behind one that it goes before
+-- no row comes after one that it should come before
 abbrev pub IsInOrder : {A : Type 0} → (A → A → Ordering) → List A → Type 0
 IsInOrder order = IsAscending (λ a b. is_lt (order b a) ≡ false)
 
@@ -48,7 +48,7 @@ pub record IsSnapshot (s : Snapshot) (db : Database) : Type 0 where
   pub changes : IsScan change_table stored_change_cells change_order s.changes db
   pub waiver : IsScan waiver_table stored_waiver_cells waiver_order s.waiver db
 
--- the rows of the table with a tree, as cells
+-- the rows, as cells, of the table with this tree
 abbrev pub stored_rows : Snapshot → ℕ → List Row
 stored_rows s tree =
     if tree == meta_table.tree then map stored_meta_cells s.meta
@@ -68,16 +68,16 @@ stored_rows s tree =
     else (if tree == reading_table.tree then map stored_reading_cells s.reading
     else map stored_waiver_cells s.waiver))))))))))))))
 
--- the rows of each table stand by their rowids, as every store keeps them
+-- the rows of each table are in the order of their rowids, as every store keeps them
 abbrev pub AreTables : Schema → Trees → Type 0
 AreTables schema trees = AllByRecursion (λ t. IsTable (trees t.tree) × AllByRecursion (λ r. is_int (rowid r) ≡ true) (trees t.tree)) schema.tables
 
--- these are the rows whose cells a query with no parameters shows, as far as they have so many columns
+-- these are the rows whose cells a query with no parameters shows, in its first `width` columns
 abbrev pub IsShown : {A : Type 0} → List ℕ → ℕ → (A → Row) → List A → State → State → Type 0
 IsShown sql width cells_of rows old new = (shown : List Row) × Shown sql [] old new shown × (map (columns_of width) shown ≡ map cells_of rows)
 
--- What was read of a connection, which stays as it is: so it is of the database with a desk's schema that it shows, and so it is of each
--- tables that this holds.
+-- What was read from a connection, which stays as it was: it is true of the database that the connection
+-- shows, if that has a desk's schema, and of whatever tables the database holds.
 pub record IsRead (Raw : Database → Type 0) (Is : Tables → Type 0) (old new : State) : Type 0 where
   pub survives : Survives old new (λ _. ⊥)
   pub same : HasCleanDisk new → IsUnchanged old new

@@ -16,7 +16,7 @@ use desk_sorted::Keyed;
 use sqlite::Row;
 use std::alloc::Global;
 
-/// A row of one of the desk's tables as it stands.
+/// A row of one of the desk's tables as it is.
 pub(crate) trait Stored: Sized {
     /// How many columns the table has.
     ghost width: { ℕ };
@@ -24,14 +24,14 @@ pub(crate) trait Stored: Sized {
     /// The cells of the row.
     ghost cells: { Self → Cells };
 
-    /// The row that shows these cells.
+    /// The row with these cells.
     fn read(alloc: Global, row: &Row) -> Result<Self, Fault>
         ensures value { IfOk result (λ found. columns_of width row.now ≡ cells found) }
         ensures cause { IfErr result (λ fault. (x : Self) → row.now ≡ cells x → IsRow row.now
             → fault ≡ Fault.Memory) };
 }
 
-/// The rows whose cells these are. Each is let go as soon as it is read, so that no table is held
+/// The rows whose cells these are. Each is dropped as soon as it is read, so that no table is held
 /// twice.
 fn read_all<T: Stored + Drop>(alloc: Global, rows: Vec<Row>) -> Result<Vec<T>, Fault>
     ensures value { IfOk result (λ found.

@@ -1,4 +1,4 @@
-//! What can be asked for rows: a connection, or a transaction that goes on.
+//! What can be asked for rows: a connection, or a transaction that is still open.
 
 ghost use Rattle.std.specs.Prelude.{◌≡◌, false, [], IfErr, IfOk};
 ghost use Rattle.std.specs.Borrow.{GName};
@@ -21,12 +21,12 @@ pub(crate) trait Source {
     /// Whether it may be asked.
     ghost is_ready: { Self → Type 0 };
 
-    /// What names it where it is lent.
+    /// What names it when it is lent.
     ghost Name: { Type 0 };
 
     ghost name: { Self → Name };
 
-    /// The rows of a query with no parameters. The database may be none of a desk's.
+    /// The rows of a query with no parameters. The database may not be a desk's.
     fn query(&mut self, sql: &str) -> Result<Vec<Row>, Fault>
         requires { is_ready self.old }
         ensures shown { HasCleanDisk (shows self.new)

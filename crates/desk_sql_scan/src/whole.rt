@@ -28,7 +28,7 @@ use sqlite::{Alter, Connection, Transaction};
 use std::alloc::Global;
 
 /// The documents, whose bytes are the largest cells, and the duties with their changes, which are
-/// most of a desk's rows. Each table is held twice while its rows are read, so these come first,
+/// most of a desk's rows. All cells of a table are held until they are read, so these come first,
 /// while little else is held.
 #[derive(Drop)]
 struct FirstPart {
@@ -36,7 +36,7 @@ struct FirstPart {
     duties: DutyPart,
 }
 
-/// The catalogue, what the office decided of documents, and the releases.
+/// The catalogue, what the office decided about documents, and the releases.
 #[derive(Drop)]
 struct SecondPart {
     catalogues: CataloguePart,
@@ -44,7 +44,7 @@ struct SecondPart {
     releases: ReleasePart,
 }
 
-/// The tables of the first part, read.
+/// Reads the tables of the first part.
 fn first_part<R: Source>(alloc: Global, source: &mut R) -> Result<FirstPart, Fault>
     requires { R.is_ready source.old }
     ensures { Scans R.Source source.old source.new result
@@ -57,7 +57,7 @@ fn first_part<R: Source>(alloc: Global, source: &mut R) -> Result<FirstPart, Fau
     })
 }
 
-/// The tables of the second part, read.
+/// Reads the tables of the second part.
 fn second_part<R: Source>(alloc: Global, source: &mut R) -> Result<SecondPart, Fault>
     requires { R.is_ready source.old }
     ensures { Scans R.Source source.old source.new result
@@ -116,9 +116,10 @@ fn read_whole<R: Source>(alloc: Global, source: &mut R) -> Result<Snapshot, Faul
 
 /// Reads all rows of a desk's tables, each table in the order of its key.
 ///
-/// Where the connection shows a database with a desk's schema, whatever its rows, the snapshot has
-/// them (`raw`); where it holds a desk's tables, the snapshot is theirs (`found`). A fault tells
-/// want of memory, that the database refused, or that a cell is none of its column's.
+/// If the connection shows a database with a desk's schema, whatever its rows, the snapshot has
+/// them (`raw`); if it holds a desk's tables, the snapshot is theirs (`found`). The fault is that
+/// no memory was left, that the database failed, or that a cell has a value that its column never
+/// has in a desk.
 pub fn snapshot<S: Alter>(alloc: Global, conn: &mut Connection<S>) -> Result<Snapshot, Fault>
     requires { conn.old.in_transaction ≡ false }
     ensures raw { HasCleanDisk (state S.Store conn.new)
@@ -134,10 +135,9 @@ pub fn snapshot<S: Alter>(alloc: Global, conn: &mut Connection<S>) -> Result<Sna
     read_whole(alloc, conn)
 }
 
-/// Reads all rows of a desk's tables inside a transaction, as `snapshot` does: of what the
-/// transaction shows.
+/// Reads all rows of a desk's tables that a transaction shows, as `snapshot` does.
 ///
-/// The transaction goes on. After a fault it may be undone.
+/// The transaction stays open. After a fault it may be undone.
 pub fn snapshot_inside<S: Alter>(
     alloc: Global,
     tx: &mut Transaction<'_, S>,

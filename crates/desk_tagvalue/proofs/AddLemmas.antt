@@ -41,14 +41,14 @@ pub stops_back : (ls ms : List LineText) (e : WriteFault) → IsStopped ms e →
 stops_back ls ms e (inl m) = inl m
 stops_back ls ms e (inr b) = inr (b.0, λ all. b.1 (all_back Stands ls ms all))
 
--- the lines of a file by its texts
+-- the lines of a file, from its texts
 pub file_texts : (k : ℕ) (f : DraftFile) (name id checksum : List ℕ) → name ≡ codes "./" ++ f.path → id ≡ codes "SPDXRef-File-" ++ decimal k → checksum ≡ codes "SHA1: " ++ encode_lower f.digest
     → lines_of_file name id checksum f ≡ file_lines k f
 file_texts k f name id checksum is_name is_id is_checksum =
     ap (λ n. lines_of_file n id checksum f) is_name ∙ ap (λ i. lines_of_file (codes "./" ++ f.path) i checksum f) is_id
     ∙ ap (λ s. lines_of_file (codes "./" ++ f.path) (codes "SPDXRef-File-" ++ decimal k) s f) is_checksum
 
--- the lines of a file, and of those behind it
+-- the lines of a file, and of those after it
 pub one_file : (k : ℕ) (files : List DraftFile) (i : ℕ) (d : DraftFile) → i < length files → files_lines k (drop i files) ≡ file_lines k (get_or files i d) ++ files_lines (k + 1) (drop (i + 1) files)
 one_file k files i d lt = ap (files_lines k) (drop_more files i d lt)
 

@@ -20,7 +20,7 @@ entry n tag value = record { line = n; tag = tag; value = value }
 abbrev pub file_id : ℕ → List ℕ
 file_id k = codes "SPDXRef-File-" ++ decimal k
 
--- the fields of a file, wherever its lines stand
+-- the fields of a file, wherever its lines are
 abbrev pub file_entries : ℕ → DraftFile → ℕ → ℕ → ℕ → ℕ → ℕ → List EntryText → List EntryText
 file_entries k f a b c d e rest =
     entry a tags.FileName (codes "./" ++ f.path) ∷ entry b tags.Identifier (file_id k) ∷ entry c tags.FileChecksum (codes "SHA1: " ++ encode_lower f.digest)
@@ -60,7 +60,7 @@ entries_of_files n k (f ∷ fs) =
       entries_of_files g (k + 1) fs,
     )
 
--- the fields of the document and its package, wherever their lines stand
+-- the fields of the document and its package, wherever their lines are
 pub record Places : Type 0 where
   pub a : ℕ
   pub b : ℕ

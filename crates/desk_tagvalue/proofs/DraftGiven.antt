@@ -23,7 +23,7 @@ use Rattle.desk_tagvalue.proofs.DraftEntries.{entry, file_id, AreFileEntries, Pl
 use Rattle.desk_tagvalue.proofs.DraftRead.{draft_sound}
 use Rattle.desk_tagvalue.proofs.LinesReread.{draft_again}
 
--- an element whose next field is its identifier has one
+-- an element whose next field is its identifier doesn't lack one
 present : (n : ℕ) (v : List ℕ) (es : List EntryText) → is_absent tags.Identifier (head_of (entry n tags.Identifier v ∷ es)) ≡ false
 present n v es = ap (is_absent tags.Identifier) (head_inside (entry n tags.Identifier v) es refl)
 

@@ -34,7 +34,7 @@ behind_head d p =
 pub head_sound : (d : Draft) (p : Places) (rest : List EntryText) → first_fault [] (head_entries d p rest) ≡ first_fault (behind_head d p) rest
 head_sound d p rest = refl
 
--- the identifier of a file is one, and no other file's
+-- a file's identifier has its form, and is no other file's
 digit_fits : (m : ℕ) → m < 10 → is_idstring_byte (48 + m) ≡ true
 digit_fits m lt = grind (arith, nat_tests)
 
@@ -132,6 +132,6 @@ files_sound k (f ∷ fs) es before is h room =
     ap (first_fault before) is.6 ∙ file_sound k f is.0 is.1 is.2 is.3 is.4 is.5 before h lt
     ∙ files_sound (k + 1) fs is.5 (behind_file k f is.0 is.1 is.2 is.3 is.4 before) is.7 (file_before k f is.0 is.1 is.2 is.3 is.4 before h lt) (omega arith)
 
--- a draft's fields have no fault of their own
+-- none of a draft's fields fails
 pub draft_sound : (d : Draft) (p : Places) (rest : List EntryText) → AreFileEntries 1 d.files rest → length d.files ≤ 9999 → first_fault [] (head_entries d p rest) ≡ None
 draft_sound d p rest is room = head_sound d p rest ∙ files_sound 1 d.files rest (behind_head d p) is (head_before d p) (omega arith)

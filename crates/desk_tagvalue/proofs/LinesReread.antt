@@ -1,4 +1,4 @@
--- Lines that are read back alone are read back together.
+-- Lines that are each read back alone are read back together.
 use Rattle.std.proofs.Common.{◌≡◌, inr, ℕ, ◌+◌, ◌-◌, ◌≤◌, List, [], ◌∷◌, ◌++◌, sym, subst, refl, arith, Ok, append_assoc}
 use Rattle.std.specs.Prelude.{All, codes}
 use Rattle.std.proofs.lemmas.List.Elements.{All-get_or, All-tail}

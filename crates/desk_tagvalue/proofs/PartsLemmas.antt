@@ -1,4 +1,4 @@
--- The parts of a document, a field at a time.
+-- The parts of a document, one field at a time.
 use Rattle.std.proofs.Common.{◌≡◌, ◌∙◌, ℕ, suc, ◌+◌, ◌<◌, List, [], ◌∷◌, ◌++◌, length, drop, take, get_or, sym, ap, refl, arith, Bool, true, false, cond, append_assoc}
 use Rattle.std.specs.Prelude.{map, filter, not, is_some}
 use Rattle.std.specs.List.{prefix_len}
@@ -19,7 +19,7 @@ pub head_inside : (e : EntryText) (es : List EntryText) → begins e ≡ false �
 head_inside e es h =
     ap (λ b. take (cond (not b) (1 + prefix_len is_inside es) 0) (e ∷ es)) h ∙ take_next (prefix_len is_inside es) e es
 
--- the head of what is left, behind what is passed over
+-- the head of what is left, after what was passed over
 pub head_step : (xs : List Entry) (i : ℕ) (d : Entry) (all : List EntryText) → i < length xs → begins (entry_text (get_or xs i d)) ≡ false
     → all ≡ map entry_text (take i xs) ++ head_of (map entry_text (drop i xs)) → all ≡ map entry_text (take (i + 1) xs) ++ head_of (map entry_text (drop (i + 1) xs))
 head_step xs i d all lt inside inv =

@@ -1,4 +1,4 @@
--- Bytes spell one document.
+-- Bytes spell only one document.
 use Rattle.std.proofs.Common.{◌≡◌, ◌∙◌, ℕ, ◌<◌, ◌≤◌, List, [], ◌∷◌, ◌++◌, length, sym, subst, ap, refl, arith, Bool, true, false, cond, Option, Some, None, Result, Ok, Err, ◌⊎◌, inl, inr, IsUtf8}
 use Rattle.std.specs.Prelude.{map, not, ◌&&◌, IfOk, IfErr}
 use Rattle.desk_fields.specs.declared.tag.Tag.TheVariants as tags
@@ -23,7 +23,7 @@ pub one_entry_more : (es : List Entry) (e : Entry) (fs : List FieldText) (f : Fi
     → map entry_text (es ++ (e ∷ [])) ≡ map read_entry (fs ++ (f ∷ []))
 one_entry_more es e fs f h k = map-append entry_text es (e ∷ []) ∙ (λ i. h i ++ (k i ∷ [])) ∙ sym (map-append read_entry fs (f ∷ []))
 
--- what the fields that were cut are judged to be
+-- bytes spell what the fields that were cut from them are judged to be
 pub spells_judged : (bytes text : List ℕ) (es : List EntryText) (r : Result DocumentText DocFault) → length bytes ≤ document_bytes → IsUtf8 bytes → text ≡ bytes → AreEntries text es
     → judged es ≡ r → Spells bytes r
 spells_judged bytes text es r small utf8 same h is =
@@ -90,7 +90,7 @@ spells_once bytes a b (fields n gs h v s) k =
       | cut fs l u r e ↦ let same = reads_once 1 (behind_mark bytes) (Ok gs) (Ok fs) s r in let is : gs ≡ fs = cc in ap (λ l. judged (map read_entry l)) is ∙ sym e
     ]
 
--- no definition tells want of memory
+-- no definition reports lack of memory
 abbrev IsTold : Option DocFault → Type 0
 IsTold None = Unit {0}
 IsTold (Some faults.Memory) = ⊥

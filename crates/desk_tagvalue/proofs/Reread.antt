@@ -17,7 +17,7 @@ use Rattle.desk_tagvalue.specs.Written.{feeds}
 abbrev pub Res : Type 0
 Res = Result (List FieldText) DocFault
 
--- a text that is empty or ends by a line feed
+-- a text that is empty or ends with a line feed
 abbrev pub EndsLf : List ℕ → Type 0
 EndsLf s = (s ≡ []) ⊎ ((front : List ℕ) × (s ≡ front ++ (10 ∷ [])))
 
@@ -27,7 +27,7 @@ last_lf front =
     let at : length (front ++ (10 ∷ [])) - 1 ≡ length front = omega arith in
     ap (λ i. get_or (front ++ (10 ∷ [])) i 0) at ∙ get_or-append_seam front 10 [] 0
 
--- what ends by other bytes doesn't end by a line feed
+-- what ends with other bytes doesn't end with a line feed
 back_apart : (a l front : List ℕ) → 0 < length l → NoLf l → a ++ l ≡ front ++ (10 ∷ []) → ⊥
 back_apart a l front some no_lf e =
     let len = length-append a l in
@@ -105,7 +105,7 @@ piece_some w p Lf rest begins none = let len = sym (ap length none) ∙ ap lengt
 piece_some w p CrLf rest begins none = let len = sym (ap length none) ∙ ap length begins.cut ∙ length-append (bytes_of p) (13 ∷ 10 ∷ rest) in omega arith
 piece_some w p Nothing rest begins none = let len = sym (ap length none) ∙ ap length begins.cut ∙ length-append (bytes_of p) rest in let some = begins.ends.1 in omega arith
 
--- a text that ends by a line feed has no piece without an end
+-- a text that ends with a line feed has no piece without an end
 no_last : (w : List ℕ) (p : Piece) (e : LineEnd) (rest : List ℕ) → Begins w p e rest → EndsLf w → e ≡ Nothing → ⊥
 no_last w p e rest begins (inl none) is = piece_some w p e rest begins none
 no_last w p e rest begins (inr f) is =
@@ -147,7 +147,7 @@ reads_append n s r (more line w p e rest (Ok gs) begins later) fs is ends b q h 
 reads_append n s r (more line w p e rest (Err f) begins later) fs is ends b q h = absurd cc
 reads_append n s r (fails line w f bad) fs is ends b q h = absurd cc
 
--- a reading from another line on
+-- a reading that starts on another line
 abbrev pub shift : ℕ → FieldText → FieldText
 shift k f = record { line = f.line + k; tag = f.tag; value = f.value }
 

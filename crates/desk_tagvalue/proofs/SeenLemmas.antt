@@ -26,7 +26,7 @@ or_swap true false = refl
 or_swap false true = refl
 or_swap false false = refl
 
--- one identifier more
+-- one more identifier
 pub one_more : (v : Bor (List ℕ)) (s n : BTreeSet (Bor (List ℕ))) → UpdatesBy (λ x y. slice_cmp nat_cmp x.now y.now) (λ k. slice_cmp nat_cmp v.now k.now) s n true
     → (q : List ℕ) → has_key q n ≡ (bytes_eq v.now q || has_key q s)
 one_more v s n h q =
@@ -41,7 +41,7 @@ pub taken : (added b : Bool) → added ≡ not b → added ≡ false → b ≡ t
 taken added true e h = refl
 taken added false e h = cc
 
--- the order of fields doesn't matter to whether one passes
+-- the order of fields doesn't matter for whether one of them passes
 pub any_reverse : {X : Type 0} (p : X → Bool) (xs : List X) → list_any p (reverse xs) ≡ list_any p xs
 any_reverse p [] = refl
 any_reverse p (x ∷ xs) =
@@ -74,7 +74,7 @@ none_of_three true b c x y z w h k l = absurd cc
 none_of_three false true c x y z w h k l = absurd cc
 none_of_three false false true x y z w h k l = absurd cc
 
--- whether a field stands again
+-- whether a field occurs again
 pub again_in_document : (tag : Tag) (bs : List EntryText) (e : EntryText) → e.tag ≡ tag → once_in_document tag ≡ true → list_any (has_tag tag) bs ≡ is_again bs e
 again_in_document tag bs e is =
     subst (λ t. once_in_document t ≡ true → list_any (has_tag t) bs ≡ is_again bs e) is

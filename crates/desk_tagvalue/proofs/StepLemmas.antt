@@ -1,4 +1,4 @@
--- One field more.
+-- One more field.
 use Rattle.std.proofs.Common.{◌≡◌, ◌∙◌, ◌+◌, List, [], ◌∷◌, ◌++◌, length, drop, sym, subst, ap, arith, Bool, true, false, cond, Some, None, length-append}
 use Rattle.std.specs.Prelude.{map, reverse, count_by, is_some}
 use Rattle.std.proofs.lemmas.List.{reverse-append, map-append, drop-append-le}

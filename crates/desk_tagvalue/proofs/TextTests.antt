@@ -1,4 +1,4 @@
--- Tests on texts, by the calls that make them.
+-- Tests of texts, by the calls that make them.
 use Rattle.std.proofs.Common.{◌≡◌, ◌∙◌, ℕ, List, [], ◌∷◌, length, drop, sym, subst, ap, refl, arith, Bool, true, false, Option, Some, None, eqb}
 use Rattle.std.specs.Prelude.{◌&&◌, ◌↔◌, IfNone, IfSome, IsTrue, All, MatchOption, nat_lt}
 use Rattle.std.specs.List.{starts_with, list_all}

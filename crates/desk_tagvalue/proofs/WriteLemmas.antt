@@ -35,7 +35,7 @@ no_mark blank = refl
 no_mark (one_line tag value) = mark_behind tag (codes ": " ++ (value ++ (10 ∷ []))) refl
 no_mark (in_text tag value) = mark_behind tag (codes ": <text>" ++ (value ++ (codes "</text>" ++ (10 ∷ [])))) refl
 
--- one line that isn't read back stops all
+-- one line that isn't read back stops them all
 pub stopped_at : (lines : List DraftLine) (i : ℕ) (d : DraftLine) (e : WriteFault) → i < length lines → (e ≡ faults.Memory) ⊎ ((e ≡ faults.BadValue) × (Stands (line_text (get_or lines i d)) → ⊥)) → IsStopped (map line_text lines) e
 stopped_at lines i d e lt (inl m) = inl m
 stopped_at lines i d e lt (inr b) =

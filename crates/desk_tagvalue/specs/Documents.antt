@@ -1,4 +1,4 @@
--- The document that bytes spell, or the fault for which they are none.
+-- The document that bytes spell, or the fault for which they aren't one.
 use Rattle.std.specs.Prelude.{ℕ, ◌<◌, ◌≤◌, List, [], length, map, Option, Some, None, Result, Ok, Err, IsUtf8}
 use Rattle.desk_base.specs.Limits.{document_bytes}
 use Rattle.desk_fields.specs.declared.fault.DocFault.{DocFault}
@@ -11,7 +11,7 @@ use Rattle.desk_tagvalue.specs.Missing.{missing_of}
 use Rattle.desk_tagvalue.specs.Parts.{DocumentText, document_of}
 use Rattle.desk_tagvalue.specs.Views.{package_text, file_text, snippet_text, extracted_text, edge_text}
 
--- a document without where it lies in memory
+-- a document, apart from where it is in memory
 abbrev pub document_text : Document → DocumentText
 document_text d = record {
   entries = map entry_text d.entries;
@@ -28,11 +28,11 @@ abbrev pub unless : Option DocFault → DocumentText → Result DocumentText Doc
 unless None d = Ok d
 unless (Some fault) d = Err fault
 
--- the fields are a document, or the first of them that fails tells the fault, or else the first that isn't there
+-- the fields are a document; or they have the fault of the first that fails, or else of the first that is missing
 abbrev pub judged : List EntryText → Result DocumentText DocFault
 judged es = unless (first_of (first_fault [] es) (missing_of es)) (document_of es)
 
--- too many bytes; no text; no fields; or what the fields are
+-- too many bytes; no UTF-8; no fields; or what the fields are
 pub data Spells : List ℕ → Result DocumentText DocFault → Type 0 where
   too_large : (bytes : List ℕ) → document_bytes < length bytes → Spells bytes (Err faults.TooLarge)
   no_text : (bytes : List ℕ) → length bytes ≤ document_bytes → (IsUtf8 bytes → ⊥) → Spells bytes (Err faults.NotUtf8)

@@ -29,7 +29,7 @@ spelled blank = 10 ∷ []
 spelled (one_line tag value) = tag_name tag ++ (codes ": " ++ (value ++ (10 ∷ [])))
 spelled (in_text tag value) = tag_name tag ++ (codes ": <text>" ++ (value ++ (codes "</text>" ++ (10 ∷ []))))
 
--- what isn't NOASSERTION stands in <text>
+-- anything but NOASSERTION is in <text>
 abbrev pub copyright_line : Tag → List ℕ → LineText
 copyright_line tag value = if bytes_eq value (codes "NOASSERTION") then one_line tag value else in_text tag value
 
@@ -67,7 +67,7 @@ lines_of_file name id checksum f =
 abbrev pub file_lines : ℕ → DraftFile → List LineText
 file_lines k f = lines_of_file (codes "./" ++ f.path) (codes "SPDXRef-File-" ++ decimal k) (codes "SHA1: " ++ encode_lower f.digest) f
 
--- the lines of files, numbered on from k
+-- the lines of files, numbered from k
 abbrev pub files_lines : ℕ → List DraftFile → List LineText
 files_lines k [] = []
 files_lines k (f ∷ fs) = file_lines k f ++ files_lines (k + 1) fs

@@ -6,7 +6,7 @@ use Rattle.desk_fields.specs.Tags.{tag_of, same_tag}
 use Rattle.desk_fields.specs.Cutting.{FieldText, Reads, behind_mark}
 use Rattle.desk_tagvalue.specs.declared.entries.Entry.{Entry}
 
--- a field whose tag is read, without where it lies in memory
+-- a field whose tag is read, apart from where it is in memory
 pub record EntryText : Type 0 where
   pub line : ℕ
   pub tag : Tag
@@ -22,7 +22,7 @@ read_entry f = record { line = f.line; tag = tag_of f.tag; value = f.value }
 abbrev pub AreEntries : List ℕ → List EntryText → Type 0
 AreEntries text es = (fs : List FieldText) × Reads 1 (behind_mark text) (Ok fs) × (es ≡ map read_entry fs)
 
--- the bytes of a text, where it is there
+-- the bytes of a text, if there is one
 abbrev pub value_text : Option (Bor (List ℕ)) → Option (List ℕ)
 value_text None = None
 value_text (Some v) = Some v.now

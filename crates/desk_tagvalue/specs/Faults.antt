@@ -1,4 +1,4 @@
--- Which field of a document fails, and how: said of the fields before it, the newest first.
+-- Which field of a document fails, and how, given the fields before it, the newest first.
 use Rattle.std.specs.Prelude.{ℕ, ◌&&◌, ◌||◌, not, Bool, true, false, List, [], ◌∷◌, Option, Some, None, is_some, if◌then◌else◌, codes, count_by, nat_le}
 use Rattle.std.specs.List.{list_any}
 use Rattle.std.specs.Str.{bytes_eq}
@@ -17,7 +17,7 @@ use Rattle.desk_tagvalue.specs.Sections.{section_begun, is_placed, once_in_docum
 use Rattle.desk_tagvalue.specs.Ids.{is_element_id, is_licence_id, is_document_id}
 use Rattle.desk_tagvalue.specs.Relationships.{is_relationship}
 
--- does the field begin a section
+-- whether the field begins a section
 abbrev pub begins : EntryText → Bool
 begins e = is_some (section_begun e.tag)
 
@@ -38,11 +38,11 @@ abbrev pub section : List EntryText → List EntryText
 section [] = []
 section (e ∷ es) = if begins e then e ∷ [] else e ∷ section es
 
--- the field begins an element, and as many are there as a document may have
+-- the field begins an element, and there are already as many as a document may have
 abbrev pub is_too_many : List EntryText → EntryText → Bool
 is_too_many before e = begins e && nat_le document_elements (count_by begins before)
 
--- the field stands once, and is there
+-- the field may occur only once, and is there already
 abbrev pub is_again : List EntryText → EntryText → Bool
 is_again before e =
     if once_in_document e.tag then list_any (has_tag e.tag) before
@@ -55,7 +55,7 @@ is_misspelt (Some forms.Document) value = not (is_document_id value)
 is_misspelt (Some forms.Element) value = not (is_element_id value)
 is_misspelt (Some forms.Licence) value = not (is_licence_id value)
 
--- what a field names, behind those before it
+-- what a field names, after those before it
 abbrev pub names : List EntryText → EntryText → Option IdForm
 names before e = id_form (kind_of before) e.tag
 
@@ -68,7 +68,7 @@ abbrev pub names_licence : Option IdForm → Bool
 names_licence (Some forms.Licence) = true
 names_licence _ = false
 
--- is the identifier that of an element, of an extracted licence
+-- whether an element, or an extracted licence, has the identifier
 abbrev pub has_element : List ℕ → List EntryText → Bool
 has_element id [] = false
 has_element id (e ∷ es) = names_element (names es e) && bytes_eq e.value id || has_element id es
@@ -87,7 +87,7 @@ is_taken (Some forms.Licence) id before = has_licence id before
 abbrev pub is_version : List ℕ → Bool
 is_version value = bytes_eq value (codes "SPDX-2.1") || bytes_eq value (codes "SPDX-2.2") || bytes_eq value (codes "SPDX-2.3")
 
--- faults of a field by what stands before it, in their order
+-- faults of a field because of what precedes it, in their order
 abbrev pub place_fault : List EntryText → EntryText → Option DocFault
 place_fault before e =
     if is_too_many before e then Some (faults.TooManyElements e.line)
@@ -95,11 +95,11 @@ place_fault before e =
     else (if is_misspelt (names before e) e.value then Some (faults.BadId e.line)
     else None))
 
--- an identifier that stands before
+-- an identifier that was used before
 abbrev pub double_fault : List EntryText → EntryText → Option DocFault
 double_fault before e = if is_taken (names before e) e.value before then Some (faults.DuplicateId e.line) else None
 
--- faults of a field by its value alone
+-- faults of a field because of its value alone
 abbrev pub value_fault : EntryText → Option DocFault
 value_fault e =
     if same_tag e.tag tags.Version && not (is_version e.value) then Some (faults.BadVersion e.line)
@@ -110,11 +110,11 @@ abbrev pub first_of : Option DocFault → Option DocFault → Option DocFault
 first_of None later = later
 first_of (Some fault) later = Some fault
 
--- how a field fails behind those before it, the first in the stated order
+-- how a field fails after those before it, the first in the stated order
 abbrev pub field_fault : List EntryText → EntryText → Option DocFault
 field_fault before e = first_of (place_fault before e) (first_of (double_fault before e) (value_fault e))
 
--- the fault of the first field that fails, behind those before
+-- the fault of the first field that fails, after those before it
 abbrev pub first_fault : List EntryText → List EntryText → Option DocFault
 first_fault before [] = None
 first_fault before (e ∷ es) = first_of (field_fault before e) (first_fault (e ∷ before) es)

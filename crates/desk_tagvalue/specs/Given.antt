@@ -20,7 +20,7 @@ abbrev pub IsOnlyPackage : Draft → List PackageText → Type 0
 IsOnlyPackage d (p ∷ []) = IsPackage d p
 IsOnlyPackage d _ = ⊥
 
--- a file of a draft, which has a number
+-- the file of a draft with a number
 pub record IsFile (k : ℕ) (f : DraftFile) (x : FileText) : Type 0 where
   pub name : x.name ≡ codes "./" ++ f.path
   pub id : x.id ≡ codes "SPDXRef-File-" ++ decimal k
@@ -28,7 +28,7 @@ pub record IsFile (k : ℕ) (f : DraftFile) (x : FileText) : Type 0 where
   pub concluded : x.concluded ≡ Some f.concluded
   pub copyright : x.copyright ≡ Some f.copyright
 
--- the files of a draft in their order, numbered on from k
+-- the files of a draft in order, numbered from k
 abbrev pub AreFiles : ℕ → List DraftFile → List FileText → Type 0
 AreFiles k [] [] = Unit {0}
 AreFiles k (f ∷ fs) (x ∷ xs) = IsFile k f x × AreFiles (k + 1) fs xs

@@ -1,4 +1,4 @@
--- Fields that a document, and each package and file, has (SPDX 2.3, clauses 6.1, 6.3 to 6.5, 7.2 and 8.2).
+-- Fields that a document, and each package and file, must have (SPDX 2.3, clauses 6.1, 6.3 to 6.5, 7.2 and 8.2).
 use Rattle.std.specs.Prelude.{Bool, ◌&&◌, ◌||◌, List, [], ◌∷◌, Option, Some, None, is_none, if◌then◌else◌}
 use Rattle.desk_fields.specs.declared.tag.Tag.{Tag}
 use Rattle.desk_fields.specs.declared.tag.Tag.TheVariants as tags

@@ -23,7 +23,7 @@ pub record Section : Type 0 where
 abbrev pub section_at : EntryText → List EntryText → Section
 section_at e es = record { start = e; fields = head_of es }
 
--- all sections behind the document's own
+-- all sections after the document's own
 abbrev pub sections_of : List EntryText → List Section
 sections_of [] = []
 sections_of (e ∷ es) = if begins e then section_at e es ∷ sections_of es else sections_of es
@@ -35,7 +35,7 @@ begins_with tag s = same_tag s.start.tag tag
 abbrev pub parts_of : {T : Type 0} → Tag → (Section → T) → List EntryText → List T
 parts_of tag says es = map says (filter (begins_with tag) (sections_of es))
 
--- the value of a field, or nothing
+-- the value of a field, or the empty text if it isn't there
 abbrev pub text_of : Tag → List EntryText → List ℕ
 text_of tag es = unwrap_or (value_of tag es) []
 
@@ -118,7 +118,7 @@ pub record ExtractedText : Type 0 where
 abbrev pub extracted_of : Section → ExtractedText
 extracted_of s = record { line = s.start.line; id = s.start.value; text = value_of tags.ExtractedText s.fields }
 
--- a relationship (clause 11), in whichever section it stands
+-- a relationship (clause 11), in whichever section it is
 pub record EdgeText : Type 0 where
   pub line : ℕ
   pub left : List ℕ

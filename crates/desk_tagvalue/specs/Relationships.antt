@@ -25,11 +25,11 @@ is_qualified text = is_document_name (before_first is_colon text) && is_element_
 abbrev pub is_external : List ℕ → Bool
 is_external text = starts_with nat_eq text (codes "DocumentRef-") && is_qualified (drop 12 text)
 
--- what may stand at the left
+-- what may be on the left
 abbrev pub is_end : List ℕ → Bool
 is_end text = is_element_id text || is_external text
 
--- what may stand at the right
+-- what may be on the right
 abbrev pub is_target : List ℕ → Bool
 is_target text = is_end text || bytes_eq text (codes "NONE") || bytes_eq text (codes "NOASSERTION")
 

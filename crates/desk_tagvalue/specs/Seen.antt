@@ -1,4 +1,4 @@
--- What the check of a document knows of the fields that it has passed.
+-- What the check of a document knows about the fields that it has passed.
 use Rattle.std.specs.Prelude.{◌≡◌, ◌≤◌, ℕ, Bool, List, length, drop, map, reverse, count_by}
 use Rattle.std.specs.Ordering.{nat_cmp}
 use Rattle.std.specs.Cmp.Lexicographic.{slice_cmp}

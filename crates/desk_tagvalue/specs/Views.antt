@@ -1,4 +1,4 @@
--- The parts of a document without where they lie in memory.
+-- The parts of a document, apart from where they are in memory.
 use Rattle.desk_tagvalue.specs.declared.parts.Package.{Package}
 use Rattle.desk_tagvalue.specs.declared.parts.FileEntry.{FileEntry}
 use Rattle.desk_tagvalue.specs.declared.parts.Snippet.{Snippet}

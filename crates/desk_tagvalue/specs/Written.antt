@@ -1,4 +1,4 @@
--- What can be written: a value that is read back from its field, printed alone.
+-- What can be written: a value that is read back from its field, when that is printed alone.
 use Rattle.std.specs.Prelude.{◌≡◌, ◌⊎◌, ◌==◌, ◌+◌, ℕ, List, [], ◌∷◌, ◌++◌, Ok, Some, All, codes, count_by}
 use Rattle.hex.specs.Hex.{encode_lower}
 use Rattle.desk_fields.specs.Tags.{tag_name}
@@ -35,13 +35,13 @@ IsDigestRead f = sha1_digits (codes "SHA1: " ++ encode_lower f.digest) ≡ Some 
 abbrev pub feeds : List ℕ → ℕ
 feeds text = count_by (λ b. b == 10) text
 
--- the field of a line, before others
+-- the field of a line, followed by others
 abbrev pub onto_line : ℕ → LineText → List FieldText → List FieldText
 onto_line n blank fs = fs
 onto_line n (one_line tag value) fs = field_at n (tag_name tag) value ∷ fs
 onto_line n (in_text tag value) fs = field_at n (tag_name tag) value ∷ fs
 
--- the fields of some lines, the first of which stands on line n
+-- the fields of some lines, the first of which is line n
 abbrev pub fields_of_lines : ℕ → List LineText → List FieldText
 fields_of_lines n [] = []
 fields_of_lines n (l ∷ ls) = onto_line n l (fields_of_lines (n + feeds (spelled l)) ls)

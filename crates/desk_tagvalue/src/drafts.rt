@@ -6,7 +6,7 @@ ghost use Rattle.desk_tagvalue.specs.Drafts.{copyright_line, head_lines, lines_o
 use desk_base::{Items, Text};
 use desk_fields::Tag;
 
-/// A document of one package and its files that is to be written.
+/// A document of one package and its files, to be written.
 #[derive(Drop)]
 pub struct Draft {
     /// The name of the document and of its package.
@@ -34,7 +34,7 @@ pub struct DraftFile {
     pub digest: [u8; 20],
     /// Its concluded licence.
     pub concluded: Text,
-    /// Its copyright, as that of the package.
+    /// Its copyright, as for the package.
     pub copyright: Text,
 }
 
@@ -49,7 +49,7 @@ pub enum DraftLine<'a> {
     InText(Tag, &'a str),
 }
 
-/// A copyright: what isn't `NOASSERTION` stands in `<text>`.
+/// A copyright: anything but `NOASSERTION` is in `<text>`.
 pub(crate) fn copyright_line<'a>(tag: Tag, copyright: &'a str) -> DraftLine<'a>
     ensures { line_text result ≡ copyright_line tag copyright.now }
 {
@@ -87,7 +87,7 @@ pub(crate) fn head_lines<'a>(draft: &'a Draft) -> [DraftLine<'a>; 16]
     ]
 }
 
-/// The lines of a file, from its name, its identifier and its checksum as they are written.
+/// The lines of a file, from its name, identifier and checksum as they are written.
 pub(crate) fn lines_of_file<'a>(
     name: &'a str,
     id: &'a str,

@@ -14,7 +14,7 @@ use std::alloc::Global;
 /// A field whose tag is read.
 #[derive(Clone, Copy)]
 pub struct Entry<'a> {
-    /// The line on which it begins, from 1. A document of 4 MiB has fewer than 32 bits count.
+    /// The line on which it begins, from 1. For a document of 4 MiB 32 bits are enough.
     pub line: u32,
     /// What its tag is read as.
     pub tag: Tag,
@@ -34,8 +34,8 @@ fn entry_of<'a>(field: &Field<'a>) -> Entry<'a>
     }
 }
 
-// How many fields a text has at most: each has a line and three bytes, of which the last alone may
-// lack its line's end.
+// The most fields that a text can have: each takes a line and at least three bytes, except that the
+// last may lack its line's end.
 fn most_fields(text: &str) -> usize
     ensures { result ≤ length text.now / 3 + 1 }
 {
@@ -44,8 +44,8 @@ fn most_fields(text: &str) -> usize
     (ends + 1).min(bytes.len() / 3 + 1)
 }
 
-/// All fields of a text with their tags read. Room for the most of them is taken once, and what
-/// they don't need given back.
+/// All fields of a text with their tags read. Room for the most that there can be is reserved once,
+/// and what they don't need is given back.
 pub(crate) fn entries_of<'a>(alloc: Global, text: &'a str) -> Result<Vec<Entry<'a>>, DocFault>
     requires { length text.now ≤ document_bytes }
     ensures ok { IfOk result (λ v. AreEntries text.now (map entry_text v.items)) }

@@ -49,7 +49,7 @@ fn has_tag(entries: &[Entry], tag: Tag) -> bool
     false
 }
 
-// Whether a field that stands once is there.
+// Whether a field that may occur only once has occurred.
 fn is_again(seen: &Seen, before: &[Entry], tag: Tag) -> bool
     requires { Knows before.now seen.now }
     ensures { (e : EntryText) → e.tag ≡ tag → result ≡ is_again (newest before.now) e }
@@ -84,7 +84,7 @@ fn is_version(value: &str) -> bool
     value == "SPDX-2.1" || value == "SPDX-2.2" || value == "SPDX-2.3"
 }
 
-// Whether a field begins an element too many.
+// Whether a field begins one element too many.
 fn is_too_many(seen: &Seen, before: &[Entry], tag: Tag) -> bool
     requires { Knows before.now seen.now }
     ensures { (e : EntryText) → e.tag ≡ tag → result ≡ is_too_many (newest before.now) e }
@@ -93,7 +93,7 @@ fn is_too_many(seen: &Seen, before: &[Entry], tag: Tag) -> bool
     section_begun(tag).is_some() && full
 }
 
-// How a field fails by what stands before it.
+// How a field fails because of what precedes it.
 fn place_fault(seen: &Seen, before: &[Entry], entry: &Entry) -> Option<DocFault>
     requires { Knows before.now seen.now }
     ensures { result ≡ place_fault (newest before.now) (entry_text entry.now) }
@@ -111,7 +111,7 @@ fn place_fault(seen: &Seen, before: &[Entry], entry: &Entry) -> Option<DocFault>
     None
 }
 
-// How a field fails by its value alone.
+// How a field fails because of its value alone.
 fn value_fault(entry: &Entry) -> Option<DocFault>
     ensures { result ≡ value_fault (entry_text entry.now) }
 {
@@ -124,7 +124,7 @@ fn value_fault(entry: &Entry) -> Option<DocFault>
     None
 }
 
-// Adds an identifier that isn't there.
+// Adds an identifier that isn't there yet.
 fn add<'a>(ids: &mut BTreeSet<&'a str>, entry: &Entry<'a>) -> Result<(), DocFault>
     ensures fresh { OnOk result (has_key entry.now.value.now ids.old ≡ false) }
     ensures added { OnOk result ((q : List ℕ) → has_key q ids.new ≡
@@ -158,7 +158,7 @@ fn note<'a>(ids: &mut Ids<'a>, form: Option<IdForm>, entry: &Entry<'a>) -> Resul
     }
 }
 
-// Opens a section, whose first field stands at a place.
+// Opens a section whose first field is at a place.
 fn open_section(seen: &mut Seen, kind: SectionKind, start: usize)
     requires { seen.old.elements < 10000 }
     ensures { seen.new ≡ record seen.old { kind = kind; start = start; elements = seen.old.elements + 1 } }
@@ -168,7 +168,7 @@ fn open_section(seen: &mut Seen, kind: SectionKind, start: usize)
     seen.elements += 1;
 }
 
-// Goes past a field.
+// Checks a field, and notes what is known after it.
 fn step<'a>(seen: &mut Seen<'a>, before: &[Entry<'a>], entry: &Entry<'a>) -> Result<(), DocFault>
     requires { Knows before.now seen.old }
     ensures ok { OnOk result (field_fault (newest before.now) (entry_text entry.now) ≡ None) }

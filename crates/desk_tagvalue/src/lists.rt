@@ -1,4 +1,4 @@
-//! The parts of a document in lists, each of the very room that it needs.
+//! The parts of a document in lists, each with exactly the room that it needs.
 
 ghost use Rattle.std.specs.Prelude.{◌≡◌, IfOk, map, count_by};
 ghost use Rattle.desk_fields.specs.declared.tag.Tag.TheVariants as tags;
@@ -14,7 +14,7 @@ use crate::parts::{
 use desk_fields::Tag;
 use std::alloc::{AllocError, Global};
 
-// How many fields have the tag, so that a list takes the room that it needs and no more.
+// How many fields have the tag, so that a list takes only the room that it needs.
 fn count_of(entries: &[Entry], tag: Tag) -> usize
     ensures { result ≡ count_by (has_tag tag) (map entry_text entries.now) }
 {

@@ -1,4 +1,4 @@
-//! Fields that aren't there.
+//! Fields that are missing.
 
 ghost use Rattle.std.specs.Prelude.{◌≡◌, map};
 ghost use Rattle.desk_tagvalue.specs.Entries.{entry_text};
@@ -16,7 +16,7 @@ fn is_absent(entries: &[Entry], tag: Tag) -> bool
     value_of(entries, tag).is_none()
 }
 
-// The first field of the document that isn't there.
+// The first field of the document that is missing.
 fn missing_of_document(entries: &[Entry]) -> Option<DocFault>
     ensures { result ≡ missing_of_document (map entry_text entries.now) }
 {
@@ -43,7 +43,7 @@ fn is_unnamed(entry: &Entry, rest: &[Entry]) -> bool
     is_element && is_absent(head_of(rest), Tag::Identifier)
 }
 
-// The first identifier of a package or a file that isn't there.
+// The first identifier of a package or a file that is missing.
 fn missing_of_elements(entries: &[Entry]) -> Option<DocFault>
     ensures { result ≡ missing_of_elements (map entry_text entries.now) }
 {
@@ -55,8 +55,8 @@ fn missing_of_elements(entries: &[Entry]) -> Option<DocFault>
     None
 }
 
-/// The first field that isn't there: of the document, then of its packages and files in the order
-/// of the text.
+/// The first field that is missing: first of the document, then of its packages and files in the
+/// order of the text.
 pub(crate) fn missing_of(entries: &[Entry]) -> Option<DocFault>
     ensures { result ≡ missing_of (map entry_text entries.now) }
 {

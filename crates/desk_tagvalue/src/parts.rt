@@ -79,13 +79,13 @@ pub struct Extracted<'a> {
 /// A relationship (SPDX 2.3, clause 11).
 #[derive(Debug, Clone, Copy)]
 pub struct Edge<'a> {
-    /// The line on which it stands.
+    /// The line on which it is.
     pub line: u32,
-    /// The element at the left, perhaps of another document.
+    /// The element on the left, perhaps of another document.
     pub left: &'a str,
-    /// The type, as `CONTAINS`.
+    /// The type, such as `CONTAINS`.
     pub kind: &'a str,
-    /// The element at the right, perhaps of another document, or `NONE` or `NOASSERTION`.
+    /// The element on the right, perhaps of another document, or `NONE` or `NOASSERTION`.
     pub right: &'a str,
 }
 
@@ -101,7 +101,7 @@ pub(crate) fn head_of<'s, 'a>(entries: &'s [Entry<'a>]) -> &'s [Entry<'a>]
     entries
 }
 
-/// The value of a field, or nothing.
+/// The value of a field, or the empty text if it isn't there.
 pub(crate) fn text_of<'a>(entries: &[Entry<'a>], tag: Tag) -> &'a str
     ensures { result.now ≡ text_of tag (map entry_text entries.now) }
 {
@@ -111,7 +111,7 @@ pub(crate) fn text_of<'a>(entries: &[Entry<'a>], tag: Tag) -> &'a str
     }
 }
 
-/// A package, from the field that begins it and the fields behind that.
+/// A package, from the field that begins it and the fields after that.
 pub(crate) fn package_of<'a>(start: &Entry<'a>, rest: &[Entry<'a>]) -> Package<'a>
     ensures { package_text result
         ≡ package_of (section_at (entry_text start.now) (map entry_text rest.now)) }
@@ -178,7 +178,7 @@ fn sha1_of<'a>(fields: &[Entry<'a>]) -> Option<&'a str>
     None
 }
 
-/// A file, from the field that begins it and the fields behind that.
+/// A file, from the field that begins it and the fields after that.
 pub(crate) fn file_of<'a>(start: &Entry<'a>, rest: &[Entry<'a>]) -> FileEntry<'a>
     ensures { file_text result
         ≡ file_of (section_at (entry_text start.now) (map entry_text rest.now)) }
@@ -194,7 +194,7 @@ pub(crate) fn file_of<'a>(start: &Entry<'a>, rest: &[Entry<'a>]) -> FileEntry<'a
     }
 }
 
-/// An extracted licence, from the field that begins it and the fields behind that.
+/// An extracted licence, from the field that begins it and the fields after that.
 pub(crate) fn extracted_of<'a>(start: &Entry<'a>, rest: &[Entry<'a>]) -> Extracted<'a>
     ensures { extracted_text result ≡ extracted_of
         (section_at (entry_text start.now) (map entry_text rest.now)) }

@@ -1,4 +1,4 @@
-//! Reading a whole document.
+//! Reads a whole document.
 
 ghost use Rattle.std.specs.Prelude.{◌≡◌, ◌⊎◌, IfOk, IfErr, List, ℕ, Result, Ok, Err, map};
 ghost use Rattle.desk_fields.specs.declared.fault.DocFault.{DocFault};
@@ -63,7 +63,7 @@ fn document_of<'a>(alloc: Global, entries: Vec<Entry<'a>>) -> Result<Document<'a
     })
 }
 
-// The document of these fields, or the fault for which they are none.
+// The document of these fields, or the fault for which they aren't one.
 fn judged<'a>(alloc: Global, entries: Vec<Entry<'a>>) -> Result<Document<'a>, DocFault>
     ensures ok { IfOk result
         (λ d. judged (map entry_text entries.entry.items) ≡ Ok (document_text d)) }
@@ -100,7 +100,7 @@ pub fn read<'a>(alloc: Global, bytes: &'a [u8]) -> Result<Document<'a>, DocFault
     }
 }
 
-/// Bytes spell one document, or have one fault, which is never want of memory.
+/// Bytes spell only one document, or have only one fault, which is never lack of memory.
 pub fn one_document()
     ensures once { (bytes : List ℕ) (a b : Result DocumentText DocFault) → Spells bytes a
         → Spells bytes b → a ≡ b }

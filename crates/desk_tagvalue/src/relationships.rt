@@ -46,14 +46,14 @@ fn is_external(text: &str) -> bool
     }
 }
 
-// Whether the text may stand at the left of a relationship.
+// Whether the text may be on the left of a relationship.
 fn is_end(text: &str) -> bool
     ensures { result ≡ is_end text.now }
 {
     is_element_id(text) || is_external(text)
 }
 
-// Whether the text may stand at the right of a relationship.
+// Whether the text may be on the right of a relationship.
 fn is_target(text: &str) -> bool
     ensures { result ≡ is_target text.now }
 {

@@ -8,7 +8,7 @@ use desk_fields::Tag;
 /// A kind of section.
 #[derive(Clone, Copy, PartialEq, Eq)]
 pub enum SectionKind {
-    /// The document's own (SPDX 2.3, clause 6), with which each document begins.
+    /// The document's own (SPDX 2.3, clause 6), with which every document begins.
     Document,
     /// A package (clause 7).
     Package,
@@ -41,7 +41,8 @@ pub fn section_begun(tag: Tag) -> Option<SectionKind>
     }
 }
 
-/// Whether a section of this kind is a place of the tag. Tags that aren't read have each place.
+/// Whether the tag is read in sections of this kind. Tags of no particular section are read in
+/// each.
 pub fn is_placed(kind: SectionKind, tag: Tag) -> bool
     ensures { result ≡ is_placed kind tag }
 {
@@ -74,7 +75,7 @@ pub fn is_placed(kind: SectionKind, tag: Tag) -> bool
     }
 }
 
-/// Whether the tag stands once in a document, whichever sections it stands in.
+/// Whether the tag may occur only once in a document, in whichever section.
 pub(crate) fn once_in_document(tag: Tag) -> bool
     ensures { result ≡ once_in_document tag }
 {
@@ -88,7 +89,7 @@ pub(crate) fn once_in_document(tag: Tag) -> bool
     }
 }
 
-/// Whether the tag stands once in a section that is a place of it.
+/// Whether the tag may occur only once in a section in which it is read.
 pub(crate) fn once_in_section(tag: Tag) -> bool
     ensures { result ≡ once_in_section tag }
 {

@@ -1,4 +1,4 @@
-//! Writing a draft.
+//! Writes a draft.
 
 ghost use Rattle.std.specs.Prelude.{◌≡◌, ◌⊎◌, ◌↔◌, ◌++◌, ◌∷◌, ◌+◌, ◌<◌, ◌≤◌, ◌^◌, [], ℕ, List, All, Some, Ok, IsTrue, IfOk, IfErr, OnOk, map, codes, length};
 ghost use Rattle.std.specs.String.{string_bytes};
@@ -164,7 +164,7 @@ fn file_name(alloc: Global, path: &str) -> Result<String, AllocError>
     format!(in alloc; "./{path}")
 }
 
-// The identifier of a file, which has a number.
+// The identifier of the file with a number.
 fn file_id(alloc: Global, number: u64) -> Result<String, AllocError>
     ensures { IfOk result (λ s. string_bytes s ≡ codes "SPDXRef-File-" ++ decimal number) }
 {
@@ -182,7 +182,7 @@ fn file_checksum(alloc: Global, digest: &[u8; 20]) -> Result<String, AllocError>
     format!(in alloc; "SHA1: {digits}")
 }
 
-// Adds the text of a file, which has a number.
+// Adds the text of the file with a number.
 fn put_file(
     alloc: Global,
     out: &mut String,
@@ -248,7 +248,7 @@ pub fn write(alloc: Global, draft: &Draft) -> Result<String, WriteFault>
     }
 }
 
-/// The checksum that is written of a digest is read as its 40 digits.
+/// The checksum that is written for a digest is read as its 40 digits.
 pub fn one_digest()
     ensures { (digest : List ℕ) → length digest ≡ 20 → All (λ b. b < 256) digest
         → sha1_digits (codes "SHA1: " ++ encode_lower digest) ≡ Some (encode_lower digest) }

@@ -1,4 +1,4 @@
--- Any bytes show runs; where they have no tag, these tell nothing.
+-- Any bytes show runs; if they have no tag, these give nothing.
 use Rattle.std.proofs.Common.{◌≡◌, ◌∙◌, ℕ, zero, suc, ◌+◌, ◌<◌, ◌≤◌, List, [], ◌∷◌, ◌++◌, length, drop, ap, refl, arith, append_assoc, append-nil, subst, sym, inr, length-append, length-drop}
 use Rattle.std.specs.Prelude.{codes, count_by, ◌==◌, None}
 use Rattle.desk_fields.proofs.Closing.{Closing, open_text, closed, closing}
@@ -8,7 +8,7 @@ use Rattle.desk_tree_annotations.specs.Tags.{TagText, Gives, IsInfo, notice_tag,
 use Rattle.desk_tree_annotations.proofs.RunLemmas.{run_line, run_rest, run_ignored}
 use Rattle.desk_tree_annotations.proofs.TagLemmas.{Completes}
 
--- the first run of some bytes, and fewer bytes behind it
+-- the first run of some bytes, and fewer bytes after it
 record Step (line : ℕ) (t : List ℕ) : Type 0 where
   text : List ℕ
   after : ℕ
@@ -16,7 +16,7 @@ record Step (line : ℕ) (t : List ℕ) : Type 0 where
   run : IsRun line t text after rest
   shorter : length rest < length t
 
--- a start stands on the line
+-- there is a start on the line
 hidden_step : (line : ℕ) (t : List ℕ) (l : HasLine t) (before behind : List ℕ) → 0 < length t → l.line ≡ before ++ (start ++ behind) → ((xs ys : List ℕ) → before ++ start ≡ xs ++ (start ++ ys) → length ys ≡ 0)
     → Closing stop (drop (length before + 17) t) → Step line t
 hidden_step line t l before behind some cut first (open_text none) = record {
@@ -65,11 +65,11 @@ shown_within (suc bound) line (b ∷ t) within =
 
 -- ---- bytes without a tag
 
--- a needle that begins with what bytes lack is lacking too
+-- bytes also lack a needle that begins with what they lack
 pub lacks_more : (front back t : List ℕ) → Lacks front t → Lacks (front ++ back) t
 lacks_more front back t none xs ys e = none xs (back ++ ys) (e ∙ ap (λ l. xs ++ l) (append_assoc front back ys))
 
--- what bytes lack, their parts lack
+-- what bytes lack, their prefixes lack
 pub lacks_front : (needle t text more : List ℕ) → t ≡ text ++ more → Lacks needle t → Lacks needle text
 lacks_front needle t text more cut none xs ys e = none xs (ys ++ more) (cut ∙ ap (λ l. l ++ more) e ∙ append_assoc xs (needle ++ ys) more ∙ ap (λ l. xs ++ l) (append_assoc needle ys more))
 

@@ -1,4 +1,4 @@
--- A list of entries, read one after the other.
+-- A list of entries, read one after another.
 use Rattle.std.proofs.Common.{◌≡◌, ◌∙◌, ℕ, ◌+◌, ◌<◌, ◌≤◌, List, [], ◌∷◌, ◌++◌, length, get_or, drop, ap}
 use Rattle.std.specs.Prelude.{Ok, Err}
 use Rattle.std.proofs.lemmas.List.{append-nil, drop_more, drop_all}
@@ -10,7 +10,7 @@ use Rattle.desk_tree_annotations.specs.Reading.{Read, each}
 use Rattle.desk_base.specs.Results.{followed}
 use Rattle.desk_base.proofs.Results.{onto, onto-followed}
 
--- one value more
+-- one more value
 pub onto-item : {A : Type 0} (entry : ℕ → Data → Read A) (done : List A) (vs : List Value) (i : ℕ) (v : Value) (x : A) → i < length vs → entry i (view (get_or vs i v)) ≡ Ok x
     → onto done (each entry i (items_view (drop i vs))) ≡ onto (done ++ x ∷ []) (each entry (i + 1) (items_view (drop (i + 1) vs)))
 onto-item entry done vs i v x within is =

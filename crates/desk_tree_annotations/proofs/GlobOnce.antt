@@ -1,4 +1,4 @@
--- Each text is a pattern, read in one way.
+-- Each text is a pattern, which can be read in only one way.
 use Rattle.std.proofs.Common.{◌≡◌, ◌≢◌, ◌∙◌, ◌⊎◌, inl, inr, ℕ, List, [], ◌∷◌, get_or, sym, subst, ap, refl, arith, ⊎_elim}
 use Rattle.std.proofs.lemmas.Bool.Decides.{eqb_tells}
 use Rattle.desk_tree_annotations.specs.declared.glob.Piece.{Piece}

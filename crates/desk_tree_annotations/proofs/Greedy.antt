@@ -17,7 +17,7 @@ pub data Wild : Piece → Type 0 where
   wild_name : Wild InName
   wild_path : Wild InPath
 
--- a text behind a stretch of another
+-- a text after a stretch of another
 pub record Later (w : Piece) (text rest : List ℕ) : Type 0 where
   pub stretch : List ℕ
   pub cut : text ≡ stretch ++ rest
@@ -63,7 +63,7 @@ pub record Reached (w : Piece) (s : Spot) : Type 0 where
   pub later : Later w s.text rest
   pub match : IsMatch s.pieces rest
 
--- each match of one place's pieces, there or later, comes to the other place or later
+-- if the pieces of one place match, there or later, so do those of the other
 abbrev pub Leads : Piece → Spot → Spot → Type 0
 Leads w a b = Reached w a → Reached w b
 
@@ -86,11 +86,11 @@ apart s [] rest cut covers m = inl (subst (IsMatch s.pieces) (sym cut) m)
 apart s (c ∷ a) rest cut covers m =
     inr (at s.pieces (a ++ rest), (c, refl, cut, one_covered InName c a wild_name covers), (a, rest, refl, tail_covered InName c a wild_name covers, m))
 
--- a match takes nothing by a first `*`, or more
+-- in a match a first `*` takes nothing, or more
 split_name : (s : Spot) → IsMatch (InName ∷ s.pieces) s.text → Fits s ⊎ Again (Some s)
 split_name s m = apart s m.0 m.1 m.2 m.3 m.4
 
--- by a first `**` it stays in the name, as by a `*`, or comes to a later one
+-- a first `**` stays in the name, as a `*` does, or comes to a later one
 split_path : (s : Spot) → IsMatch (InPath ∷ s.pieces) s.text → Fits s ⊎ (Again (Some s) ⊎ InLaterName (Some s))
 split_path s m =
     let within : Covers InName m.0 → Fits s ⊎ (Again (Some s) ⊎ InLaterName (Some s)) = λ covers. ⊎_elim (λ f. inl f) (λ a. inr (inl a)) (split_name s (m.0, m.1, m.2, covers, m.4)) in
@@ -234,7 +234,7 @@ path_again : (ps : List Piece) (ts : List ℕ) (p : Option Spot) → IfSome p (�
 path_again ps ts None l a = absurd a.1
 path_again ps ts (Some x) l a = reached_match InPath ps ts wild_path (l (later_reached x a))
 
--- a search that begins behind a `**`
+-- a search that begins after a `**`
 holds_new : (all : List Piece) (whole : List ℕ) (ps : List Piece) (ts : List ℕ) → (IsMatch (InPath ∷ ps) ts → IsMatch all whole) → (IsMatch all whole → IsMatch (InPath ∷ ps) ts) → Holds all whole (st (at ps ts) (Some (at ps ts)) (Some (at ps ts)))
 holds_new all whole ps ts out in_ = record {
   here = λ m. out (empty_out InPath ps ts wild_path m);

@@ -1,4 +1,4 @@
--- The text behind the first `/` of another.
+-- The text after the first `/` of another.
 use Rattle.std.proofs.Common.{◌≡◌, ◌≢◌, ◌∙◌, ◌⊎◌, inl, inr, ℕ, ◌+◌, ◌-◌, ◌<◌, List, [], ◌∷◌, ◌++◌, length, get_or, take, drop, sym, ap, arith, append_assoc, take-append-drop, length-append, subst, eq-eqb, ⊎_elim}
 use Rattle.std.specs.Prelude.{All, Option, Some}
 use Rattle.std.proofs.Math.Seq.{get_or-append_seam}
@@ -41,14 +41,14 @@ behind_shorter ts r a =
     let len = ap length a.1 ∙ length-append a.0 (47 ∷ r) in
     omega arith
 
--- a text with no `/` has nothing behind one
+-- a text with no `/` has nothing after one
 pub behind_none : (ts : List ℕ) → Nowhere (Passes (is_byte 47) ts) 0 (length ts) → (rest : List ℕ) → IsBehindName ts rest → ⊥
 behind_none ts none rest b =
     let len = ap length b.1 ∙ length-append b.0 (47 ∷ rest) in
     let is : get_or ts (length b.0) 0 ≡ 47 = ap (λ l. get_or l (length b.0) 0) b.1 ∙ get_or-append_seam b.0 47 rest 0 in
     none (length b.0) (omega arith) (omega arith) (eq-eqb (get_or ts (length b.0) 0) 47 is)
 
--- what stands behind the first
+-- what follows the first
 pub behind_first : (ts : List ℕ) (at : ℕ) → at < length ts → get_or ts at 0 ≡ 47 → Nowhere (Passes (is_byte 47) ts) 0 at → IsBehindName ts (take (length ts - (at + 1)) (drop (at + 1) ts))
 behind_first ts at lt is none =
     let long = length-take-le at ts (omega arith) in

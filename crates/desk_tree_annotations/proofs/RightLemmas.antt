@@ -31,7 +31,7 @@ same_reading r s right other = λ i. record {
   is_expression = λ text. tells_once text (r.is_expression text) (s.is_expression text) (right.expressions text) (other.expressions text) i;
 }
 
--- a fault that isn't want of memory: the other case holds
+-- a fault that isn't `Memory`: the other case is true
 pub not_memory : {P : Type 0} (fault : ParseFault) → 0 < fault_number fault → (fault ≡ Memory alloc_error) ⊎ P → P
 not_memory fault some (inl is) = let zero = ap fault_number is in absurd (omega arith)
 not_memory fault some (inr p) = p
@@ -47,7 +47,7 @@ pub all_stop : (test : List ℕ → Bool) (listed : List (Bor (List ℕ))) (i : 
 all_stop test listed i v within is =
     sym (ap (λ b. b && list_all test (texts (drop (i + 1) listed))) is) ∙ ap (λ l. list_all test (texts l)) (sym (drop_more listed i v within))
 
--- the pieces of one pattern more
+-- the pieces of one more pattern
 pub pieces_more : (f : List ℕ → List Piece) (listed : List (Bor (List ℕ))) (i : ℕ) (v : Bor (List ℕ)) (pieces : List Piece) (old : List (List Piece)) → i < length listed → pieces ≡ f (get_or listed i v).now → old ≡ map f (texts (take i listed))
     → old ++ pieces ∷ [] ≡ map f (texts (take (i + 1) listed))
 pieces_more f listed i v pieces old within is so_far =

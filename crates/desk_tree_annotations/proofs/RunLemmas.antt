@@ -10,7 +10,7 @@ use Rattle.desk_tree_annotations.specs.Runs.{Lacks, IsUpTo, line_end, ignored, i
 pub run_line : (line : ℕ) (bytes text : List ℕ) (end : LineEnd) (rest : List ℕ) → IsLine bytes text end rest → Lacks start text → IsRun line bytes text (line + 1) rest
 run_line line bytes text end rest l lacks = record { end = line_end end; cut = l.cut; no_lf = l.no_lf; ends = (lacks, l.ends); next = refl }
 
--- what stands behind a needle in the first line, with what follows the line
+-- what follows a needle in the first line, with what follows the line
 pub behind : (bytes text : List ℕ) (end : LineEnd) (rest before after inner : List ℕ) → IsLine bytes text end rest → text ≡ before ++ (start ++ after) → inner ≡ drop (length before + 17) bytes → bytes ≡ before ++ (start ++ inner)
 behind bytes text end rest before after inner l cut is =
     let more = after ++ (end_bytes end ++ rest) in
@@ -34,7 +34,7 @@ drop_all xs ys e = e ∙ nil_of (drop (length xs) xs) (let l = length-drop (leng
 append_nil_at : (xs none : List ℕ) → none ≡ [] → xs ++ none ≡ xs
 append_nil_at xs none e = ap (λ l. xs ++ l) e ∙ append-nil xs
 
--- a start stands in front, and what is ignored runs to the end
+-- a start comes first, and what is ignored goes to the end
 pub run_open : (line : ℕ) (bytes before inner none : List ℕ) → bytes ≡ before ++ (start ++ inner) → All (λ b. b ≢ 10) before → IsUpTo start before → Lacks stop inner → none ≡ [] → IsRun line bytes before line none
 run_open line bytes before inner none cut no_lf first lacks e = record {
   end = ignored_rest inner;

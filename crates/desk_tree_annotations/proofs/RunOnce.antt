@@ -46,7 +46,7 @@ up_to_once needle value more v m f g e =
 abbrev NoLf : List ℕ → Type 0
 NoLf l = All (λ b. b ≢ 10) l
 
--- a front that has no LF and ends with no CR lies within the first line
+-- a front that has no LF and ends with no CR is within the first line
 within_lf : (h inner l r : List ℕ) → NoLf h → h ++ (116 ∷ inner) ≡ l ++ (10 ∷ r) → (x : List ℕ) × (l ≡ h ++ (116 ∷ x))
 within_lf [] inner [] r no_lf e = absurd cc
 within_lf [] inner (d ∷ l) r no_lf e = let head : 116 ≡ d = cc in (l, λ i. sym head i ∷ l)

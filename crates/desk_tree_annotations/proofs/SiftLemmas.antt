@@ -1,4 +1,4 @@
--- A reading that goes on past faults.
+-- A reading that goes on after faults.
 use Rattle.std.proofs.Common.{◌≡◌, ◌∙◌, ℕ, ◌+◌, ◌<◌, ◌≤◌, List, [], ◌∷◌, ◌++◌, length, get_or, drop, sym, ap, refl, append_assoc}
 use Rattle.std.specs.Prelude.{Ok, Err}
 use Rattle.std.proofs.lemmas.List.{append-nil, drop_more, drop_all}
@@ -24,7 +24,7 @@ pub agrees_in : (r : Reading) (e : Read Items) → Agrees (then_read e (each (an
 agrees_in r (Ok ds) = agrees_each (annotation_at r) 0 ds
 agrees_in r (Err fault) = ([], refl)
 
--- one entry more
+-- one more entry
 module _ {A : Type 0} (entry : ℕ → Data → Read A) (vs : List Value) (i : ℕ) (v : Value) (x : Read A) (within : i < length vs) (is : x ≡ entry i (view (get_or vs i v))) where
   pub good_more : (done : List A) → (done ++ good x) ++ each_good entry (i + 1) (items_view (drop (i + 1) vs)) ≡ done ++ each_good entry i (items_view (drop i vs))
   good_more done =

@@ -1,4 +1,4 @@
--- What is passed over tells nothing.
+-- What is skipped gives nothing.
 use Rattle.std.proofs.Common.{◌≡◌, ◌≢◌, ◌∙◌, ◌⊎◌, inl, inr, ℕ, zero, suc, ◌+◌, ◌-◌, ◌<◌, ◌≤◌, false, cond, List, [], ◌∷◌, ◌++◌, length, get_or, take, drop, sym, subst, ap, refl, arith, append_assoc, append-nil, length-append, take-append-drop, length-take-le, add-zero, zero-add}
 use Rattle.std.specs.Prelude.{All, codes, count_by, ◌==◌, None}
 use Rattle.std.proofs.Math.Seq.{get_or-append_seam, drop-append_seam}
@@ -33,7 +33,7 @@ clear_before needle bytes before after cut first xs ys e =
       | inr lt ↦ absurd (shorter needle xs ys before after (sym e ∙ cut) first lt)
     ]
 
--- nor in what is left behind some bytes
+-- nor in what is left after some bytes
 pub clear_behind : (needle : List ℕ) (number : ℕ) (bytes front rest : List ℕ) → bytes ≡ front ++ rest → IsClear needle number bytes → (left : ℕ) → left ≤ number - length front → IsClear needle left rest
 clear_behind needle number bytes front rest cut clear left fits xs ys e =
     let h = clear (front ++ xs) ys (cut ∙ ap (λ l. front ++ l) e ∙ sym (append_assoc front xs (needle ++ ys))) in
@@ -45,7 +45,7 @@ clear_on needle number bytes front rest cut clear left is =
     let len = ap length cut ∙ length-append front rest in
     clear_behind needle number bytes front rest cut clear left (omega arith)
 
--- none stands wholly in them
+-- none is wholly within them
 pub clear_lacks : (needle : List ℕ) (number : ℕ) (bytes front rest : List ℕ) → 0 < length needle → bytes ≡ front ++ rest → length front ≤ number → IsClear needle number bytes → Lacks needle front
 clear_lacks needle number bytes front rest some cut fits clear xs ys e =
     let h = clear xs (ys ++ rest) (cut ∙ ap (λ l. l ++ rest) e ∙ append_assoc xs (needle ++ ys) rest ∙ ap (λ l. xs ++ l) (append_assoc needle ys rest)) in
@@ -53,7 +53,7 @@ clear_lacks needle number bytes front rest some cut fits clear xs ys e =
     let more = length-append needle ys in
     absurd (omega arith)
 
--- what stands before the first one lacks it
+-- what comes before the first one lacks it
 pub before_lacks : (needle before : List ℕ) → 0 < length needle → IsUpTo needle before → Lacks needle before
 before_lacks needle before some first xs ys e =
     let none = first xs (ys ++ needle) (ap (λ l. l ++ needle) e ∙ append_assoc xs (needle ++ ys) needle ∙ ap (λ l. xs ++ l) (append_assoc needle ys needle)) in
@@ -66,7 +66,7 @@ nothing_left : (a b : List ℕ) → a ++ b ≡ [] → b ≡ []
 nothing_left [] b e = e
 nothing_left (c ∷ a) b e = absurd cc
 
--- what stands at the end of whole lines is nothing or ends as they do
+-- the rest of whole lines is nothing, or ends as they do
 whole_behind : (a b : List ℕ) → AreWhole (a ++ b) → AreWhole b
 whole_behind [] b whole = whole
 whole_behind (c ∷ a) b (inl e) = absurd cc
@@ -121,7 +121,7 @@ front_of lines more line Nothing rest l (inr (front, e)) =
 
 -- ---- what whole lines show
 
--- runs of lines in front of other bytes, which tell no more than the others' runs
+-- runs of lines in front of other bytes, which give no more than the runs of those bytes
 record Passed (line : ℕ) (lines rest : List ℕ) (others : List RunText) : Type 0 where
   runs : List RunText
   shows : Shows line (lines ++ rest) runs
@@ -151,7 +151,7 @@ passed (suc bound) line (b ∷ t) rest others within whole quiet shows =
           (None, tags, inr (lacks_front tag (b ∷ t) l.line (end_bytes l.end ++ l.rest) cut none), refl, later.tells tag seen tags (lacks_back tag (end_bytes l.end ++ l.rest) (end_bytes l.end) l.rest refl after) gives);
     }
 
--- what is left behind them completes what the whole did
+-- what is left after them completes what the whole did
 pub completes_skip : (file : List ℕ) (most line : ℕ) (bytes : List ℕ) (after : ℕ) (rest : List ℕ) → Skips most line bytes after rest → IsClear (codes "SPDX-") most bytes
     → (noticed : ℕ) (notices : List TagText) (licensed : ℕ) (licences : List TagText)
     → Completes file line bytes noticed notices licensed licences → Completes file after rest noticed notices licensed licences
@@ -185,7 +185,7 @@ rest_of n bytes = (drop n bytes, sym (take-append-drop n bytes))
 pub whole_upto : (bytes : List ℕ) (at : ℕ) → at < length bytes → get_or bytes at 0 ≡ 10 → AreWhole (take (at + 1) bytes)
 whole_upto bytes at lt is = inr (take at bytes, take_more bytes at 0 lt ∙ ap (λ b. take at bytes ++ (b ∷ [])) is)
 
--- whole lines of what stands before the first start, in the front of some bytes
+-- whole lines of what comes before the first start, within the first of some bytes
 pub skips : (most line : ℕ) (bytes quiet lines : List ℕ) (fed : ℕ) → most < length bytes
     → (more : List ℕ) × (take most bytes ≡ quiet ++ more) → Lacks start quiet
     → (more : List ℕ) × (quiet ≡ lines ++ more) → AreWhole lines → fed ≡ feeds lines

@@ -10,7 +10,7 @@ use Rattle.desk_tree_annotations.specs.Runs.{Lacks, IsUpTo, start}
 use Rattle.desk_tree_annotations.specs.Skipping.{IsClear}
 use Rattle.desk_tree_annotations.proofs.SkipLemmas.{order, clear_lacks}
 
--- neither a line feed nor the first letter of a start stands from one place up to another
+-- neither a line feed nor the first letter of a start is from one place up to another
 abbrev pub Plain : List ℕ → ℕ → ℕ → Type 0
 Plain bytes from upto = (k : ℕ) → from ≤ k → k < upto → (get_or bytes k 0 ≢ 10) × (get_or bytes k 0 ≢ 82)
 
@@ -32,7 +32,7 @@ clear_upto bytes from upto clear none xs ys e =
       | inr lt ↦ absurd ((none (length xs) low lt).1 (ap (λ l. get_or l (length xs) 0) e ∙ get_or-append_seam xs 82 (drop 1 start ++ ys) 0))
     ]
 
--- none begins where it doesn't stand
+-- none begins where it isn't found
 pub clear_past : (bytes behind : List ℕ) (at : ℕ) → IsClear start at bytes → behind ≡ drop at bytes → ((ys : List ℕ) → behind ≢ start ++ ys) → IsClear start (at + 1) bytes
 clear_past bytes behind at clear is none xs ys e =
     let low = clear xs ys e in
@@ -41,7 +41,7 @@ clear_past bytes behind at clear is none xs ys e =
       | inr lt ↦ let same : at ≡ length xs = omega arith in absurd (none ys (is ∙ ap (λ n. drop n bytes) same ∙ ap (drop (length xs)) e ∙ drop-append_seam xs (start ++ ys)))
     ]
 
--- no line feed stands in so many bytes
+-- there is no line feed in this many bytes
 abbrev pub HasNoFeed : List ℕ → ℕ → Type 0
 HasNoFeed bytes upto = (k : ℕ) → k < upto → get_or bytes k 0 ≢ 10
 
@@ -66,7 +66,7 @@ front_no_feed bytes front upto is fits none k d lt =
     let same : get_or front k d ≡ get_or bytes k 0 = ap (λ l. get_or l k d) is ∙ get_or-take upto bytes k d inside ∙ get_or_default bytes k d 0 (omega arith) in
     subst (λ v. v ≢ 10) (sym same) (none k inside)
 
--- ---- no start stands on the line
+-- ---- there is no start on the line
 
 pub lacks_to_feed : (bytes : List ℕ) (at : ℕ) → IsClear start at bytes → get_or bytes at 0 ≡ 10 → (text more : List ℕ) → bytes ≡ text ++ more → All (λ b. b ≢ 10) text → Lacks start text
 lacks_to_feed bytes at clear feed text more cut no_lf =
@@ -87,7 +87,7 @@ lacks_unseen bytes left from is fits clear none =
     let whole : from + length left ≡ length bytes = omega arith in
     lacks_to_end bytes (subst (λ n. IsClear start n bytes) whole (clear_upto bytes from (from + length left) clear (plain bytes left from (length left) is none)))
 
--- ---- one does
+-- ---- there is one
 
 pub start_cut : (bytes before behind inner : List ℕ) (at : ℕ) → before ≡ take at bytes → behind ≡ drop at bytes → behind ≡ start ++ inner → bytes ≡ before ++ (start ++ inner)
 start_cut bytes before behind inner at front back is =
@@ -107,7 +107,7 @@ start_first bytes before inner at front fits cut clear xs ys e =
 pub place_fits : (bytes left : List ℕ) (from more : ℕ) → left ≡ drop from bytes → more < length left → from + more < length bytes
 place_fits bytes left from more is lt = let len = ap length is ∙ length-drop from bytes in omega arith
 
--- ---- what stands behind a front
+-- ---- what follows a prefix
 
 pub behind_none : (s p : List ℕ) (r : Option (Bor (List ℕ))) → MatchOption r ((rest : List ℕ) → s ≢ p ++ rest) (λ x. s ≡ p ++ x.now) → IfNone r ((rest : List ℕ) → s ≢ p ++ rest)
 behind_none s p None h = h

@@ -20,7 +20,7 @@ onto_append line None ts = refl
 onto_append line (Some None) ts = refl
 onto_append line (Some (Some v)) ts = refl
 
--- what a run adds to a list, and what the runs behind it add
+-- what a run adds to a list, and what the runs after it add
 pub adds_more : (tag : List ℕ) (seen : ℕ) (r : RunText) (rs : List RunText) (before items : List TagText) (last : ℕ)
     → Adds tag seen r before items last → (ts : List TagText) → Gives tag last rs ts
     → (more : List TagText) × Gives tag seen (r ∷ rs) more × (before ++ more ≡ items ++ ts)

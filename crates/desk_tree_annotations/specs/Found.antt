@@ -4,12 +4,12 @@ use denote.Ref.{Bor}
 use Rattle.desk_tree_annotations.specs.Runs.{RunText}
 use Rattle.desk_tree_annotations.specs.Tags.{TagText, Counts, onto, seen_after}
 
--- a list with what one run adds at its end, and the line that had its tag last then
+-- a list with what one run adds at its end, and the last line that had its tag then
 abbrev pub Adds : List ℕ → ℕ → RunText → List TagText → List TagText → ℕ → Type 0
 Adds tag seen run before items last =
     (o : Option (Option (List ℕ))) × Counts tag seen run o × (items ≡ before ++ onto run.line o []) × (last ≡ seen_after seen run.line o)
 
--- what the code finds, without where it lies in memory
+-- what the code finds, apart from where it is in memory
 abbrev pub found_inner : Option (Bor (List ℕ)) → Option (List ℕ)
 found_inner None = None
 found_inner (Some t) = Some t.now

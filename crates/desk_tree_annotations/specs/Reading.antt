@@ -1,5 +1,5 @@
--- The annotations of a REUSE.toml, or its first fault: of the whole document, then of each annotation in turn, of which the fault
--- with the least number is told.
+-- The annotations of a REUSE.toml, or its first fault: first those of the whole document, then those of each
+-- annotation in turn. If an annotation has several faults, the one with the lowest number is reported.
 use Rattle.std.specs.Prelude.{ℕ, ◌+◌, List, [], map, codes, Option, Some, None, Result, Ok, Err, if◌then◌else◌}
 use Rattle.std.specs.Option.{ok_or}
 use Rattle.std.specs.List.{list_all}
@@ -48,7 +48,7 @@ written_at index d =
     then_read (ok_or (as_table d) (BadAnnotation index BadKind)) (λ ms.
     then_read (ok_or (get_member (codes "path") ms) (BadAnnotation index NoPath)) (written_with index ms))
 
--- the annotation that texts are, where its precedence is known and each licence is an expression
+-- the annotation with these texts, if its precedence is known and each licence is an expression
 abbrev pub annotation_of : Reading → ℕ → WrittenTexts → Read Annotation
 annotation_of r index w =
     then_read (ok_or (precedence_of w.precedence) (BadAnnotation index BadPrecedence)) (λ precedence.
@@ -59,7 +59,7 @@ annotation_of r index w =
 abbrev pub annotation_at : Reading → ℕ → Data → Read Annotation
 annotation_at r index d = then_read (written_at index d) (annotation_of r index)
 
--- the entries that are listed: `annotations` may be absent, and is a list
+-- the entries that are listed: `annotations` may be absent, and else is a list
 abbrev pub listed : Option Data → Read Items
 listed None = Ok no_items
 listed (Some d) = ok_or (as_array d) (BadAnnotation 0 BadKind)
@@ -71,6 +71,6 @@ entries_in ms = if is_version (get_member (codes "version") ms) then listed (get
 abbrev pub entries : List ℕ → Read Items
 entries text = then_read (ok_or (parse_document text) BadToml) entries_in
 
--- the whole
+-- those of a text
 abbrev pub annotations_of : Reading → List ℕ → Read (List Annotation)
 annotations_of r text = then_read (entries text) (each (annotation_at r) 0)

@@ -5,7 +5,7 @@ use Rattle.desk_expr.specs.Spelling.{SpellsWithin}
 use Rattle.desk_tree_annotations.specs.declared.glob.Piece.{Piece}
 use Rattle.desk_tree_annotations.specs.Glob.{Spells}
 
--- the text is a licence expression (SPDX 2.3, Annex D), or is none
+-- the text is a licence expression (SPDX 2.3, Annex D), or isn't one
 abbrev pub Tells : List ℕ → Bool → Type 0
 Tells text true = (e : Tree) × SpellsWithin text e
 Tells text false = (e : Tree) → SpellsWithin text e → ⊥

@@ -1,6 +1,7 @@
--- What stands on the lines of a file outside ignored stretches (REUSE Specification 3.3, comment headers). An ignored stretch
--- runs from REUSE-IgnoreStart to the end of the next REUSE-IgnoreEnd, or to the file's end. The definition speaks of the whole
--- file: each byte lies in one run, in one ignored stretch, or in the end of a line.
+-- The text on the lines of a file outside ignored stretches (REUSE Specification 3.3, comment headers). An
+-- ignored stretch goes from REUSE-IgnoreStart to the end of the next REUSE-IgnoreEnd, or to the end of the
+-- file. The definition covers the whole file: each byte is in one run, in one ignored stretch, or in the end
+-- of a line.
 use Rattle.std.specs.Prelude.{◌≡◌, ◌≢◌, ℕ, ◌+◌, ◌<◌, ◌==◌, List, [], ◌∷◌, ◌++◌, length, All, count_by, codes}
 use Rattle.desk_base.specs.declared.lines.LineEnd.{LineEnd}
 use Rattle.desk_base.specs.Lines.{end_bytes, Ends}
@@ -12,27 +13,28 @@ start = codes "REUSE-IgnoreStart"
 abbrev pub stop : List ℕ
 stop = codes "REUSE-IgnoreEnd"
 
--- a needle stands nowhere in a text
+-- a needle is nowhere in a text
 abbrev pub Lacks : List ℕ → List ℕ → Type 0
 Lacks needle text = (xs ys : List ℕ) → text ≡ xs ++ (needle ++ ys) → ⊥
 
--- the first needle behind a text is the one at its end
+-- in this text with the needle after it, the first needle is the one at the end
 abbrev pub IsUpTo : List ℕ → List ℕ → Type 0
 IsUpTo needle text = (xs ys : List ℕ) → text ++ needle ≡ xs ++ (needle ++ ys) → length ys ≡ 0
 
--- how a run ends: as its line does; by an ignored stretch; or by one that runs to the file's end
+-- how a run ends: where its line does; at an ignored stretch; or at one that goes to the end of the file
 pub data RunEnd : Type 0 where
   line_end : (end : LineEnd) → RunEnd
   ignored : (inner : List ℕ) → RunEnd
   ignored_rest : (inner : List ℕ) → RunEnd
 
--- the bytes from a run to what follows it
+-- the bytes between a run and what follows it
 abbrev pub between : RunEnd → List ℕ
 between (line_end end) = end_bytes end
 between (ignored inner) = start ++ (inner ++ stop)
 between (ignored_rest inner) = start ++ inner
 
--- a run ends where its line does, or at the first start; and what is ignored at the first stop behind that
+-- a run ends where its line does, or at the first start; and what is ignored ends at the first stop after
+-- that
 abbrev pub EndsRun : List ℕ → RunEnd → List ℕ → Type 0
 EndsRun text (line_end end) rest = Lacks start text × Ends text end rest
 EndsRun text (ignored inner) rest = IsUpTo start text × IsUpTo stop inner
@@ -44,7 +46,7 @@ lines_between (line_end end) = 1
 lines_between (ignored inner) = count_by (λ b. b == 10) inner
 lines_between (ignored_rest inner) = 0
 
--- the first run of some bytes that begin on a line, and the line and the bytes behind it
+-- the first run of some bytes that begin on a line, and the line and the bytes after it
 pub record IsRun (line : ℕ) (bytes text : List ℕ) (after : ℕ) (rest : List ℕ) : Type 0 where
   pub end : RunEnd
   pub cut : bytes ≡ text ++ (between end ++ rest)
@@ -52,7 +54,7 @@ pub record IsRun (line : ℕ) (bytes text : List ℕ) (after : ℕ) (rest : List
   pub ends : EndsRun text end rest
   pub next : after ≡ line + lines_between end
 
--- a run without where it lies in memory
+-- a run, apart from where it is in memory
 pub record RunText : Type 0 where
   pub line : ℕ
   pub text : List ℕ

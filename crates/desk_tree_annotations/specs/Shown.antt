@@ -1,11 +1,11 @@
--- What the code's values show of the definitions'.
+-- How the code's values correspond to those of the definitions.
 use Rattle.std.specs.Prelude.{◌≡◌, Result, Ok, Err}
 use Rattle.desk_tree_annotations.specs.declared.fault.AnnotationsFault.{AnnotationsFault}
 use Rattle.desk_tree_annotations.specs.declared.entries.Written.{Written}
 use Rattle.desk_tree_annotations.specs.Reading.{Read, WrittenTexts}
 use Rattle.desk_base.specs.Borrowed.{texts_in}
 
--- a result is what is read, seen as it shows
+-- a result is what is read, as it is shown
 abbrev pub Gives : {A B : Type 0} → Read B → (A → B) → Result A AnnotationsFault → Type 0
 Gives read show (Ok x) = read ≡ Ok (show x)
 Gives read show (Err fault) = read ≡ Err fault

@@ -11,7 +11,7 @@ abbrev pub good : {A : Type 0} → Read A → List A
 good (Ok x) = x ∷ []
 good (Err fault) = []
 
--- why nothing is, if so
+-- why nothing is read, if so
 abbrev pub bad : {A : Type 0} → Read A → List AnnotationsFault
 bad (Ok x) = []
 bad (Err fault) = fault ∷ []
@@ -40,7 +40,7 @@ good_annotations r text = good_in r (entries text)
 abbrev pub annotation_faults : Reading → List ℕ → List AnnotationsFault
 annotation_faults r text = bad_in r (entries text)
 
--- a reading up to the first fault, beside all faults and all that can be read
+-- a reading up to the first fault, compared with all faults and all that can be read
 abbrev pub Agrees : {A : Type 0} → Read (List A) → List AnnotationsFault → List A → Type 0
 Agrees (Ok xs) faults ys = (faults ≡ []) × (ys ≡ xs)
 Agrees (Err fault) faults ys = (more : List AnnotationsFault) × (faults ≡ fault ∷ more)

@@ -25,7 +25,7 @@ back (Some p) = Some (spot p)
 abbrev pub state : Search → State
 state s = record { here = spot s.here; name = back s.name; path = back s.path }
 
--- no match goes on from here
+-- there is no match from here
 abbrev pub Stuck : Spot → Type 0
 Stuck s = IsMatch s.pieces s.text → ⊥
 
@@ -33,7 +33,7 @@ Stuck s = IsMatch s.pieces s.text → ⊥
 abbrev pub Passes : Piece → ℕ → Type 0
 Passes p b = Covers p (b ∷ [])
 
--- the place with one byte more in the stretch of its `*`
+-- the place with one more byte in the stretch of its `*`
 abbrev pub Longer : Option Spot → Spot → Type 0
 Longer None r = ⊥
 Longer (Some s) r = (b : ℕ) × (s.pieces ≡ r.pieces) × (s.text ≡ b ∷ r.text) × Passes InName b
@@ -41,11 +41,11 @@ Longer (Some s) r = (b : ℕ) × (s.pieces ≡ r.pieces) × (s.text ≡ b ∷ r.
 abbrev pub NoLonger : Option Spot → Type 0
 NoLonger o = (r : Spot) → Longer o r → ⊥
 
--- a text behind the first `/` of another
+-- a text after the first `/` of another
 abbrev pub IsBehindName : List ℕ → List ℕ → Type 0
 IsBehindName text rest = (name : List ℕ) × (text ≡ name ++ (47 ∷ rest)) × All (λ b. b ≢ 47) name
 
--- the place with the rest of a name more in the stretch of its `**`, and the `/` behind it
+-- the place with the rest of a name, and the `/` after it, added to the stretch of its `**`
 abbrev pub Further : Option Spot → Spot → Type 0
 Further None r = ⊥
 Further (Some s) r = (s.pieces ≡ r.pieces) × IsBehindName s.text r.text
@@ -61,7 +61,7 @@ ByByte s n = (b : ℕ) × (s.here.pieces ≡ Byte b ∷ n.here.pieces) × (s.her
 abbrev pub ByName : State → State → Type 0
 ByName s n = (s.here.pieces ≡ InName ∷ n.here.pieces) × (s.here.text ≡ n.here.text) × (n.name ≡ Some n.here) × (n.path ≡ s.path)
 
--- a `**`, which takes nothing at first, and within the name is a `*`
+-- a `**`, which takes nothing at first, and acts as a `*` within the name
 abbrev pub ByPath : State → State → Type 0
 ByPath s n = (s.here.pieces ≡ InPath ∷ n.here.pieces) × (s.here.text ≡ n.here.text) × (n.name ≡ Some n.here) × (n.path ≡ Some n.here)
 
@@ -69,7 +69,8 @@ ByPath s n = (s.here.pieces ≡ InPath ∷ n.here.pieces) × (s.here.text ≡ n.
 abbrev pub Follows : State → State → Type 0
 Follows s n = ByByte s n ⊎ (ByName s n ⊎ ByPath s n)
 
--- the last `*` takes one byte more, or where it can't, the last `**` takes the rest of its name, and is a `*` in the next one
+-- the last `*` takes one more byte or, if it can't, the last `**` takes the rest of its name, and acts as a
+-- `*` in the next one
 abbrev pub ByLongerName : State → State → Type 0
 ByLongerName s n = Longer s.name n.here × (n.name ≡ Some n.here) × (n.path ≡ s.path)
 
@@ -83,7 +84,7 @@ Spent s = NoLonger s.name × NoFurther s.path
 abbrev pub Returns : State → State → Type 0
 Returns s n = ByLongerName s n ⊎ ByNextName s n
 
--- a step: one piece further where that goes, else back
+-- a step: one piece further if that is possible, else back
 abbrev pub Steps : State → State → Type 0
 Steps s n = Follows s n ⊎ (Stuck s.here × Returns s n)
 

@@ -14,34 +14,35 @@ licence_tag = codes "SPDX-License-Identifier:"
 abbrev pub IsClose : List ℕ → Type 0
 IsClose c = (c ≡ codes "*/") ⊎ ((c ≡ codes "-->") ⊎ ((c ≡ codes "*)") ⊎ (c ≡ codes "-}")))
 
--- a text without one end of a comment at its back, and the blanks before that
+-- a text without one end of a comment at its end, and the blanks before that
 abbrev pub IsBare : List ℕ → List ℕ → Type 0
 IsBare text value =
     ((front : List ℕ) × (close : List ℕ) × IsClose close × (text ≡ front ++ close) × (value ≡ trim_end front))
     ⊎ (((front close : List ℕ) → IsClose close → text ≡ front ++ close → ⊥) × (value ≡ text))
 
--- the first tag of a text, and what stands behind it
+-- the first tag of a text, and what follows it
 pub record HasTag (tag text after : List ℕ) : Type 0 where
   pub before : List ℕ
   pub cut : text ≡ before ++ (tag ++ after)
   pub first : IsUpTo tag before
 
--- what a tag tells: the value behind it, and nothing where that is empty or no UTF-8
+-- what a tag gives: the value after it, and nothing if that is empty or isn't UTF-8
 abbrev pub Tells : List ℕ → Option (List ℕ) → Type 0
 Tells after None = (value : List ℕ) × IsBare (trimmed after) value × (0 < length value → IsUtf8 value → ⊥)
 Tells after (Some value) = IsBare (trimmed after) value × (0 < length value) × IsUtf8 value
 
--- a run on the line that had its tag last, or one without a tag, counts for nothing; any other tells what its first tag does
+-- a run on the last line that had its tag, or a run without a tag, doesn't count; any other gives what its
+-- first tag does
 abbrev pub Counts : List ℕ → ℕ → RunText → Option (Option (List ℕ)) → Type 0
 Counts tag seen run None = (run.line ≡ seen) ⊎ Lacks tag run.text
 Counts tag seen run (Some o) = (after : List ℕ) × (run.line ≢ seen) × HasTag tag run.text after × Tells after o
 
--- the line that had its tag last
+-- the last line that had its tag
 abbrev pub seen_after : ℕ → ℕ → Option (Option (List ℕ)) → ℕ
 seen_after seen line None = seen
 seen_after seen line (Some o) = line
 
--- a tag's value without where it lies in memory
+-- a tag's value, apart from where it is in memory
 pub record TagText : Type 0 where
   pub line : ℕ
   pub value : List ℕ
@@ -49,13 +50,13 @@ pub record TagText : Type 0 where
 abbrev pub tag_text : Tagged → TagText
 tag_text t = record { line = t.line; value = t.value.now }
 
--- a list with what a run tells before it
+-- a list with what a run gives before it
 abbrev pub onto : ℕ → Option (Option (List ℕ)) → List TagText → List TagText
 onto line None tags = tags
 onto line (Some None) tags = tags
 onto line (Some (Some value)) tags = record { line = line; value = value } ∷ tags
 
--- the values of a tag that runs give, in order, where a line has had its tag (0: none has)
+-- the values of a tag that runs give, in order, if this line is the last that had its tag (0: none had)
 abbrev pub Gives : List ℕ → ℕ → List RunText → List TagText → Type 0
 Gives tag seen [] tags = tags ≡ []
 Gives tag seen (run ∷ runs) tags =

@@ -4,23 +4,23 @@ use crate::glob::Glob;
 use crate::shared::SharedText;
 use desk_base::Items;
 
-/// How an annotation stands to what a file states itself.
+/// How an annotation relates to what a file states itself.
 #[derive(Clone, Copy, PartialEq, Eq)]
 pub enum Precedence {
-    /// It counts where the file states nothing itself.
+    /// It counts if the file states nothing itself.
     Closest,
-    /// It counts beside what the file states itself.
+    /// It counts in addition to what the file states itself.
     Aggregate,
-    /// It counts in place of what the file states itself.
+    /// It counts instead of what the file states itself.
     Override,
 }
 
-/// What a REUSE.toml says of the files that match one of its paths.
+/// What a REUSE.toml says about the files that match one of its paths.
 #[derive(Drop)]
 pub struct Annotation {
     /// Patterns of paths, which are relative to the folder of the REUSE.toml.
     pub paths: Items<Glob>,
-    /// How it stands to what a file states itself.
+    /// How it relates to what a file states itself.
     pub precedence: Precedence,
     /// Copyright notices, as they are written.
     pub notices: Items<SharedText>,

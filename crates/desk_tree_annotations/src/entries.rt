@@ -75,7 +75,7 @@ fn written_at(
     }
 }
 
-// The annotation that texts are.
+// The annotation with these texts.
 fn annotation_of(
     alloc: Global,
     written: &Written<'_>,

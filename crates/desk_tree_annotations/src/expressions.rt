@@ -9,7 +9,7 @@ use desk_expr::{parse, told};
 use std::alloc::{AllocError, Global};
 
 /// Whether a text is a licence expression, with operators in capitals (SPDX 2.3, Annex D). The only
-/// error is want of memory.
+/// error is lack of memory.
 pub fn is_expression(alloc: Global, text: &str) -> Result<bool, AllocError>
     ensures { IfOk result (Tells text.now) }
 {
@@ -22,8 +22,8 @@ pub fn is_expression(alloc: Global, text: &str) -> Result<bool, AllocError>
     }
 }
 
-/// The same where another text, if any, is known to be an expression: one that equals it isn't read
-/// again.
+/// The same, with a text that is known to be an expression, if any: a text that equals it isn't
+/// read again.
 pub fn is_expression_beside(
     alloc: Global,
     text: &str,

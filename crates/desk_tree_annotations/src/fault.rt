@@ -12,7 +12,7 @@ pub enum AnnotationFault {
     /// It has no `path`.
     #[error("no path")]
     NoPath,
-    /// A value of another kind than its key wants, or no table.
+    /// A value of another kind than its key needs, or no table.
     #[error("a value of another kind")]
     BadKind,
     /// A precedence that is none of the three.
@@ -24,8 +24,8 @@ pub enum AnnotationFault {
 }
 
 impl AnnotationFault {
-    /// The number, by which it is told: from 1, in the order in which the faults of an annotation
-    /// are looked for.
+    /// The number by which it is reported: from 1, in the order in which the faults of an
+    /// annotation are looked for.
     pub fn number(self) -> u8
         ensures { result ≡ kind_number self }
     {

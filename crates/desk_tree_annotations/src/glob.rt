@@ -13,7 +13,7 @@ use std::marker::Model;
 pub enum Piece {
     /// A byte that stands for itself.
     Byte(u8),
-    /// `*`: any bytes but `/`, or none.
+    /// `*`: any bytes except `/`, or none.
     InName,
     /// `**`: any bytes, or none.
     InPath,
@@ -36,8 +36,8 @@ fn first_piece(pattern: &[u8]) -> Option<(Piece, &[u8])>
 
 /// A pattern of paths, seen as its pieces.
 ///
-/// `*` is any bytes but `/`, `**` any bytes, `\*` an asterisk and `\\` a backslash. Read from the
-/// left, two asterisks are `**` first; a backslash before another byte stands for that byte, and at
+/// `*` is any bytes except `/`, `**` any bytes, `\*` an asterisk and `\\` a backslash. A pattern is
+/// read from the left: two asterisks are `**`, and a backslash stands for the byte after it, or at
 /// the end for itself. So each text is a pattern.
 #[derive(Drop)]
 pub struct Glob {
@@ -54,7 +54,7 @@ impl Model for Glob {
 }
 
 impl Glob {
-    /// The pieces of a pattern. The only error is want of memory.
+    /// The pieces of a pattern. The only error is lack of memory.
     pub fn parse(alloc: Global, pattern: &str) -> Result<Glob, AllocError>
         ensures { IfOk result (λ g. Spells pattern.now g) }
     {
@@ -67,7 +67,7 @@ impl Glob {
         Ok(Glob { pieces })
     }
 
-    /// Whether the pattern matches the whole path: whether that divides into stretches, one for
+    /// Whether the pattern matches the whole path: whether the path divides into stretches, one for
     /// each piece in order. Takes no memory.
     pub fn matches(&self, path: &str) -> bool
         ensures { IsTrue result ↔ IsMatch self.now path.now }
@@ -76,7 +76,7 @@ impl Glob {
     }
 }
 
-/// A pattern is read in one way.
+/// A pattern can be read in only one way.
 pub fn one_glob()
     ensures { (pattern : List ℕ) (a b : List Piece) → Spells pattern a → Spells pattern b → a ≡ b }
 {}

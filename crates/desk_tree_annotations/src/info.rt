@@ -23,8 +23,8 @@ pub struct Info<'a> {
     pub licences: Vec<Tagged<'a>>,
 }
 
-// The notices and licences of a file, where no tag begins in so many bytes. The searches are made
-// once for all lines.
+// The notices and licences of a file, if no tag begins in its first `known` bytes. The searches are
+// prepared once for all lines.
 fn tagged<'a>(
     alloc: Global,
     file: &'a [u8],
@@ -62,13 +62,13 @@ fn tagged<'a>(
     Ok(Info { notices, licences })
 }
 
-/// The notices and licences of a file, each with its line. The only error is want of memory.
+/// The notices and licences of a file, each with its line. The only error is lack of memory.
 ///
-/// The first tag of a line outside ignored stretches counts, wherever in the line it stands, and
-/// also where its value is read over. Ignored is what stands from `REUSE-IgnoreStart` to the end of
-/// the next `REUSE-IgnoreEnd`, or to the file's end. A value runs to the line's end or the next
+/// The first tag of a line outside ignored stretches counts, wherever in the line it is, even if
+/// its value is skipped. An ignored stretch goes from `REUSE-IgnoreStart` to the end of the next
+/// `REUSE-IgnoreEnd`, or to the end of the file. A value goes to the end of the line or to the next
 /// ignored stretch, without blanks at its ends and without one trailing `*/`, `-->`, `*)` or `-}`
-/// and the blanks before it. An empty value, or one that isn't UTF-8, is read over.
+/// and the blanks before that. An empty value, or one that isn't UTF-8, is skipped.
 pub fn header<'a>(alloc: Global, file: &'a [u8]) -> Result<Info<'a>, AllocError>
     ensures { IfOk result (λ i. IsInfo file.now (map tag_text i.notices.items)
         (map tag_text i.licences.items)) }

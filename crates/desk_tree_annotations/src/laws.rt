@@ -12,8 +12,8 @@ pub fn one_reading()
         → annotations_of r text ≡ annotations_of s text }
 {}
 
-/// The annotations that are read are all that can be, and then there are no faults; or the fault is
-/// the first one.
+/// Either the annotations that are read are all that can be, and there are no faults; or the fault
+/// is the first one.
 pub fn reading_is_sifting()
     ensures { (r : Reading) (text : List ℕ)
         → Agrees (annotations_of r text) (annotation_faults r text)

@@ -1,6 +1,6 @@
-//! What files and REUSE.toml files state of licences and notices (REUSE Specification 3.3): the tags
-//! of a file, the patterns of paths, and the annotations that a REUSE.toml gives to the files below
-//! its folder.
+//! What files and REUSE.toml files state about licences and notices (REUSE Specification 3.3): the
+//! tags of a file, the patterns of paths, and the annotations that a REUSE.toml gives to the files
+//! below its folder.
 //!
 //! ```toml
 //! version = 1
@@ -12,22 +12,21 @@
 //! SPDX-License-Identifier = "Apache-2.0"
 //! ```
 //!
-//! - `header` gives the notices and licences of a file's bytes, each with its line
+//! - `header` returns the notices and licences of a file's bytes, each with its line
 //!   (`specs/Runs.antt`, `specs/Tags.antt`).
 //! - `Glob::parse` reads a pattern, and `Glob::matches` says whether a path divides into stretches,
-//!   one for each of its pieces in order (`specs/Glob.antt`). A contract sees a `Glob` as the list of
+//!   one for each of its pieces in order (`specs/Glob.antt`). Contracts see a `Glob` as the list of
 //!   its pieces.
-//! - `Annotations::read` reads a REUSE.toml. `annotations_of` (`specs/Reading.antt`) is a function of
-//!   the text: the annotations in order, or the first fault. It speaks of the table that `toml` reads
-//!   in the text and, by a `Reading` that it is given, of the pieces of patterns and of which texts
-//!   are licence expressions. `read` answers as it says for each reading that is right by the
-//!   definitions of patterns and of `desk_expr` (`IsRight`); they all give one answer
-//!   (`one_reading`).
-//! - The notices and licences of an annotation are each a `SharedText`: all files that it counts for
-//!   hold them without a copy.
-//! - `Annotations::sift` goes on past faults: it gives all annotations that can be read, and the
-//!   fault of each other one (`specs/Sifting.antt`). Where `read` gives annotations, they are those,
-//!   and else its fault is the first (`reading_is_sifting`).
+//! - `Annotations::read` reads a REUSE.toml. `annotations_of` (`specs/Reading.antt`) is a function
+//!   of the text: the annotations in order, or the first fault. It takes the table that `toml`
+//!   reads in the text and, from a `Reading`, the pieces of patterns and which texts are licence
+//!   expressions. `read` returns this for each reading that is right by the definitions of patterns
+//!   and of `desk_expr` (`IsRight`); they all give the same answer (`one_reading`).
+//! - The notices and licences of an annotation are each a `SharedText`: all files for which it
+//!   counts hold them without a copy.
+//! - `Annotations::sift` goes on after faults: it returns all annotations that can be read, and the
+//!   fault of each other one (`specs/Sifting.antt`). If `read` returns annotations, they are the
+//!   same, and if not, its fault is the first (`reading_is_sifting`).
 #![tactic(auto)]
 
 mod annotation;

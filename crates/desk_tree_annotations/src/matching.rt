@@ -1,12 +1,12 @@
 //! The search for a match: from left to right, with two places to go back to.
 //!
-//! The last `*` can always take the place of an earlier one in the same name, and the last `**`
-//! that of all wildcards before it: what an earlier one could reach with a longer stretch, the last
-//! one reaches too. So no other place is kept.
+//! The last `*` can always replace an earlier one in the same name, and the last `**` all wildcards
+//! before it: what an earlier one could reach with a longer stretch, the last one reaches too. So
+//! no other place is kept.
 //!
-//! A `**` is a `*` within the name where it begins, and goes on to the next name only once nothing
-//! begins in this one. So the pieces behind it are held against each name once, and a search takes
-//! at most about the pieces times the bytes of the path.
+//! A `**` acts as a `*` within the name where it begins, and goes on to the next name only once no
+//! match begins in this one. So the pieces after it are tried on each name once, and the steps of a
+//! search are at most about the pieces times the bytes of the path.
 
 ghost use Rattle.std.specs.Prelude.{◌≡◌, ◌↔◌, ◌<◌, ◌+◌, ◌∷◌, [], ℕ, List, length, Some, IsTrue, IfSome, IfNone};
 ghost use Rattle.desk_tree_annotations.specs.declared.glob.Piece.{Piece};
@@ -23,7 +23,7 @@ struct Place<'a> {
     text: &'a [u8],
 }
 
-// Where a search stands, and where its last `*` and the last `**` before that end.
+// The place of a search, and the places after its last `*` and after the last `**` before that.
 #[derive(Clone, Copy)]
 struct Search<'a> {
     here: Place<'a>,
@@ -31,7 +31,7 @@ struct Search<'a> {
     path: Option<Place<'a>>,
 }
 
-// The place behind a `*` that takes one byte more.
+// The place after a `*` that takes one more byte.
 fn longer_name<'a>(place: Option<Place<'a>>) -> Option<Place<'a>>
     ensures some { IfSome result (λ r. Longer (back place.entry) (spot r)) }
     ensures none { IfNone result (NoLonger (back place.entry)) }
@@ -47,7 +47,7 @@ fn longer_name<'a>(place: Option<Place<'a>>) -> Option<Place<'a>>
     })
 }
 
-// The text behind the first `/`.
+// The text after the first `/`.
 fn behind_name(text: &[u8]) -> Option<&[u8]>
     ensures some { IfSome result (λ r. IsBehindName text.now r.now) }
     ensures none { IfNone result ((rest : List ℕ) → IsBehindName text.now rest → ⊥) }
@@ -58,7 +58,7 @@ fn behind_name(text: &[u8]) -> Option<&[u8]>
     Some(&text[slash + 1..])
 }
 
-// The place behind a `**` that takes the rest of a name more, and its `/`.
+// The place after a `**` that also takes the rest of a name and its `/`.
 fn next_name<'a>(place: Option<Place<'a>>) -> Option<Place<'a>>
     ensures some { IfSome result (λ r. Further (back place.entry) (spot r)) }
     ensures none { IfNone result (NoFurther (back place.entry)) }
@@ -73,7 +73,7 @@ fn next_name<'a>(place: Option<Place<'a>>) -> Option<Place<'a>>
     })
 }
 
-// The search behind a `*`, or behind a `**` that is its last one.
+// The search after a `*`, or after a `**` that is its last one.
 fn behind_star<'a>(here: Place<'a>, path: Option<Place<'a>>) -> Search<'a>
     ensures { state result ≡ record { here = spot here.entry; name = Some (spot here.entry); path = back path.entry } }
 {
@@ -110,8 +110,7 @@ fn forward<'a>(search: Search<'a>) -> Option<Search<'a>>
     }
 }
 
-// The search behind its last `*` that takes one byte more, or its last `**` that goes on to the
-// next name.
+// The search after its last `*` takes one more byte, or its last `**` goes on to the next name.
 fn backward<'a>(search: Search<'a>) -> Option<Search<'a>>
     ensures some { IfSome result (λ n. Returns (state search.entry) (state n)) }
     ensures none { IfNone result (Spent (state search.entry)) }
@@ -123,7 +122,7 @@ fn backward<'a>(search: Search<'a>) -> Option<Search<'a>>
     Some(behind_star(here, Some(here)))
 }
 
-// The search one step on.
+// The search one step further.
 fn step<'a>(search: Search<'a>) -> Option<Search<'a>>
     requires { 0 < length search.here.pieces.now + length search.here.text.now }
     ensures some { IfSome result (λ n. Steps (state search.entry) (state n)) }
@@ -135,7 +134,7 @@ fn step<'a>(search: Search<'a>) -> Option<Search<'a>>
     }
 }
 
-// Whether one `**` is left, which takes all that is left of a text.
+// Whether only a `**` is left, which takes all that is left of a text.
 fn is_any(pieces: &[Piece]) -> bool
     ensures { IsTrue result ↔ (pieces.now ≡ Piece.InPath ∷ []) }
 {

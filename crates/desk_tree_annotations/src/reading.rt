@@ -84,7 +84,7 @@ impl Annotations {
     /// The annotations of a REUSE.toml, or its first fault: those of the whole document first, then
     /// those of each annotation in turn.
     ///
-    /// For each right reading the answer is that of `annotations_of`; `Memory` is want of memory
+    /// For each right reading the answer is that of `annotations_of`; `Memory` means lack of memory
     /// and nothing else.
     pub fn read(alloc: Global, text: &str) -> Result<Annotations, AnnotationsFault>
         ensures ok { (r : Reading) → IsRight r

@@ -1,4 +1,4 @@
-//! What stands on the lines of a file outside ignored stretches.
+//! The text on the lines of a file outside ignored stretches.
 
 ghost use Rattle.std.specs.Prelude.{◌≡◌, ◌≢◌, ◌<◌, ◌≤◌, ◌+◌, ◌^◌, ◌==◌, ◌++◌, ℕ, List, All, length, count_by, IfSome, IfNone};
 ghost use Rattle.desk_tree_annotations.specs.Runs.{start, Lacks, IsUpTo, IsRun};
@@ -11,7 +11,7 @@ pub(crate) const START: &[u8] = b"REUSE-IgnoreStart";
 
 const STOP: &[u8] = b"REUSE-IgnoreEnd";
 
-// What stands on a line, or on a part of one, outside ignored stretches.
+// The text on a line, or on a part of one, outside ignored stretches.
 #[derive(Clone, Copy)]
 pub(crate) struct Run<'a> {
     // From 1.
@@ -19,7 +19,7 @@ pub(crate) struct Run<'a> {
     pub text: &'a [u8],
 }
 
-// The text of a run, and where the file goes on.
+// The text of a run, and the rest of the file.
 #[derive(Clone, Copy)]
 pub(crate) struct Found<'a> {
     pub text: &'a [u8],
@@ -27,7 +27,7 @@ pub(crate) struct Found<'a> {
     pub line: u64,
 }
 
-// What stands before the first place of a needle, and behind it.
+// What comes before and after the first place of a needle.
 pub(crate) fn around_found<'a>(bytes: &'a [u8], needle: &Finder<'_>) -> Option<(&'a [u8], &'a [u8])>
     requires { 0 < length needle.now }
     ensures none { IfNone result (Lacks needle.now bytes.now) }
@@ -41,7 +41,7 @@ pub(crate) fn around_found<'a>(bytes: &'a [u8], needle: &Finder<'_>) -> Option<(
     Some((&bytes[..at], after))
 }
 
-// The same of a needle that isn't looked for again.
+// The same for a needle that isn't looked for again.
 pub(crate) fn around<'a>(bytes: &'a [u8], needle: &[u8]) -> Option<(&'a [u8], &'a [u8])>
     requires { 0 < length needle.now }
     ensures none { IfNone result (Lacks needle.now bytes.now) }
@@ -62,7 +62,7 @@ pub(crate) fn line_feeds(bytes: &[u8]) -> usize
     bytes.iter().filter(|b| **b == b'\n').count()
 }
 
-// What stands behind a front.
+// What follows a prefix.
 fn behind<'a>(bytes: &'a [u8], front: &[u8]) -> Option<&'a [u8]>
     ensures none { IfNone result ((rest : List ℕ) → bytes.now ≢ front.now ++ rest) }
     ensures some { IfSome result (λ r. bytes.now ≡ front.now ++ r.now) }
@@ -70,8 +70,8 @@ fn behind<'a>(bytes: &'a [u8], front: &[u8]) -> Option<&'a [u8]>
     bytes.strip_prefix(front)
 }
 
-// What stands before the first ignored stretch that begins on the first line, and behind the word
-// with which it begins. Nothing further right is looked at, so that a line of many stretches is
+// What comes before the first ignored stretch that begins on the first line, and after the word
+// with which it begins. Nothing further right is looked at, so that a line with many stretches is
 // read once.
 fn around_start(bytes: &[u8]) -> Option<(&[u8], &[u8])>
     ensures none { IfNone result ((text more : List ℕ) → bytes.now ≡ text ++ more

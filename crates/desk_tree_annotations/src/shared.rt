@@ -1,4 +1,4 @@
-//! Texts that several hold.
+//! Texts with several holders.
 
 ghost use Rattle.std.specs.Prelude.{◌≡◌, IfOk, nat_eq};
 ghost use Rattle.std.specs.Ordering.{nat_cmp, as_partial_cmp};
@@ -13,8 +13,8 @@ use std::cmp::Ordering;
 use std::marker::Model;
 use std::rc::Rc;
 
-/// A text that several may hold, seen as its bytes and ordered by them. A clone takes no memory for
-/// the text: what a REUSE.toml says of many files is kept once.
+/// A text that may have several holders, seen as its bytes and ordered by them. A clone takes no
+/// memory for the text: what a REUSE.toml says about many files is kept once.
 #[derive(Drop)]
 pub struct SharedText {
     text: Rc<Text>,

@@ -1,4 +1,4 @@
-//! What of a REUSE.toml can be read, past its faults.
+//! What can be read of a REUSE.toml, despite its faults.
 
 ghost use Rattle.std.specs.Prelude.{◌≡◌, ◌++◌, ◌∷◌, [], IfOk, OnOk};
 ghost use Rattle.toml.specs.View.{items_view};
@@ -14,17 +14,17 @@ use desk_base::Items;
 use std::alloc::{AllocError, Global};
 use toml::Value;
 
-/// What of a REUSE.toml can be read, and what can't.
+/// What can be read of a REUSE.toml, and what can't.
 #[derive(Drop)]
 pub struct Sifted {
     /// The annotations that can be read, in their order.
     pub annotations: Items<Annotation>,
-    /// The faults of the others, in their order, or the one of the whole document. None is want of
-    /// memory.
+    /// The faults of the others, in their order, or the one of the whole document. None is
+    /// `Memory`.
     pub faults: Items<AnnotationsFault>,
 }
 
-// An annotation that can be read, or its fault, behind the others.
+// Adds an annotation that can be read, or its fault, after the others.
 fn put(sifted: &mut Sifted, read: Result<Annotation, AnnotationsFault>) -> Result<(), AllocError>
     ensures annotations { OnOk result
         (sifted.new.annotations ≡ sifted.old.annotations ++ good read) }
@@ -69,7 +69,7 @@ fn none_but(alloc: Global, fault: AnnotationsFault) -> Result<Sifted, AllocError
 
 impl Annotations {
     /// The annotations of a REUSE.toml that can be read, and the faults of the others, or the one
-    /// of the whole document. The only error is want of memory.
+    /// of the whole document. The only error is lack of memory.
     pub fn sift(alloc: Global, text: &str) -> Result<Sifted, AllocError>
         ensures annotations { (r : Reading) → IsRight r
             → IfOk result (λ s. s.annotations ≡ good_annotations r text.now) }

@@ -1,4 +1,4 @@
-//! What is passed over where tags are looked for.
+//! What is skipped when tags are looked for.
 
 ghost use Rattle.std.specs.Prelude.{◌≡◌, ◌<◌, ◌≤◌, ◌+◌, ◌^◌, ◌++◌, List, ℕ, codes, length, IfSome, IfNone};
 ghost use Rattle.desk_tree_annotations.specs.Runs.{Lacks, start};
@@ -11,7 +11,7 @@ use memchr::memrchr;
 /// What both tags begin with.
 pub(crate) const MARK: &[u8] = b"SPDX-";
 
-/// In how few bytes before a tag a search for lines to skip costs more than it saves.
+/// With fewer bytes than this before a tag, a search for lines to skip costs more than it saves.
 const NEAR: usize = 64;
 
 // What is left of a file from a line on.
@@ -22,8 +22,8 @@ pub(crate) struct Left<'a> {
     pub bytes: &'a [u8],
 }
 
-// In how many bytes at the front no tag begins, if one may begin behind them. So many are known:
-// they aren't searched again, so all look-ups together read a file once.
+// In how many bytes at the front no tag begins, if one may begin after them. Those that are known
+// already aren't searched again, so all searches together read a file once.
 pub(crate) fn clear_of(bytes: &[u8], mark: &Finder<'_>, known: usize) -> Option<usize>
     requires mark { mark.now ≡ codes "SPDX-" }
     requires clear { IsClear (codes "SPDX-") known bytes.now }
@@ -63,8 +63,8 @@ fn whole_lines(bytes: &[u8]) -> &[u8]
     }
 }
 
-// What is left of some bytes behind whole lines on which nothing begins, where no tag begins in so
-// many bytes. Where a tag is near, nothing is skipped.
+// What is left of some bytes after whole lines on which nothing begins, if no tag begins in the
+// first `clear` bytes. If a tag is near, nothing is skipped.
 pub(crate) fn skip(bytes: &[u8], clear: usize, line: u64) -> Left<'_>
     requires within { clear < length bytes.now }
     requires room { line + length bytes.now < 2 ^ 64 }

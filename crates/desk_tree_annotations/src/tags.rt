@@ -19,7 +19,7 @@ pub struct Tagged<'a> {
     pub value: &'a str,
 }
 
-// What stands before an end.
+// What comes before an end.
 fn before_end<'a>(bytes: &'a [u8], end: &[u8]) -> Option<&'a [u8]>
     ensures none { IfNone result ((front : List ℕ) → bytes.now ≡ front ++ end.now → ⊥) }
     ensures some { IfSome result (λ r. bytes.now ≡ r.now ++ end.now) }
@@ -27,7 +27,7 @@ fn before_end<'a>(bytes: &'a [u8], end: &[u8]) -> Option<&'a [u8]>
     bytes.strip_suffix(end)
 }
 
-// What stands before the end of a comment.
+// What comes before the end of a comment.
 fn before_close(bytes: &[u8]) -> Option<&[u8]>
     ensures none { IfNone result
         ((front close : List ℕ) → IsClose close → bytes.now ≡ front ++ close → ⊥) }
@@ -46,7 +46,7 @@ fn before_close(bytes: &[u8]) -> Option<&[u8]>
     before_end(bytes, b"-}")
 }
 
-// A value without a comment's end.
+// A value without the end of a comment.
 fn bare(bytes: &[u8]) -> &[u8]
     ensures { IsBare bytes.now result.now }
 {
@@ -56,7 +56,7 @@ fn bare(bytes: &[u8]) -> &[u8]
     }
 }
 
-// The value that stands behind a tag.
+// The value after a tag.
 fn value(after: &[u8]) -> Option<&str>
     ensures { Tells after.now (found_inner result) }
 {
@@ -70,7 +70,7 @@ fn value(after: &[u8]) -> Option<&str>
     }
 }
 
-// What a run tells, where its line hasn't had its tag.
+// What a run gives, if its line hasn't had its tag.
 fn counted<'a>(run: Run<'a>, tag: &Finder<'_>, seen: u64) -> Option<Option<&'a str>>
     requires { 0 < length tag.now }
     ensures { Counts tag.now seen (run_text run.entry) (found result) }
@@ -82,7 +82,7 @@ fn counted<'a>(run: Run<'a>, tag: &Finder<'_>, seen: u64) -> Option<Option<&'a s
     Some(value(after))
 }
 
-// Adds what a run tells to the list, and gives the line that had its tag last.
+// Adds what a run gives to the list, and returns the last line that had its tag.
 pub(crate) fn add<'a>(
     list: &mut Vec<Tagged<'a>>,
     run: Run<'a>,

@@ -60,7 +60,7 @@ pub(crate) fn texts_of(alloc: Global, value: &Value) -> Result<Option<Vec<&str>>
     }
 }
 
-/// The texts at a key; one that is absent has none.
+/// The texts at a key, or none if it is absent.
 pub(crate) fn texts_at<'a>(
     alloc: Global,
     table: &'a Table,
@@ -75,7 +75,7 @@ pub(crate) fn texts_at<'a>(
     }
 }
 
-/// The text of a precedence, which is `closest` where there is none.
+/// The text of a precedence, or `closest` if there is none.
 pub(crate) fn precedence_text(table: &Table) -> Option<&str>
     ensures { option_map (λ text. text.now) result
         ≡ precedence_text (get_member (codes "precedence") (table_view table.now)) }
@@ -113,7 +113,7 @@ pub(crate) fn copies(alloc: Global, listed: &[&str]) -> Result<Items<SharedText>
     Ok(copies)
 }
 
-/// The patterns that texts are.
+/// The patterns that these texts are.
 pub(crate) fn globs(alloc: Global, listed: &[&str]) -> Result<Items<Glob>, AllocError>
     ensures { (r : Reading) → IsRight r → IfOk result (λ v. v ≡ map r.pieces (texts listed.now)) }
 {

@@ -1,4 +1,4 @@
--- The files of a draft, one after the other.
+-- The files of a draft, one after another.
 use Rattle.std.proofs.Common.{◌≡◌, ◌∙◌, ℕ, ◌+◌, ◌<◌, List, [], ◌∷◌, ◌++◌, length, get_or, drop, map, ap, refl}
 use Rattle.std.specs.Prelude.{◌||◌, Ok, Err}
 use Rattle.std.specs.List.{list_any}
@@ -24,7 +24,7 @@ module _ (r : Reader) (done : List DraftFile) (ts : List ToldFile) (i : ℕ) (t 
   pub onto-fault : (fault : GatherFault) → file_told r (get_or ts i t) ≡ Err fault → onto done (files_told r (drop i ts)) ≡ Err fault
   onto-fault fault is = stepped ∙ ap (λ x. onto done (followed x (files_told r (drop (i + 1) ts)))) is
 
--- whether some file has no licence, by their outlines
+-- whether some file has no licence, from their outlines
 pub bare-outlined : (infos : List FileInfo) → list_any (λ (o : OutlineText). o.no_licence) (map outline_of infos) ≡ list_any is_bare infos
 bare-outlined [] = refl
 bare-outlined (info ∷ infos) = ap (λ b. is_bare info || b) (bare-outlined infos)

@@ -1,4 +1,4 @@
--- A draft by what is told of the files.
+-- A draft from what is reported about the files.
 use Rattle.std.proofs.Common.{◌≡◌, ◌∙◌, ℕ, List, [], ◌∷◌, map, sym, ap, refl}
 use Rattle.std.specs.Prelude.{Ok, Err}
 use Rattle.desk_tree_gather.specs.declared.fault.GatherFault.{GatherFault}
@@ -40,7 +40,7 @@ module _ (r : Reader) (title : Named) (code : List ℕ) where
   by_told (Ok infos) (Err fault) x is = ap told_from is
   by_told (Err fault) t x is = ap told_from is
 
-  -- the draft of a tree is that by what is told of it
+  -- the draft of a tree is the one from what is reported about it
   draft_of-told : (files : List SourceFile) (x : Read (List ToldFile)) → told r files ≡ x → draft_of r files title code ≡ told_from x
   draft_of-told files x is = by_told (gathered r files) (tree_of files) x is
 

@@ -36,7 +36,7 @@ files_of r tree (i ∷ is) = followed (file_of r tree i) (files_of r tree is)
 abbrev pub is_bare : FileInfo → Bool
 is_bare info = is_none info.licences
 
--- the distinct licences of all files; none where some file has none
+-- the distinct licences of all files; none if some file has none
 abbrev pub package_licences : List FileInfo → List (List ℕ)
 package_licences infos = if list_any is_bare infos then [] else sorted_set (flat_map (λ i. i.licences) infos)
 

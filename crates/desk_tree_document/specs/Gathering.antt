@@ -1,4 +1,4 @@
--- What is told of the document of a tree of files.
+-- The answer for the document of a tree of files.
 use Rattle.std.specs.Prelude.{◌≡◌, ◌≤◌, ◌<◌, ℕ, Bool, true, false, List, [], ◌++◌, length, map, codes, decimal, Ok, Err, All}
 use Rattle.std.specs.String.{string_bytes}
 use Rattle.desk_tree_annotations.specs.Numbers.{kind_number}
@@ -22,7 +22,7 @@ use Rattle.desk_tree_document.specs.declared.document.Gathering.TheVariants.{Doc
 use Rattle.desk_tree_document.specs.declared.document.TextFault.{TextFault}
 use Rattle.desk_tree_document.specs.declared.document.TextFault.TheVariants.{BadValue, Memory as NoMemory}
 
--- a fault's line: its name, and each of its values behind a space; want of memory has none
+-- a fault's line: its name, and each of its values after a space; lack of memory has none
 abbrev pub fault_line : GatherFault → List ℕ
 fault_line (BadToml file) = codes "fault: BadToml " ++ file ++ codes "\n"
 fault_line (BadAnnotation file index kind) = codes "fault: BadAnnotation " ++ (file ++ (codes " " ++ (decimal index ++ (codes " " ++ (decimal (kind_number kind) ++ codes "\n")))))
@@ -37,18 +37,19 @@ fault_line (Memory error) = []
 abbrev pub IsDraft : Reader → List SourceFile → Named → Draft → Type 0
 IsDraft r files title d = (draft_of r files title d.code ≡ Ok d) × IsCode (map (λ (f : DraftFile). f.digest) d.files) d.code
 
--- a text that a document can have is read as a document that says what a draft says
+-- a text with no more bytes and elements than a document may have is read as a document that says what a
+-- draft says
 abbrev pub IsReadBack : Draft → List ℕ → Type 0
 IsReadBack d text = length text ≤ document_bytes → length d.files < document_elements → (x : DocumentText) × Spells text (Ok x) × GivesDraft d x
 
--- the answer for a tree: the text of its draft's lines, from which the draft is read back and which ships its package, whose code
--- agrees; or the fault for which it has no draft
+-- the answer for a tree: the text of its draft's lines, from which the draft is read back and which ships its
+-- package, whose code agrees; or the fault because of which it has no draft
 abbrev pub IsGathering : Reader → List SourceFile → Named → Gathering → Type 0
 IsGathering r files title (Document text) =
     (d : Draft) × IsDraft r files title d × Adds [] (draft_lines d) (string_bytes text) × IsReadBack d (string_bytes text) × ShipsWhenRead d (string_bytes text)
 IsGathering r files title (Fault fault) = (code : List ℕ) → draft_of r files title code ≡ Err fault
 
--- it has a draft of which some value can't stand in its field
+-- it has a draft with a value that can't be in its field
 abbrev pub IsUnwritable : Reader → List SourceFile → Named → Type 0
 IsUnwritable r files title = (d : Draft) × IsDraft r files title d × (All Stands (draft_lines d) → ⊥)
 
@@ -61,7 +62,7 @@ abbrev pub is_document : Gathering → Bool
 is_document (Document text) = true
 is_document (Fault fault) = false
 
--- want of memory is told of any tree; a value that can't stand only of one whose draft has such a value
+-- lack of memory is possible for any tree, `BadValue` only for one whose draft has such a value
 abbrev pub MayFail : Reader → List SourceFile → Named → TextFault → Type 0
 MayFail r files title BadValue = IsUnwritable r files title
 MayFail r files title (NoMemory error) = Unit {0}

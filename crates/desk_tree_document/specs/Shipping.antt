@@ -1,4 +1,5 @@
--- What a document that is read from a draft's text says of the draft's package (SPDX 2.3, clauses 7.9 and 11.1).
+-- What a document that is read from a draft's text says about the draft's package (SPDX 2.3, clauses 7.9 and
+-- 11.1).
 use Rattle.std.specs.Prelude.{◌≡◌, ◌<◌, ℕ, true, List, [], ◌∷◌, length, map, All, Ok}
 use Rattle.desk_bom.specs.Codes.{IsCode, IsState}
 use Rattle.desk_bom.specs.Shipping.{AreShipped, AreShippingMarks}
@@ -15,7 +16,7 @@ use Rattle.desk_tagvalue.specs.declared.drafts.DraftFile.{DraftFile}
 abbrev pub IsDigest : DraftFile → Type 0
 IsDigest f = (length f.digest ≡ 20) × All (λ b. b < 256) f.digest
 
--- a draft's text, where the draft's verification code is that of its files
+-- this is the text of a draft whose verification code is that of its files
 pub record IsTextOf (d : Draft) (text : List ℕ) : Type 0 where
   pub code : IsCode (map (λ (f : DraftFile). f.digest) d.files) d.code
   -- it has the draft's lines, each of which is read back

@@ -1,4 +1,4 @@
--- The files of a draft, by what is told of them.
+-- The files of a draft, from what is reported about them.
 use Rattle.std.specs.Prelude.{ℕ, List, [], ◌∷◌, map, Ok}
 use Rattle.desk_tagvalue.specs.declared.drafts.Draft.{Draft}
 use Rattle.desk_tagvalue.specs.declared.drafts.DraftFile.{DraftFile}
@@ -25,6 +25,6 @@ abbrev pub files_told : Reader → List ToldFile → Read (List DraftFile)
 files_told r [] = Ok []
 files_told r (t ∷ ts) = followed (file_told r t) (files_told r ts)
 
--- the draft by what is told, with a verification code
+-- the draft from what is reported, with a verification code
 abbrev pub draft_told : Reader → Named → List ToldFile → List ℕ → Read Draft
 draft_told r title told code = then_read (files_told r told) (λ drafted. draft_with r title (infos_in told) drafted code)

@@ -13,18 +13,19 @@ use desk_tree_gather::{GatherFault, SourceFile};
 use std::alloc::{AllocError, Global};
 use thiserror::Error;
 
-/// Why nothing can be told of a tree.
+/// Why there is no answer for a tree.
 #[derive(Clone, Copy, Debug, PartialEq, Eq, Error)]
 pub enum TextFault {
     /// No memory was left.
     #[error(transparent)]
     Memory(#[from(alloc)] AllocError),
-    /// Some value of the document can't be read back from its field: a licence with blanks at its ends.
+    /// A value of the document can't be read back from its field: a licence with blanks at its
+    /// ends.
     #[error("a value that cannot stand in its field")]
     BadValue,
 }
 
-/// What is told of the document of a tree.
+/// The answer for the document of a tree.
 #[derive(Drop)]
 pub enum Gathering {
     /// The text of the document.
@@ -82,7 +83,7 @@ impl Gathering {
         }
     }
 
-    /// The text itself, each line ended.
+    /// The text, each line ended.
     pub fn text(self, alloc: Global) -> Result<String, AllocError>
         ensures { IfOk result (λ text. string_bytes text ≡ gathering_text self) }
     {
@@ -107,10 +108,10 @@ fn text_of(alloc: Global, draft: &Draft) -> Result<String, TextFault>
     }
 }
 
-/// What is told of the document of a tree of files, which has a name, a namespace and a time.
+/// The answer for the document of a tree of files, with a name, a namespace and a time.
 ///
-/// For each right reader it is that of `IsGathering`. A value can't stand only where the draft has
-/// such a value.
+/// For each right reader it is that of `IsGathering`. `BadValue` is returned only if the draft has
+/// a value that can't be in its field.
 pub fn document_of(
     alloc: Global,
     files: Vec<SourceFile>,

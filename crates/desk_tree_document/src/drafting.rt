@@ -16,7 +16,7 @@ use desk_tagvalue::{Draft, DraftFile};
 use desk_tree_gather::{GatherFault, Infos, SourceFile, told};
 use std::alloc::{AllocError, Global};
 
-// What a document is called.
+// A document's name, its namespace and its time.
 #[derive(Clone, Copy)]
 pub(crate) struct Title<'a> {
     pub(crate) name: &'a str,
@@ -36,7 +36,7 @@ fn code_of(alloc: Global, files: &[DraftFile]) -> Result<Text, AllocError>
     }
 }
 
-// What a document is called, as a draft keeps it.
+// The same, as a draft keeps them.
 #[derive(Drop)]
 struct Names {
     name: Text,
@@ -56,7 +56,7 @@ fn names_of(alloc: Global, title: Title<'_>) -> Result<Names, AllocError>
     })
 }
 
-// What the package concludes of all files.
+// The licence that is concluded for the package, from all files.
 fn concluded(alloc: Global, infos: &Infos) -> Result<Result<Text, GatherFault>, AllocError>
     ensures { (r : Reader) → IsRightReader r → IfOk result
         (Gives (expression_read r.reading (package_licences infos.now)) (λ t. t)) }
@@ -73,7 +73,7 @@ fn copyright(alloc: Global, infos: &Infos) -> Result<Text, AllocError>
     copyright_of(alloc, notices.as_slice())
 }
 
-// The draft of files, of which each is told.
+// The draft from the information of files, and from what it says about each.
 fn draft_with(
     alloc: Global,
     title: Title<'_>,
@@ -137,12 +137,12 @@ fn drafted(
 }
 
 /// The draft of a tree: of the document, its package and each covered file by path. The first fault
-/// is that of what is gathered; then comes `ExpressionTooLong`, where joined licences aren't one
-/// expression. The bytes of each file are let go once its digest is known, so that the draft is
+/// is that of what is gathered; then comes `ExpressionTooLong`, if joined licences aren't one
+/// expression. The bytes of each file are dropped once its digest is known, so that the draft is
 /// made without them.
 ///
 /// For each right reader the answer is that of `draft_of`, with the verification code of the files'
-/// digests; `Memory` is want of memory and nothing else.
+/// digests; `Memory` means lack of memory and nothing else.
 pub fn draft(
     alloc: Global,
     files: Vec<SourceFile>,

@@ -15,7 +15,7 @@ use desk_tree_annotations::SharedText;
 use desk_tree_gather::{GatherFault, Infos, Outline, Subject, ToldFile, ToldFiles};
 use std::alloc::{AllocError, Global};
 
-// What the draft says of a file.
+// What the draft says about a file.
 fn file_of(alloc: Global, told: &ToldFile) -> Result<Result<DraftFile, GatherFault>, AllocError>
     ensures { (r : Reader) → IsRightReader r → IfOk result (λ f. f ≡ file_told r told.now) }
 {
@@ -32,7 +32,7 @@ fn file_of(alloc: Global, told: &ToldFile) -> Result<Result<DraftFile, GatherFau
     }))
 }
 
-/// What the draft says of the files, in their order.
+/// What the draft says about the files, in their order.
 pub(crate) fn files_of(
     alloc: Global,
     told: &ToldFiles,
@@ -74,7 +74,7 @@ fn is_bare(outlines: &[Outline<'_>]) -> bool
     false
 }
 
-/// The distinct licences of all files, and none where some file has none.
+/// The distinct licences of all files, or none if some file has none.
 pub(crate) fn package_licences(
     alloc: Global,
     infos: &Infos,

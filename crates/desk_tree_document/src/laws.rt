@@ -2,9 +2,9 @@
 //! body.
 //!
 //! A draft is written by `desk_tagvalue` and read by it as a document that says what the draft
-//! says. These laws add what `desk_bom` says of each document that a draft's text spells: it ships
-//! the draft's package and no other, and the package's verification code agrees with its files.
-//! `drafts_ship` says so of any draft, `drafts_of_trees_ship` of those of `draft`.
+//! says. These laws add what `desk_bom` says about each document that a draft's text spells: it
+//! ships the draft's package and no other, and the package's verification code agrees with its
+//! files. `drafts_ship` says so about any draft, `drafts_of_trees_ship` about those of `draft`.
 
 ghost use Rattle.std.specs.Prelude.{◌≡◌, List, ℕ, All, Ok};
 ghost use Rattle.desk_tree_document.specs.Drafts.{Named, draft_of};
@@ -13,7 +13,7 @@ ghost use Rattle.desk_tree_gather.specs.Readers.{Reader};
 ghost use Rattle.desk_tree_gather.specs.declared.files.SourceFile.{SourceFile};
 ghost use Rattle.desk_tagvalue.specs.declared.drafts.Draft.{Draft};
 
-/// What a draft's text spells ships the draft's package, and the package's code agrees, where the
+/// What a draft's text spells ships the draft's package, and the package's code agrees, if the
 /// draft's code is that of its files' digests.
 pub fn drafts_ship()
     ensures { (d : Draft) (text : List ℕ) → All IsDigest d.files → IsTextOf d text
@@ -21,7 +21,7 @@ pub fn drafts_ship()
 {}
 
 /// What the text of a tree's draft spells ships the draft's package, and the package's code agrees,
-/// where the draft's code is that of its files' digests.
+/// if the draft's code is that of its files' digests.
 pub fn drafts_of_trees_ship()
     ensures { (r : Reader) (files : List SourceFile) (title : Named) (d : Draft) (text : List ℕ)
         → draft_of r files title d.code ≡ Ok d → IsTextOf d text → ShipsWhenRead d text }

@@ -1,14 +1,14 @@
-//! The document of a source tree: what a tag-value document (SPDX 2.3) says of its package and of
-//! its covered files, by what `desk_tree_gather` gathers of them, or the line of the fault for
-//! which it has none.
+//! The document of a source tree: what a tag-value document (SPDX 2.3) says about its package and
+//! its covered files, from what `desk_tree_gather` gathers about them, or the line of the fault
+//! because of which there is none.
 //!
 //! - `draft_of` (`specs/Drafts.antt`) is a function of the files, of the document's name, namespace
 //!   and time, and of the package's verification code, which is that of the files' SHA1 digests
 //!   (clause 7.9): the draft, or the first fault. Licences are joined by `AND`, each in
 //!   parentheses, and notices by line feeds. `draft` answers as it says for each reader that is
-//!   right by the definitions that `desk_tree_gather` stands on.
+//!   right by the definitions on which `desk_tree_gather` relies.
 //! - `document_of` is the draft's text, which `desk_tagvalue` writes, or the fault's line: its name
-//!   and each of its values behind a space (`IsGathering` of `specs/Gathering.antt`).
+//!   and each of its values after a space (`IsGathering` of `specs/Gathering.antt`).
 //! - `drafts_ship` and `drafts_of_trees_ship` are laws: what such a text spells ships the draft's
 //!   package, and no other.
 #![tactic(auto)]

@@ -1,4 +1,4 @@
-//! Licences and notices as one text.
+//! Licences as one text, and notices as one text.
 
 ghost use Rattle.std.specs.Prelude.{◌≡◌, ◌++◌, IfOk, OnOk, codes};
 ghost use Rattle.std.specs.List.{list_any};
@@ -14,7 +14,7 @@ use std::alloc::{AllocError, Global};
 
 const CLOSE: &[u8] = b"</text>";
 
-// Adds licences, each in parentheses, behind one.
+// Adds licences, each in parentheses, after the first.
 fn add_others(text: &mut String, licences: &[SharedText]) -> Result<(), AllocError>
     ensures { OnOk result (string_bytes text.new
         ≡ string_bytes text.old ++ others_joined licences.now) }
@@ -27,7 +27,7 @@ fn add_others(text: &mut String, licences: &[SharedText]) -> Result<(), AllocErr
     Ok(())
 }
 
-// Licences joined to one expression.
+// Licences joined into one expression.
 fn expression_of(alloc: Global, licences: &[SharedText]) -> Result<Text, AllocError>
     ensures { IfOk result (λ t. t ≡ expression_of licences.now) }
 {
@@ -44,7 +44,7 @@ fn expression_of(alloc: Global, licences: &[SharedText]) -> Result<Text, AllocEr
     }
 }
 
-/// Licences joined to one expression, where that is one.
+/// Licences joined into one expression, if the result is one.
 pub(crate) fn expression_read(
     alloc: Global,
     licences: &[SharedText],
@@ -61,7 +61,7 @@ pub(crate) fn expression_read(
     }
 }
 
-// Whether `</text>` stands in a text.
+// Whether `</text>` is in a text.
 fn holds_close(text: &[u8]) -> bool
     ensures { result ≡ holds_close text.now }
 {
@@ -75,7 +75,7 @@ fn holds_close(text: &[u8]) -> bool
     false
 }
 
-// Whether `</text>` stands in one of some notices.
+// Whether `</text>` is in one of some notices.
 fn some_hold_close(notices: &[SharedText]) -> bool
     ensures { result ≡ list_any holds_close notices.now }
 {
@@ -87,7 +87,7 @@ fn some_hold_close(notices: &[SharedText]) -> bool
     false
 }
 
-// Adds notices, each on a line of its own, below one.
+// Adds notices, each on its own line, below the first.
 fn add_below(text: &mut String, notices: &[SharedText]) -> Result<(), AllocError>
     ensures { OnOk result (string_bytes text.new
         ≡ string_bytes text.old ++ others_below notices.now) }
@@ -99,7 +99,7 @@ fn add_below(text: &mut String, notices: &[SharedText]) -> Result<(), AllocError
     Ok(())
 }
 
-/// Notices joined to one text.
+/// Notices joined into one text.
 pub(crate) fn copyright_of(alloc: Global, notices: &[SharedText]) -> Result<Text, AllocError>
     ensures { IfOk result (λ t. t ≡ copyright_of notices.now) }
 {

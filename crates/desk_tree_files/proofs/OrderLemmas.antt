@@ -12,7 +12,7 @@ sorted_map f R (x ∷ xs) h k d low within =
     let inside : k + 1 < length (x ∷ xs) = subst (λ n. k + 1 < n) (length-map (x ∷ xs) f) within in
     ap₂ (λ a b. is_lt (R a b)) (get_or-map f (x ∷ xs) (k + 1) x d inside) (get_or-map f (x ∷ xs) k x d (omega (arith, inside))) ∙ h k x low inside
 
--- what a call that went well says
+-- what follows from a call that succeeded
 pub ok_along : {T E : Type 0} {P Q : T → Type 0} (result : Result T E) → IfOk result P → ((x : T) → P x → Q x) → IfOk result Q
 ok_along (Ok x) holds next = next x holds
 ok_along (Err e) holds next = tt

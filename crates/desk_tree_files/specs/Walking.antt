@@ -6,7 +6,7 @@ use Rattle.std.specs.Ordering.{nat_cmp}
 use Rattle.std.specs.Cmp.Lexicographic.{slice_cmp}
 use Rattle.desk_tree_gather.specs.declared.files.SourceFile.{SourceFile}
 
--- the path of what has a name in a folder; the root is the folder without a name
+-- the path of an entry with a name in a folder; the root is the folder without a name
 abbrev pub joined : List ℕ → List ℕ → List ℕ
 joined folder name = if bytes_eq folder [] then name else folder ++ 47 ∷ name
 

@@ -1,9 +1,9 @@
-//! The files of a folder, as they are handed to `desk_tree_gather`.
+//! The files of a folder, as they are passed to `desk_tree_gather`.
 //!
-//! `files_of` walks a folder of the file system. It doesn't enter `.git` at its root, follows no
-//! link, and gives the files by path. What a file system holds is in no clause of the library of
-//! files, so the contract says the order of the paths, and what is left out for its name or its
-//! kind (`specs/Walking.antt`).
+//! `files_of` walks a folder of the file system. It leaves out `.git` at its root, follows no link,
+//! and returns the files by path. No contract of the library of files says what a file system
+//! holds, so the contract says only that the files are in the order of their paths
+//! (`specs/Walking.antt`).
 #![tactic(auto)]
 
 mod fault;

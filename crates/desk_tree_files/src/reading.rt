@@ -1,4 +1,4 @@
-//! What the files of a tree hold.
+//! Reads the files of a tree.
 
 ghost use Rattle.std.specs.Prelude.{◌≡◌, ◌≤◌, IfOk, length, map};
 ghost use Rattle.std.specs.String.{string_bytes};
@@ -12,14 +12,14 @@ use std::fs::{self, OpenFile};
 use std::io::{self, ErrorKind, Read};
 use std::rt::Files;
 
-/// After how many files the count of those that are read is told.
+/// After how many files the count of those that were read is reported again.
 const FILES_A_STEP: usize = 1_000;
 
-// How much of a file is read at first. More at once would leave the processor's caches before it is
-// looked at.
+// How much of a file is read at first, at most. More at once would leave the processor's caches
+// before it is looked at.
 const FIRST_READ: usize = 128 * 1024;
 
-// Reads what fits into some bytes, and says how many were read: none, where a signal interrupts it.
+// Reads what fits into some bytes, and returns how many were read: none if a signal interrupts it.
 fn read_some<F: Read>(file: &mut F, bytes: &mut [u8]) -> io::Result<usize>
     ensures { IfOk result (λ count. count ≤ length bytes.new) }
 {
@@ -30,10 +30,10 @@ fn read_some<F: Read>(file: &mut F, bytes: &mut [u8]) -> io::Result<usize>
     }
 }
 
-// What a file holds, and nothing where a file isn't there any more but a pipe, a link or something
-// else, which isn't opened: to open a pipe would wait for a writer. Its room is taken by what the
-// file's size is said to be, so that no more of it is taken than the file needs, and so much is
-// read at first: then most files are read by one call. What grows is read as far as it went when it
+// The bytes of a file, or nothing if there is now a pipe, a link or something else in its place,
+// which isn't opened: opening a pipe would wait for a writer. The room is that of the size that the
+// file is said to have, so that no more is taken than the file needs, and this much is read at
+// first: then most files are read by one call. A file that grows is read as far as it went when it
 // was opened.
 fn bytes_at<R: Files + AllocGlobal + Clone + Drop>(
     rt: &R,
@@ -78,15 +78,15 @@ fn file_at<R: Files + AllocGlobal + Clone + Drop>(
     }
 }
 
-// Tells on standard error how many files of how many are read, on the line of what was told before.
+// Reports on standard error how many of all files are read, on the line of the last report.
 fn tell<R: Eprint>(rt: &R, count: usize, all: usize) {
     if count % FILES_A_STEP == 0 {
-        // Where it can't be told, the files are read all the same.
+        // If it can't be reported, the files are read all the same.
         let _told = eprint!(rt; "\r{count} of {all} files read");
     }
 }
 
-// Takes off the line what was told. The longest of it is `10000 of 10000 files read`.
+// Clears the line of the report, of which the longest is `10000 of 10000 files read`.
 fn clear<R: Eprint>(rt: &R, all: usize) {
     if all >= FILES_A_STEP {
         let _told = eprint!(rt; "\r                         \r");
@@ -112,7 +112,7 @@ fn read<R: Files + Eprint + AllocGlobal + Clone + Drop>(
     Ok(files)
 }
 
-// The same, with nothing told at the end.
+// The same, with the report cleared at the end.
 fn read_and_clear<R: Files + Eprint + AllocGlobal + Clone + Drop>(
     rt: &R,
     root: &str,
@@ -128,7 +128,7 @@ fn read_and_clear<R: Files + Eprint + AllocGlobal + Clone + Drop>(
     files
 }
 
-// The files at some paths, without what they hold.
+// The files at some paths, without their bytes.
 fn named<R: Files + AllocGlobal + Clone + Drop>(
     rt: &R,
     paths: &[String],
@@ -146,10 +146,11 @@ fn named<R: Files + AllocGlobal + Clone + Drop>(
     Ok(files)
 }
 
-/// The files below a folder by path: all but links, what else is neither a file nor a folder, and
-/// `.git` at the root. Of a folder with more than 10,000 files, of which nothing is gathered,
-/// 10,001 or more are given, and no bytes. After each 1,000 files it is told on standard error how
-/// many are read, if it is to be, each time in place of the last, and it is gone at the end.
+/// The files below a folder by path: all except links, anything else that is neither a file nor a
+/// folder, and `.git` at the root. Of a folder with more than 10,000 files, from which nothing is
+/// gathered, 10,001 or more are returned, without bytes. If `is_told`, the number of files read is
+/// reported on standard error after each 1,000, each time in place of the last report, and cleared
+/// at the end.
 pub fn files_of<R: Files + Eprint + AllocGlobal + Clone + Drop>(
     rt: &R,
     root: &str,

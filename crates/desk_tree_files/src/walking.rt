@@ -1,4 +1,4 @@
-//! The way through the folders of a tree.
+//! Walks through the folders of a tree.
 
 ghost use Rattle.std.specs.Prelude.{◌≡◌, IfOk};
 ghost use Rattle.std.specs.String.{string_bytes};
@@ -21,7 +21,7 @@ struct Met {
     files: Vec<String>,
 }
 
-// The path of what has a name in a folder.
+// The path of an entry with a name in a folder.
 fn joined(alloc: Global, folder: &str, name: &str) -> Result<String, AllocError>
     ensures { IfOk result (λ path. string_bytes path ≡ joined folder.now name.now) }
 {
@@ -31,14 +31,14 @@ fn joined(alloc: Global, folder: &str, name: &str) -> Result<String, AllocError>
     format!(in alloc; "{folder}/{name}")
 }
 
-// Whether something is left out for its name.
+// Whether something is left out because of its name.
 fn is_left_out(folder: &str, name: &str) -> bool
     ensures { result ≡ is_left_out folder.now name.now }
 {
     folder == "" && name == ".git"
 }
 
-/// Where a file or folder of a tree lies.
+/// Where a file or folder of a tree is.
 pub(crate) fn place(alloc: Global, root: &str, path: &str) -> Result<String, AllocError> {
     if path == "" {
         return String::from_str(alloc, root);
@@ -49,7 +49,8 @@ pub(crate) fn place(alloc: Global, root: &str, path: &str) -> Result<String, All
     format!(in alloc; "{root}/{path}")
 }
 
-// Notes what an entry of a folder is: a file, a folder, or what isn't looked at, as a link.
+// Adds an entry of a folder to the files or to the folders, unless it is something else, such as a
+// link.
 fn note<R: Files + AllocGlobal + Clone + Drop>(
     rt: &R,
     met: &mut Met,
@@ -69,7 +70,7 @@ fn note<R: Files + AllocGlobal + Clone + Drop>(
     Ok(())
 }
 
-// Notes what a folder holds.
+// Adds the entries of a folder.
 fn list<R: Files + AllocGlobal + Clone + Drop>(
     rt: &R,
     met: &mut Met,
@@ -82,7 +83,7 @@ fn list<R: Files + AllocGlobal + Clone + Drop>(
     Ok(())
 }
 
-// Whether what was a folder is one still, and no link in its place. The root may be a link.
+// Whether what was a folder still is one, and not a link in its place. The root may be a link.
 fn is_folder<R: Files + AllocGlobal + Clone + Drop>(
     rt: &R,
     folder: &str,
@@ -94,7 +95,7 @@ fn is_folder<R: Files + AllocGlobal + Clone + Drop>(
     Ok(fs::symlink_metadata(rt, place)?.is_dir())
 }
 
-// Notes what a folder holds, and says whether it is a folder still.
+// Adds the entries of a folder, and returns whether it still is a folder.
 fn list_folder<R: Files + AllocGlobal + Clone + Drop>(
     rt: &R,
     met: &mut Met,
@@ -108,7 +109,7 @@ fn list_folder<R: Files + AllocGlobal + Clone + Drop>(
     Ok(true)
 }
 
-// Goes through the folders that are left, up to one with more files than a tree may have.
+// Goes through the folders that are left, until there are more files than a tree may have.
 fn walk<R: Files + AllocGlobal + Clone + Drop>(
     rt: &R,
     root: &str,
@@ -125,7 +126,7 @@ fn walk<R: Files + AllocGlobal + Clone + Drop>(
             Ok(false) => return Err(TreeFault::Changed(place)),
             Err(error) => return Err(TreeFault::Read(place, error)),
         }
-        // With one more than a tree may have, no further one matters.
+        // With one more file than a tree may have, no further one matters.
         if met.files.len() > limits::TREE_FILES {
             break;
         }

@@ -133,7 +133,7 @@ unfolding IsStrictlySortedBy
 set_sorted [] = tt
 set_sorted (x ∷ xs) = subst (IsStrictlySortedBy order) (insert_key-is (sorted_set xs) x) (put_sorted (sorted_set xs) x (set_sorted xs))
 
--- sorted texts are one list where the same are among them
+-- two sorted lists with the same texts are equal
 pub sorted_once : (xs ys : Texts) → IsStrictlySortedBy order xs → IsStrictlySortedBy order ys → ((t : List ℕ) → is_among xs t ≡ is_among ys t) → xs ≡ ys
 sorted_once xs ys up up' same =
     same_sorted order nat_list_cmp_total xs ys up up' (λ t. (
@@ -149,7 +149,7 @@ set_filtered p xs ys same =
     sorted_once (sorted_set ys) (filter p (sorted_set xs)) (set_sorted ys) (IsStrictlySortedBy-filter order p (sorted_set xs) (set_sorted xs))
     (λ t. among-set ys t ∙ same t ∙ ap (λ b. b && p t) (sym (among-set xs t)) ∙ sym (among-filter p (sorted_set xs) t))
 
--- a set has none where there are none
+-- a set has none if there are none
 put_some : (x : List ℕ) (ys : Texts) → is_none (put_new x ys) ≡ false
 put_some x [] = refl
 put_some x (y ∷ ys) = by_tests (text_below x y) (bytes_eq x y)

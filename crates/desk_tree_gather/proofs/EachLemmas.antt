@@ -1,4 +1,4 @@
--- A list of files, of which those that pass a test are read one after the other.
+-- A list of files, of which those that pass a test are read one after another.
 use Rattle.std.proofs.Common.{◌≡◌, ◌∙◌, ℕ, ◌+◌, ◌<◌, ◌≤◌, Bool, true, false, cond, List, [], ◌∷◌, ◌++◌, length, get_or, drop, ap}
 use Rattle.std.specs.Prelude.{Ok, Err}
 use Rattle.std.proofs.lemmas.List.{append-nil, drop_more, drop_all}
@@ -15,7 +15,7 @@ module _ {A : Type 0} (test : SourceFile → Bool) (read : SourceFile → Read A
       ≡ onto done (cond (test (file_of (get_or fs i f))) (followed (read (file_of (get_or fs i f))) (each test read (files_of (drop (i + 1) fs)))) (each test read (files_of (drop (i + 1) fs))))
   stepped = ap (λ l. onto done (each test read (files_of l))) (drop_more fs i f within)
 
-  -- a file that is passed over
+  -- a file that is skipped
   pub onto-skip : test (file_of (get_or fs i f)) ≡ false
       → onto done (each test read (files_of (drop i fs))) ≡ onto done (each test read (files_of (drop (i + 1) fs)))
   onto-skip fails =

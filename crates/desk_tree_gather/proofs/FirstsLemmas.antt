@@ -1,4 +1,4 @@
--- The texts that no file before has.
+-- The texts that no earlier file has.
 use Rattle.std.proofs.Common.{◌≡◌, ◌∙◌, ℕ, ◌+◌, ◌<◌, Bool, true, false, cond, List, [], ◌∷◌, ◌++◌, length, get_or, take, drop, map, sym, ap, refl, filter, append_assoc}
 use Rattle.std.specs.Prelude.{◌||◌, ◌&&◌, not, OnOk, Result, Ok, Err}
 use Rattle.std.specs.Str.{bytes_eq}
@@ -22,7 +22,7 @@ use Rattle.desk_tree_gather.specs.Firsts.{FirstTexts, AddsUnseen, has_text, firs
 use Rattle.desk_tree_gather.specs.Sharing.{all_texts, sources_in, info_at, infos_at}
 use Rattle.desk_tree_gather.proofs.AmongLemmas.{or_false, among-append, among-set, among-filter, among_same, set_filtered, set_once}
 
--- ---- a text more in a set
+-- ---- one more text in a set
 
 either : (b c : Bool) → cond b true c ≡ (b || c)
 either true c = refl
@@ -76,12 +76,12 @@ skip_listed true true L is = sym (or_false L)
 skip_listed true false L is = absurd (false≢true (is refl))
 skip_listed false S L is = sym (or_false L)
 
--- ---- texts one after the other
+-- ---- texts one after another
 
 pub adds_nothing : (s : BTreeSet (Bor (List ℕ))) (l : List (List ℕ)) → AddsUnseen [] s s l l
 adds_nothing s l = record { seen = λ t. refl; listed = λ t. sym (or_false (is_among l t)) }
 
--- where all of them were in the set
+-- if all of them were in the set
 pub adds_none : (ys : List (List ℕ)) (s : BTreeSet (Bor (List ℕ))) (l : List (List ℕ)) → ((t : List ℕ) → is_among ys t ≡ true → has_text s t ≡ true) → AddsUnseen ys s s l l
 adds_none ys s l known = record {
   seen = λ t. skip_seen (is_among ys t) (has_text s t) (known t);
@@ -141,7 +141,7 @@ module _ (texts : List (List ℕ)) (i : ℕ) (d : List ℕ) (s0 s : BTreeSet (Bo
         ∙ ap (λ b. is_among l0 t || (b && not (has_text s0 t))) (sym (among-more t));
   }
 
--- the list that was none before has the texts that weren't in the set
+-- the list, which was empty before, has the texts that weren't in the set
 pub unseen_set : (xs : List (List ℕ)) (s0 s : BTreeSet (Bor (List ℕ))) (l : List (List ℕ)) → AddsUnseen xs s0 s [] l → sorted_set l ≡ filter (λ t. not (has_text s0 t)) (sorted_set xs)
 unseen_set xs s0 s l adds = set_filtered (λ t. not (has_text s0 t)) xs l adds.listed
 
@@ -153,7 +153,7 @@ pub on_ok : {T E : Type 0} (result : Result T E) {P : Type 0} → P → OnOk res
 on_ok (Ok x) holds = holds
 on_ok (Err e) holds = tt
 
--- ---- files one after the other
+-- ---- files one after another
 
 pub texts_in-at : (all : List Annotation) (of : Subject) (file : Covered) → texts_in of (info_at all file) ≡ sorted_set (all_texts all of (sources_in of file))
 texts_in-at all Notices file = refl
@@ -173,7 +173,7 @@ module _ (all : List Annotation) (of : Subject) (files : List Covered) (i : ℕ)
   known_more : flat_map (texts_in of) (infos_at all (take (i + 1) files)) ≡ known_before ++ texts_in of info
   known_more = ap (flat_map (texts_in of)) (map_more (info_at all) files i d within) ∙ sym (flat_map_more (texts_in of) [] (infos_at all (take i files)) info)
 
-  -- what is known behind one file more
+  -- what is known after one more file
   pub seen_more : (old new : BTreeSet (Bor (List ℕ))) (sources : Sources) → sources ≡ sources_in of (get_or files i d) → ((t : List ℕ) → has_text old t ≡ is_among known_before t)
       → ((t : List ℕ) → has_text new t ≡ (is_among (all_texts all of sources) t || has_text old t)) → (t : List ℕ) → has_text new t ≡ is_among (flat_map (texts_in of) (infos_at all (take (i + 1) files))) t
   seen_more old new sources are was is t =

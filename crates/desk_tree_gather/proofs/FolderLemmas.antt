@@ -18,7 +18,7 @@ use Rattle.desk_tree_gather.specs.Folders.{Numbers, list_or_none, numbers_for}
 use Rattle.desk_tree_gather.specs.Sharing.{annotations_at}
 use Rattle.desk_tree_gather.specs.Shown.{tomls_in}
 
--- the annotations of a folder, or others where no file is for it
+-- the annotations of a folder, or others if no file is for it
 abbrev pub annotations_or : List TomlText → List ℕ → List Annotation → List Annotation
 annotations_or [] folder others = others
 annotations_or (t ∷ ts) folder others = cond (bytes_eq t.folder folder) t.annotations (annotations_or ts folder others)
@@ -44,7 +44,7 @@ apart_in_order : (bs cs ks : List ℕ) → bytes_eq bs cs ≡ false → is_eq (s
 apart_in_order bs cs ks differs same =
     is_eq-slice_cmp cs ks ∙ nat_list_eq_equiv.symm cs ks ∙ sym (nat_list_eq_equiv.congr bs ks cs (sym (is_eq-slice_cmp bs ks) ∙ same)) ∙ differs
 
--- one folder more in the map
+-- one more folder in the map
 pub numbers_for-insert : (folder : Vec ℕ Global) (name : List ℕ) (x : Vec ℕ Global) (old new : Numbers) → folder.items ≡ name → Updates folder_cmp old new folder (Some x) → (q : List ℕ)
     → numbers_for new q ≡ cond (bytes_eq name q) x.items (numbers_for old q)
 numbers_for-insert folder name x old new is updates q =
@@ -58,12 +58,12 @@ numbers_for-insert folder name x old new is updates q =
           ∙ sym (ap (λ b. cond b x.items (numbers_for old q)) (ap (λ f. bytes_eq f q) (sym is) ∙ away))
     ]
 
--- where no file is left
+-- no file is left
 pub none_left : (ts : List Toml) → length ts ≡ 0 → (folder : List ℕ) (others : List Annotation) → others ≡ annotations_or (tomls_in ts) folder others
 none_left [] is folder others = refl
 none_left (t ∷ ts) is folder others = absurd cc
 
--- the annotations of one folder more, whatever comes behind them
+-- the annotations of one more folder, whatever comes after them
 pub folder_kept : (grown : List Annotation) (folder : Vec ℕ Global) (name : List ℕ) (x : Vec ℕ Global) (list : List Annotation) (old new : Numbers) → folder.items ≡ name
     → Updates folder_cmp old new folder (Some x) → annotations_at grown x.items ≡ list → (q : List ℕ)
     → annotations_at grown (numbers_for new q) ≡ cond (bytes_eq name q) list (annotations_at grown (numbers_for old q))

@@ -26,7 +26,7 @@ info_fails r tomls tree file fault is = ap (λ s. then_read s (λ own. Ok (info_
 pub info_found : (r : Reader) (tomls : List TomlText) (tree : List SourceFile) (file : SourceFile) (own : Stated) → stated_in r (holder tree file) ≡ Ok own → info_of r tomls tree file ≡ Ok (info_with file.path (counting r tomls file.path) own)
 info_found r tomls tree file own is = ap (λ s. then_read s (λ x. Ok (info_with file.path (counting r tomls file.path) x))) is
 
--- what a call gives by the annotations of a trail that is by the same folders
+-- what a call gives with the annotations of a trail, if that still has the same folders
 module _ {A B : Type 0} (read : Read B) (show : Folders → A → B) (was now : Folders) (same : now ≡ was) (x : Result A GatherFault) (gives : Gives read (show now) x) where
   pub gives_at : (y : A) → x ≡ Ok y → read ≡ Ok (show was y)
   gives_at y is = subst (Gives read (show now)) is gives ∙ ap (λ f. Ok (show f y)) same

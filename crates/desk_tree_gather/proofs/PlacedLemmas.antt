@@ -1,4 +1,4 @@
--- Files put one after the other into a map.
+-- Files put into a map one after another.
 use Rattle.std.proofs.Common.{◌≡◌, ◌∙◌, ℕ, ◌+◌, ◌<◌, true, false, cond, List, ◌∷◌, length, get_or, drop, Option, Some, None, option_map, ap, refl}
 use Rattle.std.specs.Prelude.{not, Err}
 use Rattle.std.specs.Option.{is_some}
@@ -24,11 +24,11 @@ module _ (sorted files : List SourceFile) (i : ℕ) (f : SourceFile) (within : i
   pub placed_go : is_some (bytes_at sorted (get_or files i f).path) ≡ false → placed sorted (drop i files) ≡ placed (put_file (get_or files i f) sorted) (drop (i + 1) files)
   placed_go new = stepped ∙ ap (λ b. cond b (Err TwicePath) (placed (put_file (get_or files i f) sorted) (drop (i + 1) files))) new
 
-  -- one that stands there
+  -- one that is there already
   pub placed_twice : is_some (bytes_at sorted (get_or files i f).path) ≡ true → placed sorted (drop i files) ≡ Err TwicePath
   placed_twice old = stepped ∙ ap (λ b. cond b (Err TwicePath) (placed (put_file (get_or files i f) sorted) (drop (i + 1) files))) old
 
--- files that are given one by one
+-- files that are taken one by one
 module _ (sorted fs : List SourceFile) (f : SourceFile) (good : is_path f.path ≡ true) where
   opened : placed sorted (f ∷ fs) ≡ cond (is_some (bytes_at sorted f.path)) (Err TwicePath) (placed (put_file f sorted) fs)
   opened = ap (λ b. cond (not b) (Err BadPath) (cond (is_some (bytes_at sorted f.path)) (Err TwicePath) (placed (put_file f sorted) fs))) good

@@ -1,4 +1,4 @@
--- Right readers are one.
+-- There is only one right reader.
 use Rattle.std.proofs.Common.{◌≡◌, ℕ, Bool, List}
 use Rattle.std.specs.Bool.{Decides}
 use Rattle.std.proofs.lemmas.Bool.Decides.{same_from_decides}

@@ -1,4 +1,4 @@
--- The rests of a path behind its slashes.
+-- The rests of a path after its slashes.
 use Rattle.std.proofs.Common.{◌≡◌, ◌≢◌, ◌∙◌, ℕ, suc, ◌<◌, false, cond, eqb, List, [], ◌∷◌, ◌++◌, length, get_or, ap, refl, arith}
 use Rattle.std.proofs.lemmas.Bool.Decides.{nat_tests}
 use Rattle.desk_tree_gather.specs.Information.{rests}

@@ -138,7 +138,7 @@ nothing : (xs : Texts) → length xs ≡ 0 → xs ≡ []
 nothing [] is = refl
 nothing (x ∷ xs) is = absurd cc
 
--- where a file has no texts of its own
+-- if a file has no texts of its own
 pub without_own : (all : List Annotation) (of : Subject) (numbers grown : List ℕ) (own : Texts) (closest : Option ℕ) → grown ≡ numbers ++ option_to_list closest → length own ≡ 0
     → texts_at all of grown ++ own ≡ texts_at all of numbers ++ some_or own (texts_at all of (option_to_list closest))
 without_own all of numbers grown own closest added none =

@@ -16,14 +16,14 @@ at_end : {A : Type 0} (xs : List A) (x : A) (more : List A) → slice_get (xs ++
 at_end [] x more = refl
 at_end (y ∷ ys) x more = at_end ys x more
 
--- one number more
+-- one more number
 pub annotations_at-push : (all : List Annotation) (numbers : List ℕ) (number : ℕ) (a : Annotation) → slice_get all number ≡ Some a
     → annotations_at all (numbers ++ number ∷ []) ≡ annotations_at all numbers ++ a ∷ []
 annotations_at-push all numbers number a is =
     filter_map-append (slice_get all) numbers (number ∷ [])
     ∙ ap (λ o. annotations_at all numbers ++ cons_option o []) is
 
--- an annotation is put behind all, and its number behind others
+-- an annotation is added after all others, and its number after other numbers
 pub grown : (all : List Annotation) (numbers : List ℕ) (a : Annotation) (done more : List Annotation) → ((behind : List Annotation) → annotations_at (all ++ behind) numbers ≡ done)
     → annotations_at ((all ++ a ∷ []) ++ more) (numbers ++ length all ∷ []) ≡ done ++ a ∷ []
 grown all numbers a done more so_far =
@@ -36,7 +36,7 @@ pub annotations_at-drop : (all : List Annotation) (numbers : List ℕ) (i d : �
     → annotations_at all (drop i numbers) ≡ cons_option (slice_get all (get_or numbers i d)) (annotations_at all (drop (i + 1) numbers))
 annotations_at-drop all numbers i d within = ap (annotations_at all) (drop_more numbers i d within)
 
--- the annotation of a number, or none
+-- the annotation with a number, or none
 pub annotations_at-option : (all : List Annotation) (number : Option ℕ) → annotations_at all (option_to_list number) ≡ option_to_list (option_and_then (slice_get all) number)
 annotations_at-option all None = refl
 annotations_at-option all (Some number) = one (slice_get all number)
@@ -52,7 +52,7 @@ texts_at-append all of numbers more =
     ap (flat_map (texts_of of)) (filter_map-append (slice_get all) numbers more)
     ∙ flat_map-append (texts_of of) (annotations_at all numbers) (annotations_at all more)
 
--- those of one number more
+-- those of one more number
 pub texts_at-take : (all : List Annotation) (of : Subject) (numbers : List ℕ) (i d : ℕ) → i < length numbers
     → texts_at all of (take i numbers) ++ texts_at all of (get_or numbers i d ∷ []) ≡ texts_at all of (take (i + 1) numbers)
 texts_at-take all of numbers i d within =

@@ -26,7 +26,7 @@ module _ (r : Reader) (tags : List Tagged) (i : ℕ) (t : Tagged) (within : i < 
 pub stated_along : (r : Reader) (file : SourceFile) (s : Stated) (line : Option ℕ) → r.stated file.bytes ≡ s → line ≡ bad_line r s.licences → stated_in r file ≡ unless_bad file.path s line
 stated_along r file s line same is = ap (λ x. unless_bad file.path x (bad_line r x.licences)) same ∙ ap (unless_bad file.path s) (sym is)
 
--- the file beside, or the file itself
+-- the file beside it, or the file itself
 pub gives_held : (r : Reader) (tree : List SourceFile) (file : SourceFile) (beside : List ℕ) (found : Option (List ℕ)) (x : Result (Result Info GatherFault) AllocError) → beside ≡ file.path ++ codes ".license" → found ≡ bytes_at tree beside
     → IfOk x (Gives (stated_in r (holder_by beside file found)) stated_of) → IfOk x (Gives (stated_in r (holder tree file)) stated_of)
 gives_held r tree file beside found x named is h =

@@ -1,4 +1,4 @@
--- What is gathered up to the first fault, beside what a survey gives past all of them.
+-- What is gathered up to the first fault, compared with what a survey gives despite all of them.
 use Rattle.std.proofs.Common.{◌≡◌, ◌∙◌, ℕ, Bool, true, false, cond, List, [], ◌∷◌, ◌++◌, length, map, filter, Some, None, sym, ap, refl, subst}
 use Rattle.std.specs.Prelude.{nat_lt, not, option_to_list, Result, Ok, Err}
 use Rattle.std.specs.List.{flat_map}
@@ -24,7 +24,7 @@ use Rattle.desk_tree_gather.specs.Gathering.{holder, bad_line, unless_bad, state
 use Rattle.desk_tree_gather.specs.Survey.{unless_flawed, sifted, path_flaws, flaw_of, toml_flaws, toml_sifted, tag_flaws, stated_flaws, kept, tree_flaws, flaws_of, info_sifted, infos_sifted, gather_fault, Agrees}
 use Rattle.desk_base.specs.Results.{then_read, followed}
 
--- ---- one after the other
+-- ---- one after another
 
 followed_agrees : {A : Type 0} (m : Read A) (rest : Read (List A)) (fs gs : List Flaw) (y : A) (ys : List A) → Agrees m fs y → Agrees rest gs ys → Agrees (followed m rest) (fs ++ gs) (y ∷ ys)
 followed_agrees (Ok x) (Ok xs) fs gs y ys h k = (ap (λ l. l ++ gs) h.0 ∙ k.0, λ i. h.1 i ∷ k.1 i)

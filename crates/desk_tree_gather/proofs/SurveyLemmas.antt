@@ -65,12 +65,12 @@ pub flaws_text : (r : Reader) (f : SourceFile) (faults : List AnnotationsFault) 
 flaws_text r f faults text k =
     ap (map (flaw_of f.path)) k ∙ ap (λ b. cond b (map (flaw_of f.path) (annotation_faults r.reading f.bytes)) (BadToml f.path ∷ [])) (sym (is_utf8-from_IsUtf8 f.bytes text))
 
--- ---- flaws one behind the other
+-- ---- flaws one after another
 
 pub joined : (flaws middle new x y x' y' : List Flaw) → new ≡ middle ++ y → middle ≡ flaws ++ x → x ≡ x' → y ≡ y' → new ≡ flaws ++ (x' ++ y')
 joined flaws middle new x y x' y' is so_far e k = is ∙ ap (λ m. m ++ y) so_far ∙ append_assoc flaws x y ∙ (λ i. flaws ++ (e i ++ k i))
 
--- ---- one file more
+-- ---- one more file
 
 module _ (files : List File) (i : ℕ) (d : File) where
   files_more : i < length files → files_of (take (i + 1) files) ≡ files_of (take i files) ++ file_of (get_or files i d) ∷ []

@@ -1,4 +1,4 @@
--- What is told of a tree's files, the first of which leaves after the other.
+-- What is reported about a tree's files, which are taken out one after another.
 use Rattle.std.proofs.Common.{◌≡◌, ◌∙◌, ◌<◌, ℕ, Bool, true, false, cond, List, [], ◌∷◌, ◌++◌, length, map, arith, Some, codes, sym, ap, refl, Ordering, Less, Equal, Greater, nat_cmp, is_eq}
 use Rattle.std.specs.Prelude.{All, Ok, Err, filter}
 use Rattle.std.specs.Ordering.{ordering_then, ordering_reverse}
@@ -35,19 +35,19 @@ below_then Less x y is more = refl
 below_then Equal x y is more = more is
 below_then Greater x y is more = is
 
--- what is above a path stays so with more behind it
+-- what is above a path stays above it with more after it
 below_more : (a b more : List ℕ) → IsBelow a b → IsBelow a (b ++ more)
 below_more [] [] more is = absurd cc
 below_more [] (y ∷ ys) more is = refl
 below_more (x ∷ xs) [] more is = absurd cc
 below_more (x ∷ xs) (y ∷ ys) more is = below_then (nat_cmp x y) (slice_cmp nat_cmp xs ys) (slice_cmp nat_cmp xs (ys ++ more)) is (below_more xs ys more)
 
--- a path with more behind it is above
+-- a path with more after it is above the path
 below_longer : (a : List ℕ) (x : ℕ) (more : List ℕ) → IsBelow a (a ++ x ∷ more)
 below_longer [] x more = refl
 below_longer (y ∷ ys) x more = ap (λ o. ordering_then o (slice_cmp nat_cmp ys (ys ++ x ∷ more))) (tied_itself nat_cmp_total y) ∙ below_longer ys x more
 
--- what is above another isn't it
+-- what is above another differs from it
 apart : (a b : List ℕ) → IsBelow a b → bytes_eq b a ≡ false
 apart a b is = sym (is_eq-slice_cmp b a) ∙ ap is_eq (nat_list_cmp_total.antisymm b a ∙ ap ordering_reverse is)
 
@@ -57,7 +57,7 @@ itself a = sym (is_eq-slice_cmp a a) ∙ ap is_eq (tied_itself nat_list_cmp_tota
 -- ---- one file
 
 module _ (r : Reader) (tomls : List TomlText) where
-  -- what is told of a file by its own texts and the digest of some bytes
+  -- what is reported about a file, from its own texts and the digest of some bytes
   abbrev by_stated : SourceFile → Read Stated → List ℕ → Read ToldFile
   by_stated g s bytes = then_read (then_read s (λ own. Ok (info_with g.path (counting r tomls g.path) own))) (λ info. Ok (record { info = info; digest = sha1 bytes }))
 
@@ -69,13 +69,13 @@ module _ (r : Reader) (tomls : List TomlText) where
   told_of-is : (g : SourceFile) (tree : List SourceFile) → told_of r tomls tree g ≡ by_stated g (stated_in r (holder tree g)) (bytes_of tree g.path)
   told_of-is g tree = told_of-is_at g tree (stated_in r (holder tree g))
 
-  -- a file in front of others, that isn't beside a file
+  -- a file before others that isn't the one beside `g`
   holder_behind : (f g : SourceFile) (fs : List SourceFile) → IsBelow f.path (g.path ++ codes ".license") → holder (f ∷ fs) g ≡ holder fs g
   holder_behind f g fs below =
       let beside = g.path ++ codes ".license" in
       ap (λ b. holder_by beside g (cond b (Some f.bytes) (bytes_at fs beside))) (apart f.path beside below)
 
-  -- a file behind another is told of as if that weren't there
+  -- what is reported about a file after another is as if that weren't there
   told_behind : (f g : SourceFile) (fs : List SourceFile) → IsBelow f.path g.path → told_of r tomls (f ∷ fs) g ≡ told_of r tomls fs g
   told_behind f g fs below =
       told_of-is g (f ∷ fs)
@@ -83,7 +83,7 @@ module _ (r : Reader) (tomls : List TomlText) where
       ∙ ap (λ b. by_stated g (stated_in r (holder fs g)) (some_bytes (cond b (Some f.bytes) (bytes_at fs g.path)))) (apart f.path g.path below)
       ∙ sym (told_of-is g fs)
 
-  -- the first is told of by itself and by the others
+  -- what is reported about the first is from itself and the others
   told_first : (f : SourceFile) (fs : List SourceFile) → told_of r tomls (f ∷ fs) f ≡ told_beside r tomls fs f
   told_first f fs =
       told_of-is f (f ∷ fs)
@@ -106,7 +106,7 @@ module _ (r : Reader) (tomls : List TomlText) where
         ap (λ l. onto done (told_in r tomls l)) has
         ∙ (λ i. onto done (cond (is_covered f) (followed (told_first f (files_in es) i) (each_behind f (files_in es) es above i)) (each_behind f (files_in es) es above i)))
 
-    -- a file that isn't told of
+    -- a file that isn't covered
     pub told_skip : is_covered f ≡ false → onto done (told_in r tomls all) ≡ onto done (told_in r tomls (files_in es))
     told_skip is = stepped ∙ ap (λ b. onto done (cond b (followed (told_beside r tomls (files_in es) f) (told_in r tomls (files_in es))) (told_in r tomls (files_in es)))) is
 
@@ -174,7 +174,7 @@ pub each-filter : {A : Type 0} (test : SourceFile → Bool) (read : SourceFile �
 each-filter test read [] = refl
 each-filter test read (f ∷ fs) = kept_test test read f (test f) (filter test fs) (each test read fs) refl (each-filter test read fs)
 
--- where no file is left
+-- no file is left
 pub none_left : (es : List (List ℕ × List ℕ)) → (0 < length es → ⊥) → es ≡ []
 none_left [] none = refl
 none_left (e ∷ es) none = absurd (none (omega arith))

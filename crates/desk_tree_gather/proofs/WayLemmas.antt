@@ -16,7 +16,7 @@ use Rattle.desk_tree_gather.specs.Sharing.{annotations_at}
 use Rattle.desk_tree_gather.proofs.SharingLemmas.{annotations_at-option}
 use denote.Ref.{Bor}
 
--- the folders on the way in the rest of a path, behind what is done of it
+-- the folders in the rest of a path, after what is done of it
 abbrev pub ways_from : List ℕ → List ℕ → List (List ℕ)
 ways_from done [] = []
 ways_from done (b ∷ bs) = cond (b == 47) ((done ++ b ∷ []) ∷ ways_from (done ++ b ∷ []) bs) (ways_from (done ++ b ∷ []) bs)
@@ -45,7 +45,7 @@ ways-are path = λ i. way_before [] path i ∷ ways_from-are path [] path refl i
 
 -- ---- what two paths share
 
--- so far: what was gone through of both, and the folders on the way in it
+-- so far: the part of both that is done, and the folders in it
 pub record IsShared (before path old new rest : List ℕ) (folders : ℕ) : Type 0 where
   pub done : List ℕ
   pub both : List (List ℕ)
@@ -89,7 +89,7 @@ module _ (before path old new behind after rest : List ℕ) (b folders : ℕ) (o
       to ∙ ap (λ l. so_far.both ++ ways_from so_far.done l) is
       ∙ ap (λ t. so_far.both ++ cond t (next ∷ ways_from next more) (ways_from next more)) other_byte
 
-  -- behind a slash
+  -- after a slash
   pub shared-slash : b ≡ 47 → IsShared before path behind after after (folders + 1)
   shared-slash is = let slash : (b == 47) ≡ true = ap (λ x. x == 47) is in record {
     done = next;
@@ -102,7 +102,7 @@ module _ (before path old new behind after rest : List ℕ) (b folders : ℕ) (o
     behind = refl;
   }
 
-  -- behind another byte
+  -- after another byte
   pub shared-other : b ≢ 47 → IsShared before path behind after rest folders
   shared-other isnt = let other_byte = no_eqb b isnt in record {
     done = next;
@@ -124,7 +124,8 @@ shared-end before path old new rest folders so_far = (
   so_far.to_path ∙ ap (λ l. so_far.both ++ l) (sym (ways_from-are path so_far.done new so_far.in_path) ∙ ap (map (way path)) (sym so_far.behind)),
 )
 
--- what is kept of those that are on the way to the path before, with that of the others, is that of all
+-- what is kept for the folders on the way to the path before, with what is found for the others, is that for
+-- all
 pub kept-along : (f : List ℕ → List ℕ) (lists : List (Bor (List ℕ))) (before path rest : List ℕ) (folders : ℕ) → Shares before path folders rest
     → lists_of lists ≡ map f (ways before) → lists_of (take folders lists) ++ map f (map (way path) (rests rest)) ≡ map f (ways path)
 kept-along f lists before path rest folders (both, others, many, to_before, to_path) along =
@@ -170,7 +171,7 @@ along-counts r tomls path =
     ∙ ap (λ l. option_to_list (counting_in r tomls path path) ++ l) (rests-counted r f path path)
     ∙ one_more (counting_in r tomls path path) (filter_map (counting_in r tomls path) (rests path))
 
--- one folder more: the number that was found in it, and those that follow
+-- one more folder: the number that was found in it, and those that follow
 pub along-more : (r : Reader) (all : List Annotation) (done : List ℕ) (found : Option ℕ) (lists : List (Bor (List ℕ))) (i : ℕ) (d : Bor (List ℕ)) (rest : List ℕ) → i < length lists
     → option_and_then (slice_get all) found ≡ last_covering r rest (annotations_at all (get_or lists i d).now)
     → annotations_at all (done ++ option_to_list found) ++ along r (map (annotations_at all) (lists_of (drop (i + 1) lists))) (behind_slash rest)

@@ -1,4 +1,4 @@
--- Covered files with the digests of their bytes, which share what annotations give.
+-- Covered files, which share what annotations give, with the digests of their bytes.
 use Rattle.std.specs.Prelude.{List, map}
 use Rattle.desk_tree_annotations.specs.declared.annotation.Annotation.{Annotation}
 use Rattle.desk_tree_gather.specs.declared.telling.Digested.{Digested}

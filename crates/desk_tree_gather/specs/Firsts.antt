@@ -23,7 +23,7 @@ pub record FirstTexts : Type 0 where
   pub path : List ℕ
   pub texts : List (List ℕ)
 
--- of files behind others, which have some texts
+-- for files that come after others with the known texts
 abbrev pub firsts_behind : Subject → List (List ℕ) → List FileInfo → List FirstTexts
 firsts_behind of known [] = []
 firsts_behind of known (info ∷ infos) =
@@ -35,21 +35,21 @@ firsts_of of infos = firsts_behind of [] infos
 abbrev pub first_texts : List FirstTexts → List (List ℕ)
 first_texts firsts = flat_map (λ (f : FirstTexts). f.texts) firsts
 
--- those of a file, without where its path lies in memory
+-- those of a file, apart from where its path is in memory
 abbrev pub first_in : First → FirstTexts
 first_in f = record { path = f.path.now; texts = f.texts }
 
--- ---- what was gone through
+-- ---- what was seen
 
 -- whether a text is in a set
 abbrev pub has_text : BTreeSet (Bor (List ℕ)) → List ℕ → Bool
 has_text set text = contains_by (λ (k : Bor (List ℕ)). slice_cmp nat_cmp text k.now) set
 
--- texts are put to a set, and those that it didn't have to a list
+-- texts are added to a set, and those that it didn't have to a list
 pub record AddsUnseen (texts : List (List ℕ)) (old new : BTreeSet (Bor (List ℕ))) (before after : List (List ℕ)) : Type 0 where
   pub seen : (t : List ℕ) → has_text new t ≡ (is_among texts t || has_text old t)
   pub listed : (t : List ℕ) → is_among after t ≡ (is_among before t || (is_among texts t && not (has_text old t)))
 
--- the texts of the annotations that were gone through are in the set
+-- the texts of the annotations that were seen are in the set
 abbrev pub Knows : List Annotation → Subject → Seen → Type 0
 Knows all of seen = (number : ℕ) → contains nat_cmp seen.numbers number ≡ true → (t : List ℕ) → is_among (texts_at all of (number ∷ [])) t ≡ true → has_text seen.texts t ≡ true

@@ -1,4 +1,4 @@
--- What is gathered of a tree: the information of each covered file, or the first fault.
+-- What is gathered from a tree: the information of each covered file, or the first fault.
 use Rattle.std.specs.Prelude.{ℕ, List, [], ◌∷◌, ◌++◌, map, codes, Option, Some, None, Ok, Err, if◌then◌else◌}
 use Rattle.desk_tree_annotations.specs.Tags.{TagText}
 use Rattle.desk_model.specs.Texts.{sorted_set}
@@ -14,7 +14,7 @@ use Rattle.desk_tree_gather.specs.Tomls.{TomlText, tomls_of}
 use Rattle.desk_tree_gather.specs.Information.{counting, given}
 use Rattle.desk_base.specs.Results.{then_read}
 
--- F.license where it is there, else F itself: the file whose tags are F's own information
+-- F.license if it exists, else F itself: the file whose tags are F's own information
 abbrev pub holder_by : List ℕ → SourceFile → Option (List ℕ) → SourceFile
 holder_by beside file (Some bytes) = record { path = beside; bytes = bytes }
 holder_by beside file None = file

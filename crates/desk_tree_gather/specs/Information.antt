@@ -1,5 +1,5 @@
--- The information of a file: its notices and its licences, by what it states itself and by the annotations that count, one a folder
--- at most, from the root to the file's own folder.
+-- The information of a file: its notices and its licences, from what it states itself and from the
+-- annotations that count, at most one for each folder from the root to the file's own.
 use Rattle.std.specs.Prelude.{ℕ, ◌==◌, ◌-◌, Bool, true, false, List, [], ◌∷◌, ◌++◌, length, take, filter, Option, Some, None, option_map, if◌then◌else◌}
 use Rattle.std.specs.List.{list_any, flat_map, filter_map}
 use Rattle.desk_tree_annotations.specs.declared.annotation.Annotation.{Annotation}
@@ -12,7 +12,7 @@ use Rattle.desk_tree_gather.specs.Tomls.{TomlText, annotations_in}
 
 -- ---- which annotations count
 
--- what stands behind each slash of a path: the path as it is seen from each folder on its way
+-- what follows each slash of a path: the path as it is seen from each folder on its way
 abbrev pub rests : List ℕ → List (List ℕ)
 rests [] = []
 rests (b ∷ bs) = if b == 47 then bs ∷ rests bs else rests bs
@@ -77,8 +77,8 @@ abbrev pub nearest : Subject → List Annotation → List (List ℕ)
 nearest of [] = []
 nearest of (a ∷ more) = some_or (nearest of more) (closest_texts of a.precedence a)
 
--- where there is an override, the topmost gives the texts, with the aggregates above it; otherwise the aggregates do, with the
--- file's own, or where it has none those of the nearest `closest`
+-- if there is an override, the topmost gives the texts, with the aggregates above it; otherwise the
+-- aggregates do, with the file's own or, if it has none, those of the nearest `closest`
 abbrev pub given_by : Subject → List (List ℕ) → List Annotation → Option (List Annotation × Annotation) → List (List ℕ)
 given_by of own annotations (Some top) = aggregated of top.0 ++ texts_of of top.1
 given_by of own annotations None = aggregated of annotations ++ some_or own (nearest of annotations)

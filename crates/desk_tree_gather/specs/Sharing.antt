@@ -1,4 +1,5 @@
--- What files share: the texts of an annotation are kept once, and each file that it counts for has its number, its place among all.
+-- What files share: the texts of an annotation are kept once, and each file for which it counts has its
+-- number, its place among all.
 use Rattle.std.specs.Prelude.{ℕ, Bool, true, false, List, [], ◌∷◌, ◌++◌, map}
 use Rattle.std.specs.List.{slice_get, flat_map, filter_map}
 use Rattle.desk_model.specs.Texts.{sorted_set}
@@ -11,7 +12,7 @@ use Rattle.desk_tree_gather.specs.declared.infos.Covered.{Covered}
 use Rattle.desk_tree_gather.specs.declared.infos.Outline.{Outline}
 use Rattle.desk_tree_gather.specs.Information.{texts_of}
 
--- the annotations of some numbers
+-- the annotations with some numbers
 abbrev pub annotations_at : List Annotation → List ℕ → List Annotation
 annotations_at all numbers = filter_map (slice_get all) numbers
 
@@ -23,7 +24,7 @@ texts_at all of numbers = flat_map (texts_of of) (annotations_at all numbers)
 abbrev pub all_texts : List Annotation → Subject → Sources → List (List ℕ)
 all_texts all of sources = texts_at all of sources.numbers.items ++ sources.own.items
 
--- what gives a file's texts
+-- where a file's texts come from
 abbrev pub sources_in : Subject → Covered → Sources
 sources_in Notices file = file.notices
 sources_in Licences file = file.licences
@@ -45,7 +46,7 @@ abbrev pub is_none : List (List ℕ) → Bool
 is_none [] = true
 is_none (t ∷ ts) = false
 
--- a path, and what its file has none of
+-- a path, and what its file lacks
 pub record OutlineText : Type 0 where
   pub path : List ℕ
   pub no_notice : Bool
@@ -54,6 +55,6 @@ pub record OutlineText : Type 0 where
 abbrev pub outline_of : FileInfo → OutlineText
 outline_of info = record { path = info.path; no_notice = is_none info.notices; no_licence = is_none info.licences }
 
--- an outline without where it lies in memory
+-- an outline, apart from where it is in memory
 abbrev pub outline_in : Outline → OutlineText
 outline_in o = record { path = o.path.now; no_notice = o.no_notice; no_licence = o.no_licence }

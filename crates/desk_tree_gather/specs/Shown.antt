@@ -1,4 +1,4 @@
--- What the code's values show of the definitions'.
+-- How the code's values correspond to those of the definitions.
 use Rattle.std.specs.Prelude.{◌≡◌, ℕ, List, map, Result, Ok, Err}
 use Rattle.std.specs.BTreeMap.{BTreeMap}
 use Rattle.std.specs.String.{string_bytes}
@@ -14,12 +14,12 @@ use Rattle.desk_tree_gather.specs.declared.tomls.Toml.{Toml}
 use Rattle.desk_tree_gather.specs.Trees.{Read}
 use Rattle.desk_tree_gather.specs.Tomls.{TomlText}
 
--- a result is what is read, seen as it shows
+-- a result is what is read, as it is shown
 abbrev pub Gives : {A B : Type 0} → Read B → (A → B) → Result A GatherFault → Type 0
 Gives read show (Ok x) = read ≡ Ok (show x)
 Gives read show (Err fault) = read ≡ Err fault
 
--- a file without where it lies in memory
+-- a file, apart from where it is in memory
 abbrev pub file_of : File → SourceFile
 file_of f = record { path = f.path.now; bytes = f.bytes.now }
 
@@ -35,7 +35,7 @@ file_at e = record { path = e.0.now; bytes = e.1.now }
 abbrev pub entries_of : List (Bor (List ℕ) × Bor (List ℕ)) → List SourceFile
 entries_of es = map file_at es
 
--- the file that holds what is stated of another
+-- the file that states something about another
 abbrev pub held_in : Held → SourceFile
 held_in h = record { path = string_bytes h.path; bytes = h.bytes.now }
 
@@ -59,6 +59,6 @@ toml_in t = record { folder = t.folder.now; annotations = t.annotations.list }
 abbrev pub tomls_in : List Toml → List TomlText
 tomls_in ts = map toml_in ts
 
--- what a file states, without where it lies in memory
+-- what a file states, apart from where it is in memory
 abbrev pub stated_of : Info → Stated
 stated_of i = record { notices = map tag_text i.notices.items; licences = map tag_text i.licences.items }

@@ -1,4 +1,4 @@
--- All that is wrong in a tree, and what is gathered of the rest of it.
+-- All that is wrong in a tree, and what is gathered from the rest of it.
 use Rattle.std.specs.Prelude.{◌≡◌, ℕ, nat_lt, not, List, [], ◌∷◌, ◌++◌, length, map, filter, option_to_list, Option, Some, None, Ok, Err, if◌then◌else◌}
 use Rattle.std.specs.List.{flat_map}
 use Rattle.std.specs.Option.{is_some}
@@ -23,7 +23,7 @@ use Rattle.desk_tree_gather.specs.Gathering.{holder, info_with}
 
 -- ---- paths
 
--- what is wrong with the path of a file that is put to others
+-- what is wrong with the path of a file that is added to others
 abbrev pub path_flaw : List SourceFile → List ℕ → Option Flaw
 path_flaw sorted path =
     if not (is_path path) then Some (BadPath path)
@@ -34,16 +34,16 @@ abbrev pub unless_flawed : Option Flaw → SourceFile → List SourceFile → Li
 unless_flawed None f sorted = put_file f sorted
 unless_flawed (Some flaw) f sorted = sorted
 
--- a file put to others, unless something is wrong with its path
+-- others with a file added, unless something is wrong with its path
 abbrev pub with_file : SourceFile → List SourceFile → List SourceFile
 with_file f sorted = unless_flawed (path_flaw sorted f.path) f sorted
 
--- files put one after the other to others that are sorted, without those whose path is wrong
+-- files added one after another to others that are sorted, without those whose path is wrong
 abbrev pub sifted : List SourceFile → List SourceFile → List SourceFile
 sifted sorted [] = sorted
 sifted sorted (f ∷ fs) = sifted (with_file f sorted) fs
 
--- what is wrong with the paths of those
+-- what is wrong with the paths of these files
 abbrev pub path_flaws : List SourceFile → List SourceFile → List Flaw
 path_flaws sorted [] = []
 path_flaws sorted (f ∷ fs) = option_to_list (path_flaw sorted f.path) ++ path_flaws (with_file f sorted) fs
@@ -59,7 +59,7 @@ flaw_of path (why.Memory error) = BadToml path
 abbrev pub toml_flaws : Reader → SourceFile → List Flaw
 toml_flaws r file = if is_utf8 file.bytes then map (flaw_of file.path) (annotation_faults r.reading file.bytes) else BadToml file.path ∷ []
 
--- it, with the annotations that can be read
+-- a REUSE.toml, with the annotations that can be read
 abbrev pub toml_sifted : Reader → SourceFile → TomlText
 toml_sifted r file = record { folder = folder_of file.path; annotations = if is_utf8 file.bytes then good_annotations r.reading file.bytes else [] }
 
@@ -102,7 +102,7 @@ gather_fault (BadToml path) = first.BadToml path
 gather_fault (BadAnnotation path index kind) = first.BadAnnotation path index kind
 gather_fault (BadExpression path line text) = first.BadExpression path line
 
--- what is read up to the first fault, beside all flaws and what is read past them
+-- what is read up to the first fault, compared with all flaws and what is read despite them
 abbrev pub Agrees : {A : Type 0} → Read A → List Flaw → A → Type 0
 Agrees (Ok x) flaws y = (flaws ≡ []) × (y ≡ x)
 Agrees (Err fault) flaws y = (flaw : Flaw) × (more : List Flaw) × (flaws ≡ flaw ∷ more) × (gather_fault flaw ≡ fault)

@@ -1,4 +1,4 @@
--- What is told of a tree: what is gathered of it, with the digests of the files' bytes.
+-- What is reported about a tree: what is gathered from it, with the digests of the files' bytes.
 use Rattle.std.specs.Prelude.{List, map, Ok}
 use Rattle.sha1.specs.Sha1.{sha1}
 use Rattle.desk_tree_gather.specs.declared.files.SourceFile.{SourceFile}
@@ -22,13 +22,13 @@ told r files =
     then_read (tree_of files) (λ tree.
     Ok (map (with_digest tree) infos)))
 
--- what is told of the covered files of a tree, in their order
+-- what is reported about the covered files of a tree, in their order
 abbrev pub told_of : Reader → List TomlText → List SourceFile → SourceFile → Read ToldFile
 told_of r tomls tree file = then_read (info_of r tomls tree file) (λ info. Ok (with_digest tree info))
 
 abbrev pub told_in : Reader → List TomlText → List SourceFile → Read (List ToldFile)
 told_in r tomls tree = each is_covered (told_of r tomls tree) tree
 
--- what is told of a file, by itself and by the files that are left
+-- what is reported about a file, from itself and the files that are left
 abbrev pub told_beside : Reader → List TomlText → List SourceFile → SourceFile → Read ToldFile
 told_beside r tomls left file = then_read (info_of r tomls left file) (λ info. Ok (record { info = info; digest = sha1 file.bytes }))

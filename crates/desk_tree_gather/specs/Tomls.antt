@@ -17,7 +17,7 @@ pub record TomlText : Type 0 where
   pub folder : List ℕ
   pub annotations : List Annotation
 
--- a fault is told with the file
+-- a fault, with the path of the file
 abbrev pub told_of : List ℕ → AnnotationsFault → GatherFault
 told_of path why.BadToml = BadToml path
 told_of path (why.BadAnnotation index kind) = BadAnnotation path index kind

@@ -1,4 +1,4 @@
--- The files of a tree in byte order of their paths, or the first path that can't stand there.
+-- The files of a tree in byte order of their paths, or the first path that can't be there.
 use Rattle.std.specs.Prelude.{ℕ, nat_lt, not, Bool, List, [], ◌∷◌, length, Option, Some, None, Result, Ok, Err, if◌then◌else◌}
 use Rattle.std.specs.Option.{is_some}
 use Rattle.std.specs.Str.{bytes_eq}
@@ -29,7 +29,7 @@ abbrev pub bytes_at : List SourceFile → List ℕ → Option (List ℕ)
 bytes_at [] path = None
 bytes_at (f ∷ fs) path = if bytes_eq path f.path then Some f.bytes else bytes_at fs path
 
--- the bytes at a path, and none where no file is there
+-- the bytes at a path, and none if there is no file
 abbrev pub some_bytes : Option (List ℕ) → List ℕ
 some_bytes (Some bytes) = bytes
 some_bytes None = []
@@ -37,7 +37,8 @@ some_bytes None = []
 abbrev pub bytes_of : List SourceFile → List ℕ → List ℕ
 bytes_of tree path = some_bytes (bytes_at tree path)
 
--- files put one after the other to others that are sorted, up to the first whose path can't stand there, or stands there
+-- files added one after another to others that are sorted, up to the first whose path can't be there, or is
+-- there already
 abbrev pub placed : List SourceFile → List SourceFile → Read (List SourceFile)
 placed sorted [] = Ok sorted
 placed sorted (f ∷ fs) =

@@ -15,11 +15,12 @@ abbrev pub first_or : List ℕ → List (List ℕ) → List ℕ
 first_or path [] = path
 first_or path (rest ∷ more) = rest
 
--- what stands behind the first slash, or all where there is none
+-- what follows the first slash, or all if there is none
 abbrev pub behind_slash : List ℕ → List ℕ
 behind_slash path = first_or path (rests path)
 
--- the first so many folders are on the way to both paths, and the others to the second one are on the way in its rest
+-- the first `many` folders are on the way to both paths, and the others on the way to the second one are in
+-- its rest
 abbrev pub Shares : List ℕ → List ℕ → ℕ → List ℕ → Type 0
 Shares before path many rest =
     (both others : List (List ℕ)) × (length both ≡ many) × (ways before ≡ both ++ others) × (ways path ≡ both ++ map (way path) (rests rest))

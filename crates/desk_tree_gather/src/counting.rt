@@ -26,7 +26,7 @@ fn covers(annotation: &Annotation, path: &str) -> bool
     false
 }
 
-// Whether the annotation of a number covers a path.
+// Whether the annotation with a number covers a path.
 fn covers_at(all: &[Annotation], number: usize, path: &str) -> bool
     ensures { (r : Reader) → IsRightReader r
         → result ≡ list_any (λ a. covers r a path.now) (annotations_at all.now (number ∷ [])) }
@@ -51,7 +51,7 @@ fn last_covering(all: &[Annotation], numbers: &[usize], path: &str) -> Option<us
     last
 }
 
-// What stands behind the first slash, or all where there is none.
+// What follows the first slash, or all if there is none.
 fn behind_slash(path: &str) -> &str
     ensures value { result.now ≡ behind_slash path.now }
     ensures utf8 { IsUtf8 result.now }
@@ -62,7 +62,8 @@ fn behind_slash(path: &str) -> &str
     }
 }
 
-// The numbers of the annotations that count for a path, by those of the folders on the way to it.
+// The numbers of the annotations that count for a path, given those of the folders on the way to
+// it.
 fn counting_along(
     alloc: Global,
     all: &[Annotation],
@@ -83,8 +84,8 @@ fn counting_along(
     Ok(list)
 }
 
-/// The numbers of the annotations that count for a path, from the root to its folder, by the way
-/// to the path before.
+/// The numbers of the annotations that count for a path, from the root to its folder. The trail
+/// moves from the path before to this one.
 pub(crate) fn counting(
     alloc: Global,
     trail: &mut Trail<'_>,

@@ -1,11 +1,11 @@
-//! Why nothing is gathered of a tree.
+//! Why nothing is gathered from a tree.
 
 use desk_base::Text;
 use desk_tree_annotations::AnnotationFault;
 use std::alloc::AllocError;
 use thiserror::Error;
 
-/// Why nothing is gathered of a tree.
+/// Why nothing is gathered from a tree.
 #[derive(Debug, Drop, Error)]
 pub enum GatherFault {
     /// A REUSE.toml, named by its path, that is no TOML document of version 1.
@@ -14,19 +14,20 @@ pub enum GatherFault {
     /// An annotation of a REUSE.toml: its path, the index from 0, and what is wrong.
     #[error("annotation {1} of a REUSE.toml: {2}")]
     BadAnnotation(Text, usize, AnnotationFault),
-    /// A tag whose value is no licence expression: the path of the file that holds it, and the line from 1.
+    /// A tag whose value is no licence expression: the path of the file that has it, and its line,
+    /// from 1.
     #[error("a tag without a licence expression on line {1}")]
     BadExpression(Text, u64),
-    /// A path that can't stand in a tree.
+    /// A path that can't be in a tree.
     #[error("a path that can't stand in a tree")]
     BadPath,
-    /// A path that stands twice.
+    /// A path that appears twice.
     #[error("a path that stands twice")]
     TwicePath,
     /// More than 10,000 files.
     #[error("more than 10,000 files")]
     TooManyFiles,
-    /// Licences that can't be joined to one expression.
+    /// Licences that can't be joined into one expression.
     #[error("licences that can't be joined to one expression")]
     ExpressionTooLong,
     /// No memory was left.

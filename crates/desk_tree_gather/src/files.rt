@@ -27,7 +27,7 @@ pub(crate) struct File<'a> {
     pub(crate) bytes: &'a [u8],
 }
 
-// The files by path, where each path can stand there.
+// The files by path, or the first fault of their paths.
 fn placed<'a>(
     alloc: Global,
     files: &'a [SourceFile],
@@ -50,7 +50,7 @@ fn placed<'a>(
 }
 
 /// The bytes of files by path, or the first fault: more than 10,000 files, or the first path that
-/// can't stand in a tree or stands there already.
+/// can't be in a tree or is there already.
 pub fn tree_of<'a>(
     alloc: Global,
     files: &'a [SourceFile],
@@ -94,7 +94,7 @@ pub(crate) fn is_toml(file: File<'_>) -> bool
     name_of(file.path.as_bytes()) == b"REUSE.toml".as_slice()
 }
 
-/// Whether a file is told of.
+/// Whether a file is covered.
 pub(crate) fn is_covered(file: File<'_>) -> bool
     ensures { result ≡ is_covered (file_of file.entry) }
 {

@@ -23,7 +23,7 @@ pub struct First<'a> {
     pub texts: Items<SharedText>,
 }
 
-// What was gone through: texts, and the annotations whose texts are all among those.
+// What was seen: texts, and the annotations whose texts are all among these.
 #[derive(Drop)]
 pub(crate) struct Seen<'m> {
     pub(crate) texts: BTreeSet<&'m str>,
@@ -48,7 +48,7 @@ fn add_unseen<'m>(
     Ok(())
 }
 
-// Adds the texts of an annotation that weren't seen before: none where it was gone through.
+// Adds the texts of an annotation that weren't seen before: none if the annotation was seen.
 fn add_annotation<'m>(
     of: Subject,
     all: &'m [Annotation],
@@ -91,7 +91,7 @@ fn unseen<'m>(
     shared_set(alloc, list)
 }
 
-/// Of each file the texts that no file before it has.
+/// For each file the texts that no file before it has.
 pub(crate) fn firsts_of<'m>(
     alloc: Global,
     of: Subject,

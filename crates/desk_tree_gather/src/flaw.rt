@@ -3,20 +3,20 @@
 use desk_base::Text;
 use desk_tree_annotations::AnnotationFault;
 
-/// Something in a tree for which nothing is gathered of it.
+/// Something wrong in a tree, because of which nothing is gathered from it.
 #[derive(Drop)]
 pub enum Flaw {
     /// More than 10,000 files.
     TooManyFiles,
-    /// A path that can't stand in a tree.
+    /// A path that can't be in a tree.
     BadPath(Text),
-    /// A path that stands there already.
+    /// A path that is there already.
     TwicePath(Text),
     /// A REUSE.toml, named by its path, that is no TOML document of version 1.
     BadToml(Text),
     /// An annotation of a REUSE.toml: its path, the index from 0, and what is wrong.
     BadAnnotation(Text, usize, AnnotationFault),
-    /// A tag whose value is no licence expression: the path of the file that holds it, the line
-    /// from 1, and the value.
+    /// A tag whose value is no licence expression: the path of the file that has it, its line, from
+    /// 1, and its value.
     BadExpression(Text, u64, Text),
 }

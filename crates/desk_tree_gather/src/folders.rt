@@ -1,4 +1,4 @@
-//! The annotations of a tree: each has a number, and each folder those of its own.
+//! The annotations of a tree: each has a number, and each folder has the numbers of its own.
 
 ghost use Rattle.std.specs.Prelude.{◌≡◌, ◌++◌, List, IfOk, OnOk};
 ghost use Rattle.desk_tree_gather.specs.Folders.{kept_for, Holds};
@@ -17,7 +17,7 @@ pub(crate) struct Folders {
     pub(crate) numbers: BTreeMap<Vec<u8>, Vec<usize>>,
 }
 
-// Adds annotations to others, and gives their numbers.
+// Adds annotations to others, and returns their numbers.
 fn add(
     alloc: Global,
     all: &mut Vec<Annotation>,

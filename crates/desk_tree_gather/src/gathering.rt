@@ -1,4 +1,4 @@
-//! What is gathered of a tree.
+//! What is gathered from a tree.
 
 ghost use Rattle.std.specs.Prelude.{◌≡◌, ◌⊎◌, List, IfOk, IfErr, OnOk, Ok, Err, alloc_error, option_map, map};
 ghost use Rattle.desk_tree_annotations.specs.Tags.{tag_text};
@@ -27,7 +27,7 @@ use desk_tree_annotations::{Annotation, Info, SharedText, Tagged, header, is_exp
 use std::alloc::{AllocError, Global};
 use std::collections::BTreeMap;
 
-/// What a file is under.
+/// The information of a file: what it is under.
 #[derive(Drop)]
 pub struct FileInfo {
     /// Its path.
@@ -38,14 +38,14 @@ pub struct FileInfo {
     pub licences: Items<SharedText>,
 }
 
-/// The files that are known by path, and the annotations by folder.
+/// The files by path, and the annotations by folder.
 #[derive(Drop)]
 pub(crate) struct Known<'a> {
     pub(crate) tree: BTreeMap<&'a str, &'a [u8]>,
     pub(crate) folders: Folders,
 }
 
-/// The file that holds what is stated of another, or of itself.
+/// The file that states something about another file, or about itself.
 #[derive(Drop)]
 pub(crate) struct Held<'a> {
     pub(crate) path: String,
@@ -84,7 +84,8 @@ pub(crate) fn stated_in<'a>(
     }
 }
 
-/// The file whose tags are a file's own information: the one beside it, or itself.
+/// The file whose tags are a file's own information: the `.license` file beside it, or the file
+/// itself.
 pub(crate) fn holder<'a>(
     alloc: Global,
     tree: &BTreeMap<&'a str, &'a [u8]>,
@@ -106,7 +107,7 @@ pub(crate) fn holder<'a>(
     }
 }
 
-// A file's own information: what is stated beside it, or by itself.
+// A file's own information: what is stated beside it, or in it.
 fn own_of<'a>(
     alloc: Global,
     tree: &BTreeMap<&'a str, &'a [u8]>,
@@ -129,7 +130,8 @@ fn values(alloc: Global, tags: &[Tagged<'_>]) -> Result<Vec<SharedText>, AllocEr
     Ok(values)
 }
 
-// The texts of a file, by its tags and the annotations that count. Its own are kept once each.
+// The texts of a file, from its tags and the annotations that count. Each of the file's own is kept
+// once.
 fn given_of(
     alloc: Global,
     of: Subject,
@@ -165,7 +167,7 @@ pub(crate) fn info_with(
     })
 }
 
-// The information of a file, by the way to the one before.
+// The information of a file, with the trail of the file before.
 fn info_of<'a>(
     alloc: Global,
     tree: &BTreeMap<&'a str, &'a [u8]>,
@@ -188,7 +190,7 @@ fn info_of<'a>(
     Ok(Ok(info))
 }
 
-// The information of the covered files, in their order, by the way to the one before.
+// The information of the covered files, in their order, with the trail of the file before.
 fn each_info<'a>(
     alloc: Global,
     tree: &BTreeMap<&'a str, &'a [u8]>,
@@ -213,7 +215,7 @@ fn each_info<'a>(
     Ok(Ok(infos))
 }
 
-// The information of the covered files, in their order, by the annotations' numbers.
+// The information of the covered files, in their order, with the numbers of annotations.
 fn covered_of<'a>(
     alloc: Global,
     known: &Known<'a>,
@@ -247,7 +249,7 @@ fn infos_of<'a>(
     Ok(Ok(Infos::of(folders.all, covered)))
 }
 
-/// As `gather`, with want of memory told apart from the faults of the tree.
+/// Like `gather`, but with lack of memory apart from the faults of the tree.
 pub fn gathered(
     alloc: Global,
     files: &[SourceFile],
@@ -286,11 +288,11 @@ fn listed(
     }
 }
 
-/// The information of each covered file by path, or the first fault: too many files; of the paths
-/// in turn; of the REUSE.toml files by path; of what the covered files state, by path.
+/// The information of each covered file by path, or the first fault: too many files; a fault of the
+/// paths in turn, of the REUSE.toml files by path, or of what the covered files state, by path.
 ///
-/// For each right reader the answer is that of `gathered`; `Memory` is want of memory and nothing
-/// else.
+/// For each right reader the answer is that of `gathered`; `Memory` means lack of memory and
+/// nothing else.
 pub fn gather(alloc: Global, files: &[SourceFile]) -> Result<Vec<FileInfo>, GatherFault>
     ensures ok { (r : Reader) → IsRightReader r
         → IfOk result (λ v. gathered r files.now ≡ Ok v.items) }

@@ -8,7 +8,7 @@ ghost use Rattle.desk_tree_gather.specs.Sharing.{annotations_at, texts_at, all_t
 use desk_tree_annotations::{Annotation, Precedence, SharedText};
 use std::alloc::{AllocError, Global};
 
-/// What is asked of a file.
+/// What is asked about a file.
 #[derive(Clone, Copy)]
 pub enum Subject {
     /// Its copyright notices.
@@ -24,7 +24,7 @@ pub(crate) struct Sources {
     pub(crate) own: Vec<SharedText>,
 }
 
-/// The annotation of a number.
+/// The annotation with a number.
 pub(crate) fn annotation_at(all: &[Annotation], number: usize) -> Option<&Annotation>
     ensures { option_map (λ a. a.now) result ≡ slice_get all.now number }
 {
@@ -41,7 +41,7 @@ fn texts_of<'m>(of: Subject, annotation: &'m Annotation) -> &'m [SharedText]
     }
 }
 
-/// The texts of the annotation of a number.
+/// The texts of the annotation with a number.
 pub(crate) fn texts_at<'m>(of: Subject, all: &'m [Annotation], number: usize) -> &'m [SharedText]
     ensures { result.now ≡ texts_at all.now of (number ∷ []) }
 {
@@ -79,8 +79,8 @@ fn nearer(
     }
 }
 
-// A file's own texts, or where it has none those of the nearest `closest` annotation, behind those
-// of others.
+// The texts of annotations, and then a file's own or, if it has none, those of the nearest
+// `closest` annotation.
 fn with_own(
     numbers: Vec<usize>,
     own: Vec<SharedText>,
@@ -99,7 +99,7 @@ fn with_own(
 }
 
 /// The texts of a file: its own, and those of the annotations that count. The numbers take no more
-/// room than those of all of these need, since a deep tree has many for each file.
+/// room than those of all these annotations, because a deep tree has many for each file.
 pub(crate) fn given(
     alloc: Global,
     of: Subject,

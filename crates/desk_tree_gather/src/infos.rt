@@ -15,7 +15,7 @@ use desk_tree_annotations::{Annotation, SharedText};
 use std::alloc::{AllocError, Global};
 use std::marker::Model;
 
-/// A covered file: its path, and what gives its texts.
+/// A covered file: its path, and where its texts come from.
 #[derive(Drop)]
 pub(crate) struct Covered {
     pub(crate) path: Text,
@@ -24,7 +24,7 @@ pub(crate) struct Covered {
 }
 
 impl Covered {
-    /// What gives its texts.
+    /// Where its texts come from.
     pub(crate) fn sources(&self, of: Subject) -> &Sources
         ensures { result.now ≡ sources_in of self.now }
     {
@@ -35,7 +35,7 @@ impl Covered {
     }
 }
 
-/// What the covered files of a tree are under, by path: seen as the information of each. What an
+/// The information of the covered files of a tree, by path, seen as that of each file. What an
 /// annotation gives is kept once, however many files it counts for.
 #[derive(Drop)]
 pub struct Infos {
@@ -54,7 +54,7 @@ impl Model for Infos {
     ghost view = { λ i. infos_at i.annotations.items i.files.items };
 }
 
-/// A file's path, and what it has none of.
+/// A file's path, and what it lacks.
 #[derive(Clone, Copy)]
 pub struct Outline<'a> {
     /// Its path.
@@ -173,7 +173,7 @@ fn distinct_in(alloc: Global, firsts: &[First<'_>]) -> Result<Items<SharedText>,
 }
 
 impl Infos {
-    /// The information of files under the annotations of these numbers.
+    /// The information of files that have the numbers of these annotations.
     pub(crate) fn of(annotations: Vec<Annotation>, files: Vec<Covered>) -> Infos
         ensures { result ≡ infos_at annotations.items files.items }
     {
@@ -187,22 +187,22 @@ impl Infos {
         self.files.len()
     }
 
-    /// The information of each file, with all its texts. The only error is want of memory.
+    /// The information of each file, with all its texts. The only error is lack of memory.
     pub fn to_vec(&self, alloc: Global) -> Result<Vec<FileInfo>, AllocError>
         ensures { IfOk result (λ v. v.items ≡ self.now) }
     {
         all_infos(alloc, self.annotations.as_slice(), self.files.as_slice())
     }
 
-    /// Each file in outline. The only error is want of memory.
+    /// Each file in outline. The only error is lack of memory.
     pub fn outlines(&self, alloc: Global) -> Result<Vec<Outline<'_>>, AllocError>
         ensures { IfOk result (λ v. map outline_in v.items ≡ map outline_of self.now) }
     {
         outlines_of(alloc, self.annotations.as_slice(), self.files.as_slice())
     }
 
-    /// Of each file the texts that no file before it has. Each annotation is gone through once. The
-    /// only error is want of memory.
+    /// For each file the texts that no file before it has. Each annotation is looked at once. The
+    /// only error is lack of memory.
     pub fn firsts(&self, alloc: Global, of: Subject) -> Result<Vec<First<'_>>, AllocError>
         ensures { IfOk result (λ v. map first_in v.items ≡ firsts_of of self.now) }
     {
@@ -214,8 +214,8 @@ impl Infos {
         )
     }
 
-    /// The distinct texts of all files, in byte order. Each annotation is gone through once. The only
-    /// error is want of memory.
+    /// The distinct texts of all files, in byte order. Each annotation is looked at once. The only
+    /// error is lack of memory.
     pub fn distinct(&self, alloc: Global, of: Subject) -> Result<Items<SharedText>, AllocError>
         ensures { IfOk result (λ set. set ≡ sorted_set (flat_map (texts_in of) self.now)) }
     {

@@ -7,12 +7,12 @@ ghost use Rattle.desk_tree_gather.specs.Trees.{tree_of};
 ghost use Rattle.desk_tree_gather.specs.Gathering.{gathered};
 ghost use Rattle.desk_tree_gather.specs.Survey.{kept, flaws_of, infos_sifted, Agrees};
 
-/// All right readers are one.
+/// There is only one right reader.
 pub fn one_reader()
     ensures { (r s : Reader) → IsRightReader r → IsRightReader s → r ≡ s }
 {}
 
-/// What is gathered is what a survey gives where nothing is wrong, and else the fault is the first
+/// What is gathered is what a survey gives if nothing is wrong, and else the fault is the first
 /// flaw.
 pub fn gathered_is_surveyed()
     ensures answer { (r : Reader) (files : List SourceFile)

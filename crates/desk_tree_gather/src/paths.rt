@@ -39,7 +39,7 @@ fn are_shown(bytes: &[u8]) -> bool
     bytes.iter().all(|byte| *byte >= 32)
 }
 
-/// Whether a path may stand in a tree.
+/// Whether a path may be in a tree.
 pub(crate) fn is_path(alloc: Global, path: &str) -> Result<bool, AllocError>
     ensures { IfOk result (λ is. is ≡ is_path path.now) }
 {
@@ -48,7 +48,7 @@ pub(crate) fn is_path(alloc: Global, path: &str) -> Result<bool, AllocError>
     Ok(are_parts(parts.as_slice()) && are_shown(bytes) && !bytes.ends_with(b" "))
 }
 
-/// What stands behind the last slash.
+/// What follows the last slash, or all if there is none.
 pub(crate) fn name_of(path: &[u8]) -> &[u8]
     ensures { result.now ≡ name_of path.now }
 {
@@ -77,7 +77,7 @@ fn is_named(name: &[u8], word: &[u8], dotted: &[u8]) -> bool
     name == word || name.starts_with(dotted)
 }
 
-// Whether a name is that of a text of licence.
+// Whether a name is that of a licence text.
 fn is_licence_name(name: &[u8]) -> bool
     ensures { result ≡ is_licence_name name.now }
 {
@@ -86,7 +86,7 @@ fn is_licence_name(name: &[u8]) -> bool
         || is_named(name, b"COPYING", b"COPYING.")
 }
 
-/// Whether a file is left out for its name, or for its place at the root.
+/// Whether a file is left out because of its name or its place at the root.
 pub(crate) fn is_left_out(path: &[u8], name: &[u8]) -> bool
     ensures { result ≡ is_left_out path.now name.now }
 {

@@ -9,7 +9,7 @@ use std::alloc::{AllocError, Global};
 use std::collections::BTreeSet;
 
 /// The texts sorted by their bytes, each once. The list takes no more room than it needs. The only
-/// error is want of memory.
+/// error is lack of memory.
 pub(crate) fn shared_set(
     alloc: Global,
     listed: Vec<SharedText>,

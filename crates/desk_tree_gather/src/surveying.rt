@@ -1,4 +1,4 @@
-//! All that is wrong in a tree, and what is gathered of the rest of it.
+//! All that is wrong in a tree, and what is gathered from the rest of it.
 
 ghost use Rattle.std.specs.Prelude.{◌≡◌, ◌++◌, [], true, IfOk, IfSome, OnOk, map, filter, option_to_list, List};
 ghost use Rattle.std.specs.List.{flat_map};
@@ -29,21 +29,21 @@ use desk_tree_annotations::{
 use std::alloc::{AllocError, Global};
 use std::collections::BTreeMap;
 
-/// All that is wrong in a tree, and what is gathered of the rest.
+/// All that is wrong in a tree, and what is gathered from the rest.
 #[derive(Drop)]
 pub struct Surveyed<'a> {
-    /// The bytes of its files by path, without those whose path is wrong; of more than 10,000 files
-    /// none.
+    /// The bytes of its files by path, without those whose path is wrong; none if there are more
+    /// than 10,000 files.
     pub tree: BTreeMap<&'a str, &'a [u8]>,
-    /// What is wrong: of the paths in turn, of the REUSE.toml files by path, and of what the
-    /// covered files state, by path.
+    /// That there are too many files, or what is wrong with the paths in turn, with the REUSE.toml
+    /// files by path, and with what the covered files state, by path.
     pub flaws: Items<Flaw>,
-    /// The information of the covered files by path, by the annotations that can be read. A tag
-    /// that is no licence expression stands there as it is written.
+    /// The information of the covered files by path, from the annotations that can be read. A tag
+    /// that is no licence expression is there as it is written.
     pub infos: Infos,
 }
 
-// What is wrong with the path of a file that is put to others.
+// What is wrong with the path of a file that is added to others.
 fn path_flaw<'a>(
     alloc: Global,
     tree: &BTreeMap<&'a str, &'a [u8]>,
@@ -62,7 +62,7 @@ fn path_flaw<'a>(
     Ok(None)
 }
 
-// Puts a file to others, or tells what is wrong with its path.
+// Adds a file to others, or reports what is wrong with its path.
 fn put<'a>(
     alloc: Global,
     tree: &mut BTreeMap<&'a str, &'a [u8]>,
@@ -125,7 +125,7 @@ fn covered_files<'a>(alloc: Global, files: &[File<'a>]) -> Result<Vec<File<'a>>,
     Ok(covered)
 }
 
-// What a fault of a REUSE.toml is for the tree.
+// The flaw of the tree for a fault of a REUSE.toml.
 fn flaw_of(alloc: Global, path: &str, fault: AnnotationsFault) -> Result<Flaw, AllocError>
     ensures { IfOk result (λ flaw. flaw ≡ flaw_of path.now fault) }
 {
@@ -203,8 +203,8 @@ fn tomls_sifted<'a>(
     Ok(tomls)
 }
 
-// Adds a tag that is no licence expression, and tells a text that is known to be one: the tag's, or
-// what was known before.
+// Adds a tag that is no licence expression, and returns a text that is known to be one: the tag's,
+// or what was known before.
 fn add_tag<'a>(
     alloc: Global,
     path: &str,
@@ -264,8 +264,8 @@ fn own_sifted<'a>(
     Ok(info)
 }
 
-// The information of a covered file, whatever is wrong in it or elsewhere, by the way to the one
-// before.
+// The information of a covered file, whatever is wrong in it or elsewhere, with the trail of the
+// file before.
 fn info_sifted<'a>(
     alloc: Global,
     tree: &BTreeMap<&'a str, &'a [u8]>,
@@ -288,7 +288,7 @@ fn info_sifted<'a>(
     info_with(alloc, file.path, all, counting.as_slice(), &own)
 }
 
-// The information of covered files, in their order, by the way to the one before.
+// The information of covered files, in their order, with the trail of the file before.
 fn each_sifted<'a>(
     alloc: Global,
     tree: &BTreeMap<&'a str, &'a [u8]>,
@@ -331,7 +331,7 @@ fn all_sifted<'a>(
     each_sifted(alloc, &known.tree, &mut trail, files, flaws)
 }
 
-// All that is wrong in a tree of right paths, and what is gathered of the rest.
+// All that is wrong in a tree with right paths, and what is gathered from the rest.
 fn survey_of<'a>(
     alloc: Global,
     tree: BTreeMap<&'a str, &'a [u8]>,
@@ -356,11 +356,11 @@ fn survey_of<'a>(
     Ok(Surveyed { tree, flaws, infos })
 }
 
-/// All that is wrong in a tree, and what is gathered of the rest of it. The only error is want of
+/// All that is wrong in a tree, and what is gathered from the rest of it. The only error is lack of
 /// memory.
 ///
-/// Where `gathered` gives the information of the files, nothing is wrong and it is that; else its
-/// fault is the first flaw (`gathered_is_surveyed`).
+/// If `gathered` returns the information of the files, nothing is wrong and this is the same; if
+/// not, its fault is the first flaw (`gathered_is_surveyed`).
 pub fn survey<'a>(alloc: Global, files: &'a [SourceFile]) -> Result<Surveyed<'a>, AllocError>
     ensures tree { IfOk result (λ s. tree_in s.tree ≡ kept files.now) }
     ensures flaws { (r : Reader) → IsRightReader r

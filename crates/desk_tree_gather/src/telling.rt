@@ -1,4 +1,4 @@
-//! What is told of the files of a tree. The bytes of a file are let go once it is told of.
+//! What is reported about the files of a tree. The bytes of a file are dropped once it is reported.
 
 ghost use Rattle.std.specs.Prelude.{◌≡◌, ◌<◌, [], List, IfOk, IfErr, OnOk, Ok, Err, option_map, filter, length, map};
 ghost use Rattle.std.specs.List.{slice_get};
@@ -28,10 +28,10 @@ use std::alloc::{AllocError, Global};
 use std::collections::BTreeMap;
 use std::marker::Model;
 
-/// What is told of a file.
+/// What is reported about a file.
 #[derive(Drop)]
 pub struct ToldFile {
-    /// What it is under.
+    /// Its information.
     pub info: FileInfo,
     /// The SHA1 digest of its bytes.
     pub digest: [u8; 20],
@@ -44,8 +44,8 @@ pub(crate) struct Digested {
     pub(crate) digest: [u8; 20],
 }
 
-/// What is told of the covered files of a tree, by path: seen as what is told of each. What an
-/// annotation gives is kept once.
+/// What is reported about the covered files of a tree, by path: seen as what is reported about
+/// each. What an annotation gives is kept once.
 #[derive(Drop)]
 pub struct ToldFiles {
     annotations: Vec<Annotation>,
@@ -75,7 +75,7 @@ fn without_digests(alloc: Global, files: Vec<Digested>) -> Result<Vec<Covered>, 
 }
 
 impl ToldFiles {
-    // Files under the annotations of these numbers.
+    // Files that have the numbers of these annotations.
     fn of(annotations: Vec<Annotation>, files: Vec<Digested>) -> ToldFiles
         ensures { result ≡ all_told annotations.items files.items }
     {
@@ -89,7 +89,7 @@ impl ToldFiles {
         self.files.len()
     }
 
-    /// What is told of one of them, by its place. The only error is want of memory.
+    /// What is reported about one of them, by its place. The only error is lack of memory.
     pub fn file(&self, alloc: Global, place: usize) -> Result<ToldFile, AllocError>
         requires { place < length self.now }
         ensures { IfOk result (λ file. slice_get self.now place ≡ Some file) }
@@ -101,7 +101,7 @@ impl ToldFiles {
         })
     }
 
-    /// The information of the files. The only error is want of memory.
+    /// The information of the files. The only error is lack of memory.
     pub fn into_infos(self, alloc: Global) -> Result<Infos, AllocError>
         ensures { IfOk result (λ infos. infos ≡ map (λ file. file.info) self) }
     {
@@ -111,7 +111,7 @@ impl ToldFiles {
     }
 }
 
-// The files by path, where each path can stand there.
+// The files by path, or the first fault of their paths.
 fn placed(
     alloc: Global,
     files: Vec<SourceFile>,
@@ -134,7 +134,7 @@ fn placed(
     Ok(Ok(left))
 }
 
-// The files by path, or the first fault.
+// The files by path, or the first fault of the tree.
 fn tree_of(
     alloc: Global,
     files: Vec<SourceFile>,
@@ -197,8 +197,8 @@ fn bytes_at<'a>(tree: &'a BTreeMap<Key, Items<u8>>, path: &Key) -> Option<&'a [u
     }
 }
 
-// The file whose tags are a file's own information: the one beside it, among those that are left,
-// or itself.
+// The file whose tags are a file's own information: the `.license` file beside it, among those that
+// are left, or the file itself.
 fn holder<'a>(
     alloc: Global,
     left: &'a BTreeMap<Key, Items<u8>>,
@@ -221,7 +221,8 @@ fn holder<'a>(
     }
 }
 
-// What is told of a file, by itself and by those that are left, and the way to the one before.
+// What is reported about a file, from itself and the files that are left, with the trail of the
+// file before.
 fn told_beside(
     alloc: Global,
     left: &BTreeMap<Key, Items<u8>>,
@@ -246,8 +247,8 @@ fn told_beside(
     Ok(Ok(Digested { info, digest }))
 }
 
-// What is told of the covered files of a tree, by the way to the one before. A file beside another
-// stands behind it, and so among those that are left.
+// What is reported about the covered files of a tree, with the trail of the file before. A
+// `.license` file comes after the file that it is beside, and so is among those that are left.
 fn each_told(
     alloc: Global,
     tree: BTreeMap<Key, Items<u8>>,
@@ -276,7 +277,7 @@ fn each_told(
     Ok(Ok(list))
 }
 
-// What is told of the covered files of a tree, by the annotations' numbers.
+// What is reported about the covered files of a tree, with the numbers of annotations.
 fn files_told(
     alloc: Global,
     tree: BTreeMap<Key, Items<u8>>,
@@ -291,7 +292,7 @@ fn files_told(
     each_told(alloc, tree, &mut trail)
 }
 
-// What is told of the covered files of a tree.
+// What is reported about the covered files of a tree.
 fn told_in(
     alloc: Global,
     tree: BTreeMap<Key, Items<u8>>,
@@ -307,11 +308,11 @@ fn told_in(
     Ok(Ok(ToldFiles::of(folders.all, files)))
 }
 
-/// What is told of each covered file by path, or the first fault, as `gathered` has it. The bytes
-/// of each file are let go once it is told of.
+/// What is reported about each covered file by path, or the first fault, as in `gathered`. The
+/// bytes of each file are dropped once it is reported.
 ///
 /// For each right reader it is what `told` says: what is gathered, each with the SHA1 digest of its
-/// file. The only error is want of memory.
+/// file. The only error is lack of memory.
 pub fn told(
     alloc: Global,
     files: Vec<SourceFile>,

@@ -20,7 +20,7 @@ pub(crate) struct Toml<'a> {
     pub(crate) annotations: Annotations,
 }
 
-// A fault of a REUSE.toml, told with its path.
+// A fault of a REUSE.toml, with its path.
 fn told_of(alloc: Global, path: &str, fault: AnnotationsFault) -> Result<GatherFault, AllocError>
     ensures told { IfOk result (λ f. f ≡ told_of path.now fault) }
     ensures other { OnOk result (fault ≢ AnnotationsFault.Memory alloc_error) }

@@ -1,8 +1,8 @@
 //! The way to a path, from the root to its folder, with the numbers of the annotations of each
 //! folder on it.
 //!
-//! Files come by path, so that the folders of one are mostly those of the file before: each is
-//! looked up once.
+//! Files come by path, so the folders of one are mostly those of the file before: each is looked up
+//! once.
 
 ghost use Rattle.std.specs.Prelude.{◌≡◌, ◌≤◌, ◌∷◌, ◌++◌, length, map, IfOk, OnOk, IfSome, IfNone, List, ℕ};
 ghost use Rattle.desk_tree_gather.specs.Folders.{kept_for};
@@ -21,7 +21,7 @@ pub(crate) struct Trail<'m> {
     ghost along: { lists_of lists.items ≡ map (kept_for folders.now) (ways path.items) },
 }
 
-// The first byte that two texts have both, and what follows it in each.
+// The first byte of two texts, if it is the same, and what follows it in each.
 fn both_begin<'a, 'b>(one: &'a [u8], other: &'b [u8]) -> Option<(u8, &'a [u8], &'b [u8])>
     ensures one { IfSome result (λ r. one.now ≡ r.0 ∷ r.1.now) }
     ensures other { IfSome result (λ r. other.now ≡ r.0 ∷ r.2.now) }
@@ -37,7 +37,7 @@ fn both_begin<'a, 'b>(one: &'a [u8], other: &'b [u8]) -> Option<(u8, &'a [u8], &
     }
 }
 
-// How many folders are on the way to both paths, and what of the second one is behind those.
+// How many folders are on the way to both paths, and what follows them in the second path.
 fn shared<'a>(before: &[u8], path: &'a [u8]) -> (usize, &'a [u8])
     ensures shares { Shares before.now path.now result.0 result.1.now }
     ensures within { length result.1.now ≤ length path.now }
@@ -57,7 +57,7 @@ fn shared<'a>(before: &[u8], path: &'a [u8]) -> (usize, &'a [u8])
     (folders, rest)
 }
 
-// Adds the numbers of the annotations of the folders that are on the way in the rest of a path.
+// Adds the numbers of the annotations of the folders in the rest of a path.
 fn add_behind<'m>(
     folders: &'m Folders,
     path: &[u8],

@@ -37,7 +37,7 @@ apart_in_order : (bs cs ks : List ℕ) → bytes_eq bs cs ≡ false → is_eq (s
 apart_in_order bs cs ks differs same =
     is_eq-slice_cmp cs ks ∙ nat_list_eq_equiv.symm cs ks ∙ sym (nat_list_eq_equiv.congr bs ks cs (sym (is_eq-slice_cmp bs ks) ∙ same)) ∙ differs
 
--- one key more in the map
+-- one more key in the map
 pub kept_for-insert : (key : Vec ℕ Global) (name : List ℕ) (x : Mention) (old new : Firsts) → key.items ≡ name → Updates key_cmp old new key (Some x) → (q : List ℕ)
     → kept_for new q ≡ cond (bytes_eq name q) (Some (mention_in x)) (kept_for old q)
 kept_for-insert key name x old new is updates q =
@@ -51,7 +51,7 @@ kept_for-insert key name x old new is updates q =
           ∙ sym (ap (λ b. cond b (Some (mention_in x)) (kept_for old q)) (ap (λ f. bytes_eq f q) (sym is) ∙ away))
     ]
 
--- ---- one mention behind others
+-- ---- one mention after others
 
 or_inside : (b : Bool) (n : MentionText) (o x : Option MentionText) → cond b (Some n) (or_else o x) ≡ or_else (cond b (Some n) o) x
 or_inside true n o x = refl
@@ -78,7 +78,7 @@ pub some_shown : (o : Option Mention) → is_some (option_map mention_in o) ≡ 
 some_shown None = refl
 some_shown (Some m) = refl
 
--- a mention changes nothing where its key is kept
+-- a mention changes nothing if its key is kept already
 pub kept_before : (m : Mention) (firsts : Firsts) (name : List ℕ) → name ≡ key_of m.id.now → is_some (kept_for firsts name) ≡ true
     → (ms : List MentionText) → Holds ms firsts → Holds (ms ++ mention_in m ∷ []) firsts
 kept_before m firsts name is some ms holds key =
@@ -87,7 +87,7 @@ kept_before m firsts name is some ms holds key =
     ∙ ap (λ n. or_else (first_with key ms) (cond (bytes_eq n key) (Some (mention_in m)) None)) is
     ∙ sym (first_behind ms (mention_in m) key)
 
--- one is kept where its key isn't
+-- a mention is kept if its key isn't yet
 pub kept_new : (m : Mention) (old new : Firsts) (name : List ℕ) → name ≡ key_of m.id.now → is_some (kept_for old name) ≡ false
     → ((q : List ℕ) → kept_for new q ≡ cond (bytes_eq name q) (Some (mention_in m)) (kept_for old q))
     → (ms : List MentionText) → Holds ms old → Holds (ms ++ mention_in m ∷ []) new
@@ -117,9 +117,9 @@ mentions_more ms firsts i d within =
     flat_map_more mentions_of ms (map first_in (take i firsts)) (first_in (get_or firsts i d))
     ∙ ap (λ fs. ms ++ first_mentions fs) (sym (map_more first_in firsts i d within))
 
--- ---- what brings no first
+-- ---- what adds no first mention
 
--- identifiers bring no first mention behind these, whichever file names them
+-- identifiers add no first mention after these, whichever file names them
 abbrev pub BringNone : List MentionText → List (List ℕ) → Type 0
 BringNone ms named = (path key : List ℕ) → first_with key (ms ++ map (mention path) named) ≡ first_with key ms
 
@@ -160,7 +160,7 @@ named_again ms one named path key =
     ∙ second_same (first_with key ms) (first_with key own) (first_with key (map (mention path) named)) (either_file one path key named)
     ∙ sym (first_app key ms own)
 
--- more in front of it
+-- nor after more mentions
 pub none_behind : (ms more : List MentionText) (named : List (List ℕ)) → BringNone ms named → BringNone (ms ++ more) named
 none_behind ms more named none path key =
     let new = map (mention path) named in
@@ -169,7 +169,7 @@ none_behind ms more named none path key =
     ∙ still_none (first_with key ms) (first_with key more) (first_with key new) (sym (first_app key ms new) ∙ none path key)
     ∙ sym (first_app key ms more)
 
--- one licence more
+-- one more licence
 pub licences_more : (before : List MentionText) (path : List ℕ) (licences : List (List ℕ)) (i : ℕ) (d : List ℕ) → i < length licences
     → (before ++ flat_map (mentions_by path) (take i licences)) ++ mentions_by path (get_or licences i d) ≡ before ++ flat_map (mentions_by path) (take (i + 1) licences)
 licences_more before path licences i d within =
@@ -185,7 +185,7 @@ Alike ms ns = (key : List ℕ) → first_with key ms ≡ first_with key ns
 behind_alike : (ms ns more : List MentionText) → Alike ms ns → Alike (ms ++ more) (ns ++ more)
 behind_alike ms ns more same key = first_app key ms more ∙ ap (λ o. or_else o (first_with key more)) (same key) ∙ sym (first_app key ns more)
 
--- a licence that brings no first is left out of others
+-- a licence that adds no first mention is left out of others
 left_out : (ms : List MentionText) (path licence : List ℕ) (more : List MentionText) → BringNone ms (ids licence) → Alike (ms ++ (mentions_by path licence ++ more)) (ms ++ more)
 left_out ms path licence more none key =
     ap (first_with key) (sym (append_assoc ms (mentions_by path licence) more))
@@ -204,13 +204,13 @@ module _ (path : List ℕ) (keeps : List ℕ → Bool) where
       ∙ ap (first_with key) (append_assoc ms (mentions_by path t) (named (filter keeps ts)))
   one_tested t ts ms none more false is key = left_out ms path t (named ts) (none t is) key ∙ more ms none key
 
-  -- the licences of a file without some that bring no first
+  -- the licences of a file without some that add no first mention
   pub filtered_alike : (licences : List (List ℕ)) (ms : List MentionText) → ((t : List ℕ) → keeps t ≡ false → BringNone ms (ids t))
       → Alike (ms ++ flat_map (mentions_by path) licences) (ms ++ flat_map (mentions_by path) (filter keeps licences))
   filtered_alike [] ms none = λ key. refl
   filtered_alike (t ∷ ts) ms none = one_tested t ts ms none (filtered_alike ts) (keeps t) refl
 
--- a licence brings no first behind the mentions of a file that has it
+-- a licence adds no first mention after those of a file that has it
 named_there : (ms : List MentionText) (path : List ℕ) (licences : List (List ℕ)) (t : List ℕ) → is_among licences t ≡ true → BringNone (ms ++ flat_map (mentions_by path) licences) (ids t)
 named_there ms path [] t has = absurd (false≢true has)
 named_there ms path (u ∷ us) t has =

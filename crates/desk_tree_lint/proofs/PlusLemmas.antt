@@ -7,7 +7,7 @@ use Rattle.std.proofs.lemmas.Str.Pattern.{ends_text}
 use denote.Ref.{Bor}
 use Rattle.desk_tree_lint.specs.Naming.{without_plus}
 
--- a word, of which a plus at its end was cut off
+-- a word, from which a plus at its end was cut off
 pub plus_off : (word : Bor (List ℕ)) (r : Option (Bor (List ℕ)))
     → MatchOption r (FindsTextSuffix (codes "+") word.now None) (λ x. StripsSuffix (FindsTextSuffix (codes "+")) word.now x.now)
     → (unwrap_or r word).now ≡ without_plus word.now

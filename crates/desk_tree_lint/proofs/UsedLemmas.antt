@@ -85,9 +85,9 @@ uses_none text old new none same key = (
   (λ h. subst (λ l. Contains l key) (sym same) (elim h [ inl before ↦ before | inr found ↦ absurd (none found.0 found.1) ])),
 )
 
--- ---- one after the other
+-- ---- one after another
 
--- one item more
+-- one more item
 pub some_more : {A : Type 0} (P : A → Type 0) (xs : List A) (i : ℕ) (d : A) (N O : Type 0) → i < length xs → (N ↔ (O ⊎ P (get_or xs i d)))
     → (N ⊎ SomeOf P (drop (i + 1) xs)) ↔ (O ⊎ SomeOf P (drop i xs))
 some_more P xs i d N O below step =
@@ -112,7 +112,7 @@ some_end P xs N none = (
   (λ h. elim (subst (λ l. N ⊎ SomeOf P l) none h) [ inl n ↦ n | inr no_more ↦ absurd no_more ]),
 )
 
--- the start, where nothing is known
+-- the start, when nothing is known
 pub some_start : {A X : Type 0} (P : A → Type 0) (xs : List A) (x : X) (known : List X) → known ≡ [] → (Contains known x ⊎ SomeOf P xs) ↔ SomeOf P xs
 some_start P xs x known none = (
   (λ h. elim h [ inl at ↦ absurd (none_in_nil x (subst (λ l. Contains l x) none at)) | inr some ↦ some ]),
@@ -189,7 +189,7 @@ from_firsts key [] known h = absurd h
 from_firsts key (info ∷ infos) known (inl new) = inl (from_filtered key known info.licences new)
 from_firsts key (info ∷ infos) known (inr later) = inr (from_firsts key infos (known ++ info.licences) later)
 
--- what files use is what the texts use that they have first
+-- what files use is what the texts that they have first use
 pub used_first : (infos : List FileInfo) (key : List ℕ) → IsFirstUsed (firsts_of Licences infos) key ↔ IsUsed infos key
 used_first infos key = (
   from_firsts key infos [],
@@ -200,7 +200,7 @@ used_first infos key = (
 pub used_once : (infos : List FileInfo) (a b : List (List ℕ)) → AreUsed infos a → AreUsed infos b → a ≡ b
 used_once infos a b h k = same_sorted (slice_cmp nat_cmp) total-law a b h.ordered k.ordered (λ key. ((λ at. (k.members key).1 ((h.members key).0 at)), (λ at. (h.members key).1 ((k.members key).0 at))))
 
--- the lists of a tree are one
+-- a tree has only one answer
 found_once : {A : Type 0} (read : Read A) (a b : A) → read ≡ Ok a → read ≡ Ok b → a ≡ b
 found_once read a b h k = let both : Ok a ≡ Ok b = sym h ∙ k in cc
 
@@ -211,7 +211,7 @@ lint_once r files a b h k =
     let keys : h.used ≡ k.used = used_once k.infos h.used k.used (subst (λ i. AreUsed i h.used) infos h.are_used) k.are_used in
     h.lists ∙ (λ j. lists_of (infos j) (keys j) (text_files (tree j))) ∙ sym k.lists
 
--- what a call that went well says
+-- what follows from a call that succeeded
 pub added_by : {T E : Type 0} {P Q : Type 0} (result : Result T E) → OnOk result P → (P → Q) → OnOk result Q
 added_by (Ok x) holds next = next holds
 added_by (Err e) holds next = tt

@@ -9,7 +9,7 @@ use Rattle.desk_tree_gather.specs.Firsts.{FirstTexts}
 use Rattle.desk_tree_lint.specs.declared.naming.Mention.{Mention}
 use Rattle.desk_tree_lint.specs.Naming.{MentionText, mentions_by, first_with}
 
--- a mention without where it lies in memory
+-- a mention, apart from where it is in memory
 abbrev pub mention_in : Mention → MentionText
 mention_in m = record { id = m.id.now; path = m.path.now }
 

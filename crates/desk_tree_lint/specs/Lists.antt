@@ -26,14 +26,14 @@ is_bare info = is_none info.notices || is_none info.licences
 abbrev pub bare : List FileInfo → List (List ℕ)
 bare infos = map (λ (i : FileInfo). i.path) (filter is_bare infos)
 
--- the same by their outlines
+-- the same from their outlines
 abbrev pub bare_in : List OutlineText → List (List ℕ)
 bare_in outlines = map (λ (o : OutlineText). o.path) (filter (λ (o : OutlineText). o.no_notice || o.no_licence) outlines)
 
 abbrev pub lists_of : List FileInfo → List (List ℕ) → List TextFile → Lint
 lists_of infos used texts = record { missing = missing used texts; unused = unused used texts; bare = bare infos }
 
--- the lists of a tree of which everything is gathered
+-- the lists of a tree from which everything is gathered
 pub record IsLint (r : Reader) (files : List SourceFile) (l : Lint) : Type 0 where
   pub infos : List FileInfo
   pub tree : List SourceFile

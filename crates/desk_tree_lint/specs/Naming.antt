@@ -55,7 +55,7 @@ abbrev pub first_with : List ℕ → List MentionText → Option MentionText
 first_with key [] = None
 first_with key (n ∷ ns) = if bytes_eq (key_of n.id) key then Some n else first_with key ns
 
--- what a key is shown by: as it was first written, with the file; or else by itself
+-- how a key is shown: as it was first written, with the file; or else as it is
 abbrev pub name_by : List ℕ → Option MentionText → Name
 name_by key (Some n) = record { id = n.id; path = Some n.path }
 name_by key None = record { id = key; path = None }

@@ -1,11 +1,11 @@
--- What the code's values show of the definitions'.
+-- How the code's values correspond to those of the definitions.
 use Rattle.std.specs.Prelude.{ℕ, Bool, List, [], ◌∷◌, map, Vec, if◌then◌else◌}
 use Rattle.std.specs.declared.alloc.Global.{Global}
 use denote.Ref.{Bor}
 use Rattle.desk_tree_lint.specs.declared.texts.LicenceText.{LicenceText}
 use Rattle.desk_tree_lint.specs.Texts.{TextFile}
 
--- a licence's text without where it lies in memory
+-- a licence text, apart from where it is in memory
 abbrev pub text_in : LicenceText → TextFile
 text_in t = record { path = t.path.now; key = t.key }
 
@@ -16,6 +16,6 @@ texts_in ts = map text_in ts
 abbrev pub bytes_in : Vec (Bor (List ℕ)) Global → List (List ℕ)
 bytes_in v = map (λ (text : Bor (List ℕ)). text.now) v.items
 
--- a text where it belongs to a list
+-- a text, if it belongs to a list
 abbrev pub only : Bool → List ℕ → List (List ℕ)
 only belongs text = if belongs then text ∷ [] else []

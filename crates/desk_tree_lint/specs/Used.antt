@@ -22,7 +22,7 @@ keys_in ts = flat_map term_keys ts
 abbrev pub Uses : List ℕ → List ℕ → Type 0
 Uses text key = (e : Tree) × SpellsWithin text e × Contains (keys_in (leaves e)) key
 
--- a fact holds of some item
+-- a fact is true of some item
 abbrev pub SomeOf : {A : Type 0} → (A → Type 0) → List A → Type 0
 SomeOf P [] = ⊥
 SomeOf P (x ∷ xs) = P x ⊎ SomeOf P xs
@@ -34,7 +34,7 @@ IsUsedIn licences key = SomeOf (λ text. Uses text key) licences
 abbrev pub IsUsed : List FileInfo → List ℕ → Type 0
 IsUsed infos key = SomeOf (λ (i : FileInfo). IsUsedIn i.licences key) infos
 
--- the same by the texts that files have first
+-- the same from the texts that files have first
 abbrev pub IsFirstUsed : List FirstTexts → List ℕ → Type 0
 IsFirstUsed firsts key = SomeOf (λ (f : FirstTexts). IsUsedIn f.texts key) firsts
 

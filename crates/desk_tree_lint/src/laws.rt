@@ -6,7 +6,7 @@ ghost use Rattle.desk_tree_gather.specs.declared.files.SourceFile.{SourceFile};
 ghost use Rattle.desk_tree_lint.specs.declared.lists.Lint.{Lint};
 ghost use Rattle.desk_tree_lint.specs.Lists.{IsLint};
 
-/// A tree has one answer.
+/// A tree has only one answer.
 pub fn one_lint()
     ensures { (r : Reader) (files : List SourceFile) (a b : Lint) → IsLint r files a
         → IsLint r files b

@@ -17,7 +17,7 @@ use std::alloc::{AllocError, Global};
 use std::collections::BTreeMap;
 
 /// The lists of a tree, from the information of its covered files. A licence that is no expression
-/// uses nothing. The only error is want of memory.
+/// uses nothing. The only error is lack of memory.
 pub fn lists_of<'a>(
     alloc: Global,
     tree: &BTreeMap<&'a str, &'a [u8]>,
@@ -35,7 +35,7 @@ pub fn lists_of<'a>(
     })
 }
 
-// The lists of a tree, with want of memory told apart from its faults.
+// The lists of a tree, with lack of memory apart from its faults.
 fn linted(alloc: Global, files: &[SourceFile]) -> Result<Result<Lint, GatherFault>, AllocError>
     ensures ok { (r : Reader) → IsRightReader r → IfOk result (λ x. IfOk x (IsLint r files.now)) }
     ensures err { (r : Reader) → IsRightReader r
@@ -51,10 +51,11 @@ fn linted(alloc: Global, files: &[SourceFile]) -> Result<Result<Lint, GatherFaul
     }
 }
 
-/// What a tree lacks (REUSE Specification 3.3), or the fault for which nothing is gathered of it.
+/// What a tree lacks (REUSE Specification 3.3), or the fault because of which nothing is gathered
+/// from it.
 ///
 /// For each right reader the lists are those of `IsLint`, and the fault that of `gathered`;
-/// `Memory` is want of memory and nothing else.
+/// `Memory` means lack of memory and nothing else.
 pub fn lint(alloc: Global, files: &[SourceFile]) -> Result<Lint, GatherFault>
     ensures ok { (r : Reader) → IsRightReader r → IfOk result (IsLint r files.now) }
     ensures err { (r : Reader) → IsRightReader r

@@ -20,7 +20,7 @@ pub struct Lint {
     /// Licences, exceptions and references that are used and have no text, by their keys, in byte
     /// order.
     pub missing: Items<Text>,
-    /// Paths of licences' texts that nothing uses, in byte order.
+    /// Paths of licence texts that nothing uses, in byte order.
     pub unused: Items<Text>,
     /// Paths of covered files without a copyright notice or without a licence, in byte order.
     pub bare: Items<Text>,
@@ -78,7 +78,7 @@ fn known_of<'a>(alloc: Global, keys: &'a [Key]) -> Result<BTreeSet<&'a str>, All
     set_of(alloc, keys.as_slice())
 }
 
-// Adds a text where it belongs to a list.
+// Adds a text if it belongs to a list.
 fn add_if(
     alloc: Global,
     list: &mut Items<Text>,

@@ -30,7 +30,7 @@ pub(crate) struct Mention<'a> {
     pub(crate) path: &'a str,
 }
 
-// What is between the characters of one kind.
+// What is between the separators of a text.
 fn pieces(alloc: Global, text: &str, separator: char) -> Result<Vec<&str>, AllocError>
     requires { separator < 128 }
     ensures { IfOk result (λ v. texts_in v ≡ slice_split (λ b. b == separator) text.now) }
@@ -71,7 +71,7 @@ fn is_operator(run: &str) -> bool
     run == "AND" || run == "OR" || run == "WITH"
 }
 
-// The identifier before a plus.
+// The identifier without a plus at its end.
 fn without_plus(run: &str) -> &str
     ensures { result.now ≡ without_plus run.now }
 {
@@ -96,7 +96,7 @@ fn add_runs<'a>(
     Ok(())
 }
 
-// The identifiers of a licence of a file.
+// The identifiers in a licence of a file.
 fn mentions_by<'a>(
     alloc: Global,
     path: &'a str,
@@ -110,7 +110,7 @@ fn mentions_by<'a>(
     Ok(found)
 }
 
-// Keeps a mention behind others, unless one of them has its key.
+// Keeps a mention after others, unless one of them has its key.
 fn keep<'a>(
     alloc: Global,
     firsts: &mut BTreeMap<Vec<u8>, Mention<'a>>,
@@ -129,7 +129,7 @@ fn keep<'a>(
     Ok(())
 }
 
-// Keeps mentions behind others, each unless one before has its key.
+// Keeps mentions after others, each unless an earlier one has its key.
 fn keep_each<'a>(
     alloc: Global,
     firsts: &mut BTreeMap<Vec<u8>, Mention<'a>>,
@@ -144,7 +144,7 @@ fn keep_each<'a>(
     Ok(())
 }
 
-// Keeps the mentions of a licence of a file behind others.
+// Keeps the mentions in a licence of a file after others.
 fn keep_licence<'a>(
     alloc: Global,
     firsts: &mut BTreeMap<Vec<u8>, Mention<'a>>,
@@ -158,7 +158,7 @@ fn keep_licence<'a>(
     keep_each(alloc, firsts, found.as_slice())
 }
 
-// Keeps the mentions of a file's licences behind others.
+// Keeps the mentions in a file's licences after others.
 fn keep_licences<'a>(
     alloc: Global,
     firsts: &mut BTreeMap<Vec<u8>, Mention<'a>>,
@@ -188,7 +188,7 @@ fn firsts_in<'a>(
     Ok(firsts)
 }
 
-// What a key is shown by.
+// How a key is shown.
 fn name_by(alloc: Global, key: &str, found: Option<Mention<'_>>) -> Result<Name, AllocError>
     ensures { IfOk result (λ name. name ≡ name_by key.now (option_map mention_in found.entry)) }
 {
@@ -204,7 +204,7 @@ fn name_by(alloc: Global, key: &str, found: Option<Mention<'_>>) -> Result<Name,
     }
 }
 
-// What a key is shown by, where the first of each is known.
+// How a key is shown, given the first mention of each.
 fn name_of(
     alloc: Global,
     firsts: &BTreeMap<Vec<u8>, Mention<'_>>,
@@ -217,7 +217,7 @@ fn name_of(
     name_by(alloc, key, found)
 }
 
-// What keys are shown by, where the first of each is known.
+// How keys are shown, given the first mention of each.
 fn each_name(
     alloc: Global,
     firsts: &BTreeMap<Vec<u8>, Mention<'_>>,
@@ -234,7 +234,7 @@ fn each_name(
 }
 
 /// How keys are written where files first name them, each with the first file. The only error is
-/// want of memory.
+/// lack of memory.
 pub fn names_of(alloc: Global, infos: &Infos, keys: &[Text]) -> Result<Items<Name>, AllocError>
     ensures { IfOk result (λ names. names ≡ map (name_of infos.now) keys.now) }
 {

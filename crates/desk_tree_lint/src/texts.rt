@@ -1,4 +1,4 @@
-//! The texts of licences in a tree.
+//! The licence texts in a tree.
 
 ghost use Rattle.std.specs.Prelude.{◌≡◌, IfOk, option_map, ◌==◌};
 ghost use Rattle.std.specs.List.{list_any};
@@ -16,7 +16,7 @@ use std::collections::BTreeMap;
 pub(crate) struct LicenceText<'a> {
     /// Its path.
     pub(crate) path: &'a str,
-    /// What the identifier is compared by that it is named by.
+    /// The key of the identifier after which it is named.
     pub(crate) key: Key,
 }
 
@@ -27,7 +27,7 @@ fn has_slash(name: &[u8]) -> bool
     name.iter().any(|byte| *byte == b'/')
 }
 
-// The name of a licence's text, where a path is of one.
+// The name of the licence text at a path, if there is one.
 fn text_name(path: &str) -> Option<&str>
     ensures { option_map (λ name. name.now) result ≡ text_name path.now }
 {
@@ -49,7 +49,7 @@ fn stem(name: &str) -> &str
     }
 }
 
-/// What an identifier is compared by.
+/// The key by which an identifier is compared.
 pub(crate) fn key_of(alloc: Global, id: &str) -> Result<Key, AllocError>
     ensures { IfOk result (λ k. k ≡ key_of id.now) }
 {
@@ -60,7 +60,7 @@ pub(crate) fn key_of(alloc: Global, id: &str) -> Result<Key, AllocError>
     }
 }
 
-// The licence's text at a path, where there is one.
+// The licence text at a path, if there is one.
 fn text_file<'a>(alloc: Global, path: &'a str) -> Result<Option<LicenceText<'a>>, AllocError>
     ensures { IfOk result (λ t. option_map text_in t ≡ option_map (λ name.
         record { path = path.now; key = key_of (stem name) }) (text_name path.now)) }
@@ -74,7 +74,7 @@ fn text_file<'a>(alloc: Global, path: &'a str) -> Result<Option<LicenceText<'a>>
     }
 }
 
-/// The texts of licences, by path.
+/// The licence texts, by path.
 pub(crate) fn text_files<'a>(
     alloc: Global,
     tree: &BTreeMap<&'a str, &'a [u8]>,

@@ -48,7 +48,7 @@ fn add_each(alloc: Global, keys: &mut Vec<Key>, licences: &[SharedText]) -> Resu
     Ok(())
 }
 
-// The keys that licences of files use, each time that one stands there.
+// The keys that licences of files use, each time that one appears.
 fn each_used(alloc: Global, firsts: &[First<'_>]) -> Result<Vec<Key>, AllocError>
     ensures { IfOk result (λ v. (key : List ℕ)
         → Contains v.items key ↔ IsFirstUsed (map first_in firsts.now) key) }

@@ -1,4 +1,4 @@
--- A report has no number that is no integer, so its text is the compact one.
+-- Each number in a report is an integer, so its text is the compact one.
 use Rattle.std.proofs.Common.{◌≡◌, ℕ, List, [], ◌∷◌, Option, Some, None, false, refl, map}
 use Rattle.serde_json.specs.View.{items_of}
 use Rattle.serde_json.specs.Written.{has_float, items_have_float}

@@ -1,4 +1,4 @@
--- The problems of a tree beside what is gathered of it.
+-- The problems of a tree, compared with what is gathered from it.
 use Rattle.std.proofs.Common.{◌≡◌, ◌∙◌, Bool, true, false, List, [], ◌∷◌, map, filter, sym, ap, refl, subst}
 use Rattle.std.specs.Prelude.{◌||◌, Ok, Err}
 use Rattle.desk_tree_gather.specs.declared.fault.GatherFault.{GatherFault}
@@ -21,12 +21,12 @@ use Rattle.desk_tree_problems.specs.Bare.{bare_file, bare_files}
 use Rattle.desk_tree_problems.specs.Blanks.{blanks_in}
 use Rattle.desk_tree_problems.specs.Problems.{has_dep5, are_some, unused_unless, problems_with, AreProblems, lists_in, told_beside, BeginsWith}
 
--- where everything is gathered
+-- if everything is gathered
 if_found : {A : Type 0} (read : Read A) (flaws : List Flaw) (x y : A) → Agrees read flaws y → read ≡ Ok x → (flaws ≡ []) × (y ≡ x)
 if_found (Ok z) flaws x y h is = let same : z ≡ x = cc in (h.0, h.1 ∙ same)
 if_found (Err fault) flaws x y h is = absurd cc
 
--- where it isn't
+-- if it isn't
 if_fault : {A : Type 0} (read : Read A) (flaws : List Flaw) (y : A) (fault : GatherFault) → Agrees read flaws y → read ≡ Err fault → BeginsWith flaws fault
 if_fault (Ok z) flaws y fault h is = absurd cc
 if_fault (Err other) flaws y fault h is = let same : other ≡ fault = cc in (h.0, h.1, h.2, h.3 ∙ same)
@@ -38,7 +38,7 @@ paths-map (i ∷ is) = ap (λ l. i.path ∷ l) (paths-map is)
 paths-bare : (infos : List FileInfo) → map (λ (b : Bare). b.path) (bare_files infos) ≡ bare infos
 paths-bare infos = paths-map (filter is_bare infos)
 
--- without flaws older annotations alone keep texts from being told
+-- without flaws, only older annotations keep unused texts from being reported
 or-none : (dep5 : Bool) (flaws : List Flaw) → flaws ≡ [] → (dep5 || are_some flaws) ≡ dep5
 or-none true flaws none = refl
 or-none false flaws none = ap are_some none

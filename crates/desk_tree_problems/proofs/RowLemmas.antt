@@ -1,4 +1,4 @@
--- Rows, one after the other.
+-- Rows, one after another.
 use Rattle.std.proofs.Common.{◌≡◌, ◌∙◌, ℕ, ◌+◌, ◌<◌, List, [], ◌∷◌, ◌++◌, length, get_or, take, map, sym, ap, subst, append_assoc}
 use Rattle.std.proofs.lemmas.List.{take_more, map_push}
 use Rattle.desk_tree_gather.specs.declared.flaw.Flaw.{Flaw}
@@ -17,7 +17,7 @@ rows_more flaws i d rows new row within are is grown =
     subst (λ l. AreFlawRows (take (i + 1) flaws) l) (sym grown)
     (subst (λ fs. AreFlawRows fs (rows ++ row ∷ [])) (sym (take_more flaws i d within)) (one_more (take i flaws) rows (get_or flaws i d) row are is))
 
--- a row for one item more
+-- a row for one more item
 pub mapped_more : {A B : Type 0} (f : A → B) (xs : List A) (i : ℕ) (d : A) (start old new : List B) (x : B) → i < length xs → old ≡ start ++ map f (take i xs) → x ≡ f (get_or xs i d) → new ≡ old ++ x ∷ []
     → new ≡ start ++ map f (take (i + 1) xs)
 mapped_more f xs i d start old new x within so_far is grown =

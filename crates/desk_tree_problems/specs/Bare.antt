@@ -7,7 +7,7 @@ use Rattle.desk_tree_problems.specs.declared.bare.Bare.{Bare}
 use Rattle.desk_tree_problems.specs.declared.bare.Lacking.{Lacking}
 use Rattle.desk_tree_problems.specs.declared.bare.Lacking.TheVariants.{Notice, Licence, Both}
 
--- of a file without a notice, without a licence, or without both
+-- for a file without a notice, without a licence, or without both
 abbrev pub lacking : Bool → Bool → Lacking
 lacking true true = Both
 lacking true false = Notice
@@ -20,7 +20,7 @@ bare_file info = record { path = info.path; lacking = lacking (is_none info.noti
 abbrev pub bare_files : List FileInfo → List Bare
 bare_files infos = map bare_file (filter is_bare infos)
 
--- the same by their outlines
+-- the same from their outlines
 abbrev pub bare_outline : OutlineText → Bare
 bare_outline o = record { path = o.path; lacking = lacking o.no_notice o.no_licence }
 

@@ -24,12 +24,12 @@ abbrev pub blanks_from : List ℕ → ℕ → List Annotation → List Blank
 blanks_from path index [] = []
 blanks_from path index (a ∷ more) = blank_at path index a ++ blanks_from path (index + 1) more
 
--- of a REUSE.toml each annotation of which can be read
+-- for a REUSE.toml of which all annotations can be read
 abbrev pub blanks_read : List ℕ → Read (List Annotation) → List Blank
 blanks_read path (Ok annotations) = blanks_from path 0 annotations
 blanks_read path (Err fault) = []
 
--- the name of a REUSE.toml, alone or behind a slash
+-- the name of a REUSE.toml, alone or after a slash
 abbrev pub is_toml_path : List ℕ → Bool
 is_toml_path path = bytes_eq path (codes "REUSE.toml") || ends_with nat_eq path (codes "/REUSE.toml")
 

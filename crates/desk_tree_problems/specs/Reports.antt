@@ -26,7 +26,7 @@ abbrev pub held : Bool → List ℕ
 held true = 194 ∷ []
 held false = []
 
--- what is shown at a byte, behind a 194 that waits or not
+-- what is shown for a byte, whether a 194 waits before it or not
 abbrev pub shown_at : Bool → ℕ → List ℕ
 shown_at lead b =
     if b == 194 then held lead
@@ -113,7 +113,7 @@ pub record AreListed (r : Reader) (files : List SourceFile) (rows : List Row) (c
   pub are_rows : AreRows problems rows
   pub counts : covered ≡ problems.covered
 
--- the report on a tree: the rows of its problems; it is clean where it has none
+-- the report on a tree: the rows of its problems; it is clean if it has none
 pub record IsReport (r : Reader) (files : List SourceFile) (json : Bool) (report : Report) : Type 0 where
   pub problems : Problems
   pub rows : List Row
@@ -122,7 +122,7 @@ pub record IsReport (r : Reader) (files : List SourceFile) (json : Bool) (report
   pub text : report.text.items ≡ text_of json rows problems.covered
   pub clean : report.is_clean ≡ is_none rows
 
--- the lines of the licences among the problems of a tree that no document can hold
+-- the lines for those problems of a tree that are licences that no document can hold
 pub record AreBlankLines (r : Reader) (files : List SourceFile) (text : List ℕ) : Type 0 where
   pub problems : Problems
   pub rows : List Row

@@ -1,4 +1,4 @@
--- What is told of each problem: where it is, what is wrong, and what to do.
+-- What is reported about each problem: where it is, what is wrong, and what to do.
 use Rattle.std.specs.Prelude.{◌≡◌, ◌<◌, ℕ, nat_eq, nat_lt, Bool, true, false, List, [], ◌∷◌, ◌++◌, length, map, codes, decimal, Option, Some, None, if◌then◌else◌}
 use Rattle.std.specs.List.{list_any, starts_with, ends_with}
 use Rattle.desk_expr.specs.Faults.{fault_number, fault_name, fault_place}
@@ -33,7 +33,7 @@ kind_number kind.Missing = 8
 kind_number kind.Unused = 9
 kind_number kind.Bare = 10
 
--- each kind, in the order in which they are told
+-- each kind, in the order in which they are reported
 abbrev pub kinds : List Kind
 kinds = kind.Dep5 ∷ kind.TooManyFiles ∷ kind.BadPath ∷ kind.TwicePath ∷ kind.BadToml ∷ kind.BadAnnotation ∷ kind.BadExpression ∷ kind.BlankAtEnd ∷ kind.Missing ∷ kind.Unused ∷ kind.Bare ∷ []
 
@@ -50,7 +50,7 @@ kind_name kind.Missing = codes "Missing"
 kind_name kind.Unused = codes "Unused"
 kind_name kind.Bare = codes "Bare"
 
--- a row of no line
+-- a row without a line
 abbrev pub plain_row : Kind → List ℕ → List ℕ → Row
 plain_row k path message = record { kind = k; path = path; line = None; message = message }
 
@@ -63,7 +63,7 @@ annotation_words BadKind = codes "a value of another kind: write a text or a lis
 annotation_words BadPrecedence = codes "an unknown precedence: write closest, aggregate or override"
 annotation_words BadLicence = codes "a licence that is no expression: write one as in SPDX 2.3, Annex D"
 
--- where a text stops that is no licence expression; or it is one
+-- the fault at which a text that is no licence expression stops, or none if it is one
 abbrev pub StopsAt : List ℕ → Option ParseFault → Type 0
 StopsAt text None = (e : Tree) × SpellsWithin text e
 StopsAt text (Some fault) = ((e : Tree) → SpellsWithin text e → ⊥) × (0 < fault_number fault) × IsStop SpellsTree text fault
@@ -82,7 +82,7 @@ mending_words = codes " is no licence expression: mend it, state the licence in 
 abbrev pub expression_words : List ℕ → Option ParseFault → List ℕ
 expression_words text stop = quoted text ++ (stop_words stop ++ mending_words)
 
--- what is wrong with a path that can't stand in a tree
+-- what is wrong with a path that can't be in a tree
 abbrev pub low_words : List ℕ
 low_words = codes "a byte below 32 in the path, as a line end or a tab: give the file another name"
 
@@ -97,7 +97,7 @@ path_words path =
     if list_any (λ b. nat_lt b 32) path then low_words
     else (if ends_with nat_eq path (codes " ") then blank_words else part_words)
 
--- the row of a flaw, where the text of a tag stops so
+-- the row of a flaw, if the text of a tag stops with this fault
 abbrev pub flaw_row : Flaw → Option ParseFault → Row
 flaw_row TooManyFiles stop = plain_row kind.TooManyFiles (codes ".") (codes "more than 10,000 files: take away what isn't of the source")
 flaw_row (BadPath path) stop = plain_row kind.BadPath path (path_words path)
@@ -106,7 +106,7 @@ flaw_row (BadToml path) stop = plain_row kind.BadToml path (codes "no TOML docum
 flaw_row (BadAnnotation path index fault) stop = plain_row kind.BadAnnotation path (codes "annotation " ++ (decimal index ++ (codes ", counted from 0, has " ++ annotation_words fault)))
 flaw_row (BadExpression path line text) stop = record { kind = kind.BadExpression; path = path; line = Some line; message = expression_words text stop }
 
--- how the text of a flaw stops, where it has one
+-- the fault at which the text of a flaw stops, if it has a text
 abbrev pub StopsSo : Flaw → Option ParseFault → Type 0
 StopsSo (BadExpression path line text) stop = StopsAt text stop
 StopsSo _ stop = stop ≡ None
@@ -139,7 +139,7 @@ abbrev pub named_words : Option (List ℕ) → List ℕ
 named_words None = []
 named_words (Some path) = codes ", which " ++ (path ++ codes " names")
 
--- what to do for a text: of a licence of another document none is kept here
+-- what to do about a missing text; that of a licence of another document isn't kept here
 abbrev pub text_words : List ℕ → List ℕ
 text_words id =
     if starts_with nat_eq id (codes "DocumentRef-") then codes ": its text is in another document, so name a licence whose text is in LICENSES/"

@@ -41,7 +41,7 @@ fn what_lacks(no_notice: bool, no_licence: bool) -> Lacking
     }
 }
 
-// What is told of a file.
+// A file, and what it lacks.
 fn bare_file(alloc: Global, file: Outline<'_>) -> Result<Bare, AllocError>
     ensures { IfOk result (λ bare. bare ≡ bare_outline (outline_in file.entry)) }
 {
@@ -58,7 +58,7 @@ fn is_bare(file: Outline<'_>) -> bool
     file.no_notice || file.no_licence
 }
 
-// The files without a notice or without a licence, by their outlines.
+// The files without a notice or without a licence, from their outlines.
 fn bare_in(alloc: Global, outlines: &[Outline<'_>]) -> Result<Items<Bare>, AllocError>
     ensures { IfOk result (λ bare. bare ≡ bare_in (map outline_in outlines.now)) }
 {

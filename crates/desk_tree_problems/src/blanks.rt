@@ -102,8 +102,8 @@ fn add_file(
     }
 }
 
-/// The annotations of the REUSE.toml files of a tree with a licence that has a blank at an end, by
-/// path, of each file of which all annotations can be read.
+/// The annotations with a licence that has a blank at an end, by path, in the REUSE.toml files of a
+/// tree of which all annotations can be read.
 pub(crate) fn blanks_in<'a>(
     alloc: Global,
     tree: &BTreeMap<&'a str, &'a [u8]>,

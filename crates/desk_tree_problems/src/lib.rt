@@ -1,13 +1,14 @@
 //! All problems of a source tree (REUSE Specification 3.3) at once: what is wrong in it, and what
 //! it lacks.
 //!
-//! - `problems_of` gives them: older annotations that aren't read, the flaws that
+//! - `problems_of` returns them: older annotations that aren't read, the flaws that
 //!   `desk_tree_gather::survey` finds, licences with a blank at an end, and the three lists of
-//!   `desk_tree_lint` over what can be read past all that (`specs/Problems.antt`). Where everything
-//!   of the tree is gathered there are no flaws, and the lists are those of `desk_tree_lint::lint`;
-//!   else the fault of `desk_tree_gather::gather` is the first flaw.
-//! - `report_on` tells them: where each problem is, what is wrong and what to do
-//!   (`specs/Rows.antt`), a line each or as one JSON object (`specs/Reports.antt`).
+//!   `desk_tree_lint` for what can be read despite all that (`specs/Problems.antt`). If everything
+//!   in the tree is gathered, there are no flaws, and the lists are those of
+//!   `desk_tree_lint::lint`, without unused texts if there are older annotations; if not, the fault
+//!   of `desk_tree_gather::gather` is the first flaw.
+//! - `report_on` reports them: where each problem is, what is wrong and what to do
+//!   (`specs/Rows.antt`), one on each line or all in one JSON object (`specs/Reports.antt`).
 #![tactic(auto)]
 
 mod bare;

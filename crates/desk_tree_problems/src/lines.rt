@@ -8,17 +8,17 @@ ghost use Rattle.desk_tree_problems.specs.Reports.{shown_byte, held, shown_at, s
 use crate::row::{Kind, Row, kinds};
 use std::alloc::{AllocError, Global};
 
-// The first byte of a control character from U+0080 on, and of others.
+// The first byte of control characters from U+0080 on, and of other characters.
 const LEAD: u8 = 194;
 
-// A byte, or a question mark in place of a control byte.
+// A byte, or a question mark instead of a control byte.
 fn shown_byte(byte: u8) -> u8
     ensures { result ≡ shown_byte byte }
 {
     if byte < 32 || byte == 127 { b'?' } else { byte }
 }
 
-// Adds the lead that waits.
+// Adds the first byte, if one waits.
 fn add_held(text: &mut Vec<u8>, lead: bool) -> Result<(), AllocError>
     ensures { OnOk result (text.new.items ≡ text.old.items ++ held lead) }
 {
@@ -28,7 +28,7 @@ fn add_held(text: &mut Vec<u8>, lead: bool) -> Result<(), AllocError>
     Ok(())
 }
 
-// Adds what is shown at a byte.
+// Adds what is shown for a byte.
 fn add_at(text: &mut Vec<u8>, lead: bool, byte: u8) -> Result<(), AllocError>
     ensures { OnOk result (text.new.items ≡ text.old.items ++ shown_at lead byte) }
 {
@@ -131,7 +131,7 @@ fn some_count(alloc: Global, kind: Kind, count: usize) -> Result<String, AllocEr
     format!(in alloc; ", {name}: {count}")
 }
 
-// The counts by some kinds.
+// The counts for some kinds.
 fn counts_of(alloc: Global, rows: &[Row], kinds: &[Kind]) -> Result<Vec<u8>, AllocError>
     ensures { IfOk result (λ text. text.items ≡ counts_of kinds.now rows.now) }
 {

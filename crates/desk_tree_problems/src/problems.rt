@@ -22,10 +22,10 @@ use std::collections::BTreeMap;
 pub struct Problems {
     /// Whether the tree has the older file of annotations, `.reuse/dep5`, which isn't read.
     pub dep5: bool,
-    /// What is wrong in it: of the paths in turn, of the REUSE.toml files by path, and of what the
-    /// covered files state, by path.
+    /// That there are too many files, or what is wrong with the paths in turn, with the REUSE.toml
+    /// files by path, and with what the covered files state, by path.
     pub flaws: Items<Flaw>,
-    /// Annotations with a licence that no document can hold, by path, of each REUSE.toml of which
+    /// Annotations with a licence that no document can hold, by path, in each REUSE.toml of which
     /// all annotations can be read.
     pub blanks: Items<Blank>,
     /// Licences, exceptions and references that are used and have no text, by their keys, in byte
@@ -33,8 +33,8 @@ pub struct Problems {
     pub missing: Items<Text>,
     /// How each of these is first written, and the first file that names it.
     pub names: Items<Name>,
-    /// Paths of licences' texts that nothing uses, in byte order; none where some use may not have
-    /// been read, for a flaw or older annotations.
+    /// Paths of licence texts that nothing uses, in byte order; none if some use may not have been
+    /// read, because of a flaw or older annotations.
     pub unused: Items<Text>,
     /// Covered files without a copyright notice or without a licence, by path.
     pub bare: Items<Bare>,
@@ -55,14 +55,14 @@ fn are_some(flaws: &[Flaw]) -> bool
     !flaws.is_empty()
 }
 
-// Texts that nothing uses, and none where some use may not have been read.
+// Texts that nothing uses, or none if some use may not have been read.
 fn unused_unless(alloc: Global, unsure: bool, paths: Items<Text>) -> Items<Text>
     ensures { result ≡ unused_unless unsure paths }
 {
     if unsure { Items::new(alloc) } else { paths }
 }
 
-// What is wrong in a tree, and the lists of what can be read past that.
+// What is wrong in a tree, and the lists for what can be read despite that.
 fn surveyed(alloc: Global, files: &[SourceFile]) -> Result<Problems, AllocError>
     ensures { (r : Reader) → IsRightReader r → IfOk result (AreProblems r files.now) }
 {
@@ -87,13 +87,13 @@ fn surveyed(alloc: Global, files: &[SourceFile]) -> Result<Problems, AllocError>
     })
 }
 
-/// All problems of a tree (REUSE Specification 3.3). The lists are those of what can be read past
-/// the flaws: annotations that can't be read give nothing, and a tag that is no expression is a
-/// licence that uses nothing. The only error is want of memory.
+/// All problems of a tree (REUSE Specification 3.3). The lists are for what can be read despite the
+/// flaws: annotations that can't be read give nothing, and a tag that is no expression is a licence
+/// that uses nothing. The only error is lack of memory.
 ///
-/// For each right reader they are those of `AreProblems`. Where `desk_tree_lint::lint` has lists,
+/// For each right reader they are those of `AreProblems`. If `desk_tree_lint::lint` has lists,
 /// there are no flaws, and they are those lists, without unused texts if there are older
-/// annotations (`lint`); where nothing is gathered of the tree, the fault is the first flaw
+/// annotations (`lint`); if nothing is gathered from the tree, the fault is the first flaw
 /// (`first`).
 pub fn problems_of(alloc: Global, files: &[SourceFile]) -> Result<Problems, AllocError>
     ensures problems { (r : Reader) → IsRightReader r → IfOk result (AreProblems r files.now) }

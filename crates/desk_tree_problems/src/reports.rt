@@ -57,7 +57,7 @@ fn rows_in(alloc: Global, files: &[SourceFile]) -> Result<Listed, AllocError>
     })
 }
 
-/// The report on a tree, as lines or as a JSON object. The only error is want of memory.
+/// The report on a tree, as lines or as a JSON object. The only error is lack of memory.
 ///
 /// For each right reader it is that of `IsReport`.
 pub fn report_on(alloc: Global, files: &[SourceFile], json: bool) -> Result<Report, AllocError>
@@ -70,8 +70,8 @@ pub fn report_on(alloc: Global, files: &[SourceFile], json: bool) -> Result<Repo
     })
 }
 
-/// The lines of the report on a tree that tell of licences in REUSE.toml files which no document
-/// can hold. The only error is no memory.
+/// The lines of the report on a tree about licences in REUSE.toml files that no document can hold.
+/// The only error is lack of memory.
 ///
 /// For each right reader they are those of `AreBlankLines`.
 pub fn blank_lines(alloc: Global, files: &[SourceFile]) -> Result<Vec<u8>, AllocError>

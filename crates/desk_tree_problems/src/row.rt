@@ -1,4 +1,4 @@
-//! What is told of a problem.
+//! What is reported about a problem.
 
 ghost use Rattle.std.specs.Prelude.{◌≡◌, IfOk};
 ghost use Rattle.desk_tree_problems.specs.Rows.{kind_name, kind_number, kinds, plain_row};
@@ -13,9 +13,9 @@ pub enum Kind {
     Dep5,
     /// More than 10,000 files.
     TooManyFiles,
-    /// A path that can't stand in a tree.
+    /// A path that can't be in a tree.
     BadPath,
-    /// A path that stands twice.
+    /// A path that appears twice.
     TwicePath,
     /// A REUSE.toml that is no TOML document of version 1.
     BadToml,
@@ -27,7 +27,7 @@ pub enum Kind {
     BlankAtEnd,
     /// A licence, exception or reference that is used and has no text.
     Missing,
-    /// A licence's text that nothing uses.
+    /// A licence text that nothing uses.
     Unused,
     /// A file without a copyright notice or without a licence.
     Bare,
@@ -73,7 +73,7 @@ impl Kind {
     }
 }
 
-/// Each kind, in the order in which they are told.
+/// Each kind, in the order in which they are reported.
 pub(crate) fn kinds() -> [Kind; 11]
     ensures { result ≡ kinds }
 {
@@ -92,7 +92,7 @@ pub(crate) fn kinds() -> [Kind; 11]
     ]
 }
 
-/// What is told of a problem.
+/// What is reported about a problem.
 #[derive(Drop)]
 pub struct Row {
     /// Its kind.
@@ -105,7 +105,7 @@ pub struct Row {
     pub message: Text,
 }
 
-/// A row of no line.
+/// A row without a line.
 pub(crate) fn row_of(
     alloc: Global,
     kind: Kind,

@@ -1,4 +1,4 @@
-//! What is told of each problem.
+//! What is reported about each problem.
 
 ghost use Rattle.std.specs.Prelude.{◌≡◌, ◌++◌, ◌<◌, nat_lt, None, IfOk, OnOk, map, codes};
 ghost use Rattle.std.specs.List.{list_any};
@@ -18,7 +18,7 @@ use desk_tree_gather::Flaw;
 use desk_tree_lint::Name;
 use std::alloc::{AllocError, Global};
 
-// How many bytes of a text are quoted.
+// How many bytes a text may have to be quoted.
 const QUOTED_MOST: usize = 200;
 
 // What is wrong with an annotation.
@@ -50,7 +50,7 @@ fn annotation_row(
     row_of(alloc, Kind::BadAnnotation, path, message.as_str())
 }
 
-// The fault of a text, unless it is want of memory.
+// The fault of a text, unless it is lack of memory.
 fn told(fault: ParseFault) -> Result<ParseFault, AllocError>
     ensures { IfOk result (λ told. (told ≡ fault) × (0 < fault_number fault)) }
 {
@@ -60,7 +60,7 @@ fn told(fault: ParseFault) -> Result<ParseFault, AllocError>
     }
 }
 
-// Where a text stops that is no licence expression.
+// The fault at which a text that is no licence expression stops.
 fn stop_of(alloc: Global, text: &str) -> Result<Option<ParseFault>, AllocError>
     ensures { IfOk result (StopsAt text.now) }
 {
@@ -96,7 +96,7 @@ fn quoted(alloc: Global, text: &str) -> Result<String, AllocError>
     }
 }
 
-// What is told of a tag.
+// What is wrong with a tag, and what to do.
 fn expression_words(
     alloc: Global,
     text: &str,
@@ -135,7 +135,7 @@ fn has_low(bytes: &[u8]) -> bool
     bytes.iter().any(|byte| *byte < 32)
 }
 
-// What is wrong with a path that can't stand in a tree.
+// What is wrong with a path that can't be in a tree.
 fn path_words(path: &str) -> &'static str
     ensures { result.now ≡ path_words path.now }
 {
@@ -251,7 +251,7 @@ fn named_words(alloc: Global, path: &Option<Text>) -> Result<String, AllocError>
     }
 }
 
-// What to do for a text.
+// What to do about a missing text.
 fn text_words(alloc: Global, id: &str) -> Result<String, AllocError>
     ensures { IfOk result (λ words. string_bytes words ≡ text_words id.now) }
 {
@@ -348,9 +348,9 @@ fn add_bare(alloc: Global, rows: &mut Vec<Row>, files: &[Bare]) -> Result<(), Al
     Ok(())
 }
 
-/// What is told of each problem: older annotations first, the flaws, licences that no document can
-/// hold, then the texts that are missing, those that nothing uses, and the files that lack
-/// something. The only error is want of memory.
+/// A row for each problem: first older annotations, then the flaws, licences that no document can
+/// hold, texts that are missing, texts that nothing uses, and files that lack something. The only
+/// error is lack of memory.
 pub fn rows_of(alloc: Global, problems: &Problems) -> Result<Vec<Row>, AllocError>
     ensures { IfOk result (λ rows. AreRows problems.now rows.items) }
 {

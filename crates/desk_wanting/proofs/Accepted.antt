@@ -66,7 +66,7 @@ done w terms (Some IsOpen) p k bad spelled ready ships minimal = rw (bad, spelle
 done w terms (Some Frozen) p k bad spelled ready ships minimal = absurd (cc)
 done w terms (Some Withdrawn) p k bad spelled ready ships minimal = absurd (cc)
 
--- What a sole choice tells
+-- What follows from a sole choice
 
 no_refusal : (o : Option Refusal) (listed choices : List SoleChoice) → these_unless o listed ≡ Ok choices → (o ≡ None) × (listed ≡ choices)
 no_refusal None listed choices e = (refl, cc)

@@ -1,4 +1,4 @@
--- What stands against a package is in the list, and nothing else is.
+-- The refusals for packages are in the list, and nothing else is.
 use Rattle.std.proofs.Common.{◌≡◌, ◌∙◌, ℕ, Bool, true, false, List, [], ◌∷◌, ◌++◌, length, Option, Some, None, sym, refl, ap, subst, inl, inr, arith}
 use Rattle.std.specs.Prelude.{◌⊎◌, ◌==◌, ◌||◌, nat_lt, is_some}
 use Rattle.std.specs.List.{cons_option, filter_map, flat_map, list_any}
@@ -40,7 +40,7 @@ in_filter_map f x z [] m e = absurd m
 in_filter_map f x z (y ∷ xs) m e =
     in_cons_option (f y) z (filter_map f xs) (elim m [ inl same ↦ inl (ap f same ∙ e) | inr later ↦ inr (in_filter_map f x z xs later e) ])
 
--- Told once
+-- Listed once
 
 passes_here : {A : Type 0} (test : A → Bool) (x : A) (xs : List A) (b : Bool) → test x ≡ b → (b || list_any test xs) ≡ true
     → (list_any test xs ≡ true → (y : A) × IsIn y xs × (test y ≡ true)) → (y : A) × IsIn y (x ∷ xs) × (test y ≡ true)
@@ -95,7 +95,7 @@ from_told_once : (told xs : List Refusal) (x : Refusal) → IsIn x (told_once to
 from_told_once told [] x m = m
 from_told_once told (y ∷ ys) x m = from_told_next told y ys x (is_told told y) refl m (λ told after. from_told_once told ys x after)
 
--- What each refusal tells
+-- What each refusal says
 
 unless_some : (b : Bool) (x z : Refusal) → unless b x ≡ Some z → (b ≡ false) × (x ≡ z)
 unless_some true x z e = absurd (cc)

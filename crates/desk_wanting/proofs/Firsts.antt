@@ -44,7 +44,7 @@ first-filter_map f (x ∷ xs) = first_cons (f x) (filter_map f xs) (first_refusa
 
 -- Terms
 
--- with the references adopted, a term without a rule is one whatever it is
+-- if all references are adopted, each term without a rule is refused as one
 module _ (mark : List ℕ → Option Refusal) (has : List ℕ → Bool) (no : List ℕ → Refusal) where
   abbrev alone : List ℕ → Option Refusal
   alone term = unless (has term || is_some (mark term)) (no term)
@@ -123,7 +123,7 @@ first-walk w t r form ps =
     ∙ first-packages (refusals_found w t r form) (λ p. package_fault w t.adoption (rules_found t) form (conclusion_found w t p) (choice_found t r p) p)
     (λ p. first-package w t.adoption (rules_found t) form (conclusion_found w t p) (choice_found t r p) p) ps
 
--- Releases: a and b stand against any release, c against one without documents, d is what the walk finds
+-- Releases: a and b are refusals of any release, c is that of one without documents, d is what the walk finds
 
 module _ (a b c : Option Refusal) (full : Option Refusal) (frozen : Answer) where
   abbrev listed : List Refusal → List Refusal
@@ -148,7 +148,7 @@ none_refused None None (Some y) full frozen xs e = absurd (cc)
 none_refused None (Some y) c full frozen xs e = absurd (cc)
 none_refused (Some y) b c full frozen xs e = absurd (cc)
 
--- an accepted freeze is refused by none
+-- if a freeze is accepted, there is no refusal
 accepted_none : (a b c full day : Option Refusal) (n k m j : ℕ) (xs : List Refusal)
     → refused_or day (answered a b c full (Frozen n k) (first xs)) ≡ Frozen m j → listed a b c full (Frozen n k) xs ≡ []
 accepted_none None None None full None n k m j [] e = refl

@@ -1,4 +1,4 @@
--- A request has no number that is no integer, so its text is the compact one.
+-- Each number in a request is an integer, so its text is the compact one.
 use Rattle.std.proofs.Common.{◌≡◌, ℕ, List, [], ◌∷◌, false, refl}
 use Rattle.std.specs.Prelude.{map}
 use Rattle.serde_json.specs.Data.{string}

@@ -1,4 +1,4 @@
--- One item more of a loop.
+-- One more item of a loop.
 use Rattle.std.proofs.Common.{◌≡◌, ℕ, Bool, true, false, ◌+◌, ◌<◌, ◌≤◌, List, [], ◌∷◌, ◌++◌, length, map, filter, drop, get_or, take, Option, Some, None, sym, refl, ap, ap₂, ◌∙◌, add-one, drop-cons, append_assoc, suc, arith}
 use Rattle.std.specs.Prelude.{◌==◌, not, if◌then◌else◌}
 use Rattle.std.specs.List.{cons_option, filter_map, flat_map, list_any}
@@ -15,7 +15,7 @@ option_step : {B : Type 0} (old : List B) (o : Option B) (rest : List B) → (ol
 option_step old None rest = ap (λ ys. ys ++ rest) (append-nil old)
 option_step old (Some y) rest = append_assoc old (y ∷ []) rest
 
--- a `filter_map` so far, with one item more
+-- a `filter_map` so far, with one more item
 pub filter_map_step : {A B : Type 0} (f : A → Option B) (xs : List A) (i : ℕ) (x : A) (old new all : List B) (o : Option B) → i < length xs → x ≡ get_or xs i x
     → o ≡ f x → new ≡ old ++ cons_option o [] → old ++ filter_map f (drop i xs) ≡ all → new ++ filter_map f (drop (i + 1) xs) ≡ all
 filter_map_step f xs i x old new all o lt is e grown sofar =
@@ -25,7 +25,7 @@ filter_map_step f xs i x old new all o lt is e grown sofar =
     ∙ (ap (λ o. old ++ cons_option o rest) e
     ∙ (ap (λ ys. old ++ filter_map f ys) (sym (drop_item xs i x lt is)) ∙ sofar)))
 
--- a `flat_map` so far, with one item more
+-- a `flat_map` so far, with one more item
 pub flat_map_step : {A B : Type 0} (f : A → List B) (xs : List A) (i : ℕ) (x : A) (old new here all : List B) → i < length xs → x ≡ get_or xs i x
     → here ≡ f x → new ≡ old ++ here → old ++ flat_map f (drop i xs) ≡ all → new ++ flat_map f (drop (i + 1) xs) ≡ all
 flat_map_step f xs i x old new here all lt is e grown sofar =
@@ -35,7 +35,7 @@ flat_map_step f xs i x old new here all lt is e grown sofar =
     ∙ (ap (λ ys. old ++ (ys ++ rest)) e
     ∙ (ap (λ ys. old ++ flat_map f ys) (sym (drop_item xs i x lt is)) ∙ sofar)))
 
--- a `filter` so far, with one item more
+-- a `filter` so far, with one more item
 chosen_step : {A : Type 0} (old : List A) (b : Bool) (x : A) (f : A → Bool) (xs : List A) → b ≡ f x → (old ++ (if b then x ∷ [] else [])) ++ filter f xs ≡ old ++ filter f (x ∷ xs)
 chosen_step old true x f xs e = rw (← e) (append_assoc old (x ∷ []) (filter f xs))
 chosen_step old false x f xs e = rw (← e) (ap (λ ys. ys ++ filter f xs) (append-nil old))
@@ -47,7 +47,7 @@ filter_step f g xs i x old new all b lt is e grown sofar =
     ∙ (chosen_step old b (g x) f (map g (drop (i + 1) xs)) e
     ∙ (ap (λ ys. old ++ filter f (map g ys)) (sym (drop_item xs i x lt is)) ∙ sofar))
 
--- nothing passes a test where no item does
+-- nothing passes a test if no item does
 nothing_more : {A : Type 0} (f : A → Bool) (x : A) (xs : List A) (b : Bool) → f x ≡ b → (length (filter f xs) == 0) ≡ not (list_any f xs) → (length (filter f (x ∷ xs)) == 0) ≡ not (list_any f (x ∷ xs))
 nothing_more f x xs true e h = let some : (suc (length (filter f xs)) == 0) ≡ false = grind (arith, nat_tests) in rw e some
 nothing_more f x xs false e h = rw e h
@@ -56,7 +56,7 @@ pub nothing_passes : {A : Type 0} (f : A → Bool) (xs : List A) → (length (fi
 nothing_passes f [] = refl
 nothing_passes f (x ∷ xs) = nothing_more f x xs (f x) refl (nothing_passes f xs)
 
--- one refusal more
+-- one more refusal
 abbrev news : List Refusal → Refusal → List Refusal
 news told x = if is_told told x then [] else x ∷ []
 
@@ -71,7 +71,7 @@ told_once_push : (told xs : List Refusal) (x : Refusal) → told_once told (xs +
 told_once_push told [] x = ap (λ zs. news zs x) (sym (append-nil told))
 told_once_push told (y ∷ ys) x = once_more told y ys x (is_told told y) refl (λ told. told_once_push told ys x)
 
--- so far, with one refusal more
+-- so far, with one more refusal
 pub told_once_step : (yielded told new : List Refusal) (x : Refusal) → told ≡ told_once [] yielded → new ≡ told ++ news told x → new ≡ told_once [] (yielded ++ x ∷ [])
 told_once_step yielded told new x sofar grown = grown ∙ sym (told_once_push [] yielded x ∙ ap (λ zs. zs ++ news zs x) (sym sofar))
 
@@ -80,13 +80,13 @@ pub ended : {A B : Type 0} (g : List A → List B) (xs : List A) (i : ℕ) (foun
     → found ≡ all
 ended g xs i found all out none so_far = sym (append-nil found) ∙ (ap (λ ys. found ++ ys) (sym (at_drop_all g xs i out ∙ none)) ∙ so_far)
 
--- pieces joined so far, with that of one item more
+-- pieces joined so far, with that of one more item
 pub joined_more : {A : Type 0} (f : A → List ℕ) (xs : List A) (i : ℕ) (x : A) (old new piece : List ℕ) → i < length xs → x ≡ get_or xs i x
     → old ≡ flat_map f (take i xs) → piece ≡ f x → new ≡ old ++ piece → new ≡ flat_map f (take (i + 1) xs)
 joined_more f xs i x old new piece lt is sofar made grown =
     grown ∙ ap₂ (λ a b. a ++ b) sofar (made ∙ ap f is) ∙ flat_map_more f [] (take i xs) (get_or xs i x) ∙ ap (flat_map f) (sym (take_more xs i x lt))
 
--- one item more is made, as it is seen
+-- one more item is made, as it is seen
 pub seen_more : {A B C : Type 0} (seen : B → C) (f : A → C) (xs : List A) (i : ℕ) (x : A) (old new : List B) (y : B) → i < length xs → x ≡ get_or xs i x
     → map seen old ≡ map f (take i xs) → seen y ≡ f x → new ≡ old ++ y ∷ [] → map seen new ≡ map f (take (i + 1) xs)
 seen_more seen f xs i x old new y lt is sofar made grown =

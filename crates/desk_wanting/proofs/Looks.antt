@@ -1,4 +1,4 @@
--- A look-up that ends a function, behind others.
+-- A look-up that ends a function, after others.
 use Rattle.std.specs.Prelude.{Result, Ok, Err}
 use Rattle.desk_model.specs.declared.command.Fault.{Fault}
 use Rattle.desk_access.specs.Seen.{Seen, Kept, Same, Looked}
@@ -13,7 +13,7 @@ module _ {Left : Type 0} where
   looked_after a b c (Ok x) same looked = same_then_same a b c same looked
   looked_after a b c (Err fault) same looked = same_then_kept a b c same looked
 
-  -- what takes memory alone looks at nothing
+  -- what only takes memory looks at nothing
   pub looked_same : {A : Type 0} (a b : Seen Left) (r : Result A Fault) → Same a b → Looked a b r
   looked_same a b (Ok x) same = same
   looked_same a b (Err fault) same = same.kept

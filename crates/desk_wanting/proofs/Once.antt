@@ -1,4 +1,4 @@
--- A reference of a document is in the list once at most.
+-- A reference of a document is in the list at most once.
 use Rattle.std.proofs.Common.{◌≡◌, ◌∙◌, ℕ, Bool, true, false, ◌≤◌, List, [], ◌∷◌, ◌++◌, length, filter, Option, Some, None, sym, refl, ap, arith}
 use Rattle.std.specs.Prelude.{◌||◌, is_some, nat_lt}
 use Rattle.std.specs.List.{list_any, flat_map}
@@ -22,7 +22,7 @@ module _ (d : ℕ) (reference : List ℕ) where
   abbrev Once : List Refusal → Type 0
   Once xs = length (filter names xs) ≤ 1
 
-  -- none, if it is named before
+  -- none, if it is already named
   record Counts (told xs : List Refusal) : Type 0 where
     pub none : list_any names told ≡ true → filter names (told_once told xs) ≡ []
     pub once : Once (told_once told xs)

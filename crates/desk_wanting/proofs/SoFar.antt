@@ -19,7 +19,8 @@ module _ {Left : Type 0} where
   pub fails : {A : Type 0} (a b c : Seen Left) (r : Result A Fault) → IsErr r → Same a b → Kept b c → Looked a c r
   fails a b c r is same kept = looked_err a c r is (same_then_kept a b c same kept)
 
-  -- a turn of a loop whose look-up tells what there is of one item, if anything; `Right` is what rests on a reader of texts
+  -- a turn of a loop whose look-up finds what there is for one item, if anything; `Right` is what relies on a
+  -- reader of texts
   pub option_turn : {W X B : Type 0} (Right : W → Type 0) (f : W → Tables → X → Option B) (xs : List X) (i : ℕ) (x : X)
       (old new : List B) (all : W → Tables → List B) (o : Option B) {a b c : Seen Left}
       → i < length xs → x ≡ get_or xs i x
@@ -42,7 +43,7 @@ module _ {Left : Type 0} where
   option_end Right f xs i found all out before w right honest t held =
       ended (filter_map (f w t)) xs i found (all w t) out refl (before.found w right honest t held)
 
-  -- the next look-up adds all that there is of one item
+  -- the next look-up adds all that there is for one item
   pub list_more : {X B : Type 0} (f : Tables → X → List B) (xs : List X) (i : ℕ) (x : X) (old new : List B) (all : Tables → List B) (a b c : Seen Left)
       → i < length xs → x ≡ get_or xs i x → Same a b → Same b c → OfRows (λ t. new ≡ old ++ f t x) b c
       → OfRows (λ t. old ++ flat_map (f t) (drop i xs) ≡ all t) a b → OfRows (λ t. new ++ flat_map (f t) (drop (i + 1) xs) ≡ all t) a c

@@ -20,8 +20,8 @@ pub record IsPrepared (t : Tables) (r : List ℕ) (row : ReleaseRow) : Type 0 wh
   pub state : row.state ≡ IsOpen
   pub documents : attached_to t.attached r ≡ [] → ⊥
 
--- A refusal stands against a package that a release with this form ships: it has no conclusion, nothing is chosen for it, or a term is
--- chosen that names a reference without adoption, or a term that names none but has no rule.
+-- A refusal for a package that a release with this form ships: the package has no conclusion, nothing is
+-- chosen for it, a chosen term names a reference without an adoption, or another chosen term has no rule.
 abbrev pub StandsAgainst : Readings → Tables → List ℕ → List ℕ → PackageRow → Refusal → Type 0
 StandsAgainst w t r form p (why.NoConclusion d id) = (d ≡ p.document) × (id ≡ p.id) × (conclusion_found w t p ≡ None)
 StandsAgainst w t r form p (why.NoChoice d id) = (d ≡ p.document) × (id ≡ p.id) × (choice_found t r p ≡ [])

@@ -1,4 +1,4 @@
--- Attached documents that a release ships nothing of.
+-- Attached documents of which a release ships nothing.
 use Rattle.std.specs.Prelude.{ℕ, Bool, not, List, filter, map}
 use Rattle.std.specs.List.{list_any}
 use Rattle.desk_model.specs.Keys.{is_shipped_by}

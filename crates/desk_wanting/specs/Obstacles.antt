@@ -1,4 +1,4 @@
--- What stands in the way of a freeze: all of it; of a release that isn't open this refusal alone.
+-- Everything that stands in the way of a freeze; for a release that isn't open, only that refusal.
 use Rattle.std.specs.Prelude.{ℕ, List, [], ◌∷◌, length, is_some}
 use Rattle.std.specs.List.{flat_map}
 use Rattle.std.specs.Option.{option_and_then}
@@ -11,7 +11,7 @@ use Rattle.desk_model.specs.declared.refusal.Refusal.{Refusal}
 use Rattle.desk_model.specs.declared.refusal.Refusal.TheVariants as why
 use Rattle.desk_history.specs.FromTables.{form_found, refusals_found, shipped_found, state_found}
 
--- what stands against an open release with this form
+-- what stands in the way of a freeze of an open release with this form
 abbrev pub open_wanting : Readings → Tables → List ℕ → List ℕ → List Refusal
 open_wanting w t r form = open_refusals (length (attached_to t.attached r)) (flat_map (refusals_found w t r form) (shipped_found t r))
 

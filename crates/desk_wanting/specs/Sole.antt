@@ -14,12 +14,12 @@ use Rattle.desk_model.specs.declared.state.ReleaseState.{ReleaseState}
 use Rattle.desk_history.specs.FromTables.{choice_found, conclusion_found, shipped_found, state_found}
 use Rattle.desk_wanting.specs.declared.sole_choice.SoleChoice.{SoleChoice}
 
--- the set of a listing that has one set alone
+-- the set of a listing that has only one
 abbrev pub sole_set : Result (List (List (List ℕ))) ListFault → Option (List (List ℕ))
 sole_set (Ok (set ∷ [])) = Some set
 sole_set _ = None
 
--- the sole set of a conclusion, where there is one
+-- the sole set of a conclusion, if there is one
 abbrev pub sole_terms : Readings → Option Conclusion → Option (List (List ℕ))
 sole_terms w conclusion = option_and_then (λ c. sole_set (w.alternatives c.profile c.text)) conclusion
 
@@ -27,7 +27,7 @@ sole_terms w conclusion = option_and_then (λ c. sole_set (w.alternatives c.prof
 abbrev pub choice_of : PackageRow → List (List ℕ) → SoleChoice
 choice_of p terms = record { document = p.document; package_id = p.id; terms = terms }
 
--- the sole choice for a package, where these terms are chosen for it already: there is none, unless they are none
+-- the sole choice for a package, unless terms are already chosen for it
 abbrev pub unchosen_choice : List (List ℕ) → PackageRow → Option (List (List ℕ)) → Option SoleChoice
 unchosen_choice [] p set = option_map (choice_of p) set
 unchosen_choice (term ∷ terms) p set = None
@@ -36,7 +36,7 @@ unchosen_choice (term ∷ terms) p set = None
 abbrev pub sole_choice_found : Readings → Tables → List ℕ → PackageRow → Option SoleChoice
 sole_choice_found w t r p = unchosen_choice (choice_found t r p) p (sole_terms w (conclusion_found w t p))
 
--- what stands against a choice for any package of a release: there is no such release, or it isn't open
+-- the refusal of a choice for any package of a release: there is no such release, or it isn't open
 abbrev pub release_refusal : Option ReleaseState → Option Refusal
 release_refusal state = first_refusal (unless (is_some state) why.UnknownRelease ∷ option_and_then unready state ∷ [])
 

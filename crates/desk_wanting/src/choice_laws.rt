@@ -1,4 +1,4 @@
-//! What a sole choice comes to, each law the contract of a function that does nothing.
+//! What becomes of a sole choice. Each law is the contract of a function that does nothing.
 
 ghost use Rattle.std.specs.Prelude.{◌≡◌, ℕ, List, Ok};
 ghost use Rattle.desk_model.specs.Answers.{answer, IsHistory};
@@ -14,8 +14,8 @@ ghost use Rattle.desk_wanting.specs.Premises.{FindsPackages, ListsMinimalSets};
 ghost use Rattle.desk_wanting.specs.Sole.{sole_choices_found};
 ghost use Rattle.desk_wanting.specs.declared.sole_choice.SoleChoice.{SoleChoice};
 
-/// Over tables that find their packages, by a reading that lists minimal sets, each sole choice is
-/// accepted: a Choose of it, made next, is done.
+/// For tables that find their packages, and a reading that lists minimal sets, each sole choice is
+/// accepted: a Choose of it that comes next is done.
 pub fn sole_choices_are_accepted()
     ensures { (w : Readings) (t : Tables) (r : List ℕ) (choices : List SoleChoice) (c : SoleChoice)
         → ListsMinimalSets w → FindsPackages t
@@ -23,9 +23,9 @@ pub fn sole_choices_are_accepted()
         → answer_from w t (Choose r c.document c.package_id c.terms) ≡ Done }
 {}
 
-/// The same after any recorded commands, where the reading lists the packages of a document by id,
-/// each once: their tables find their packages (`found`), and a Choose of each sole choice, made
-/// next, is done (`accepted`).
+/// The same after any recorded commands, if the reading lists the packages of a document by id,
+/// each once: their tables find their packages (`found`), and a Choose of a sole choice that comes
+/// next is done (`accepted`).
 pub fn recorded_sole_choices_are_accepted()
     ensures found { (w : Readings) (h : List Command)
         → ListsInOrder w → IsHistory w h → FindsPackages (tables w h) }

@@ -17,7 +17,7 @@ use desk_model::{Fault, Refusal};
 use desk_packages::{shipped_packages, unready};
 use std::alloc::Global;
 
-/// What stands against a choice for any package of a release.
+/// The refusal of a choice for any package of a release, if there is one.
 fn release_refusal<S: Store>(store: &mut S, release: &Text) -> Result<Option<Refusal>, Fault>
     ensures found { IfOk result (λ refusal.
         OfRows (λ t. refusal ≡ release_refusal (state_found t release.now))
@@ -51,10 +51,10 @@ fn shipped_choices<T: Texts, S: Store>(
 }
 
 /// The choices of a release that leave nothing to choose: for each package that it ships, by
-/// document and id, for which nothing is chosen and whose conclusion in force is true under one
-/// minimal set of terms alone, that set. A package without a conclusion, or whose sets aren't
-/// listed since there are too many, is left out. If there is no such release, or it isn't open, the
-/// refusal of a choice.
+/// document and id, the minimal set of terms under which its conclusion in force is true, if there
+/// is only one and nothing is chosen yet. A package without a conclusion, or whose sets aren't
+/// listed because there are too many, is left out. If there is no such release, or it isn't open,
+/// the refusal of a choice.
 ///
 /// # Errors
 ///

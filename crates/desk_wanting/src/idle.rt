@@ -54,7 +54,7 @@ fn idle_among<S: Store>(
 }
 
 /// The numbers, from 1, of the documents that are attached to a release and ship no package, in the
-/// order of its documents. They raise no duty, and no refusal speaks of them. If there is no such
+/// order of its documents. They raise no duty, and no refusal names them. If there is no such
 /// release, there are none.
 ///
 /// # Errors

@@ -1,4 +1,4 @@
-//! What the list has to do with a freeze, each law the contract of a function with an empty body.
+//! How the list relates to a freeze. Each law is the contract of a function with an empty body.
 
 ghost use Rattle.std.specs.Prelude.{◌≡◌, ◌≤◌, ◌<◌, ◌+◌, ◌∷◌, [], ℕ, true, List, Some, None, filter, length};
 ghost use Rattle.desk_base.specs.Day.{is_day};
@@ -22,9 +22,9 @@ ghost use Rattle.desk_wanting.specs.Against.{IsPrepared, StandsAgainst};
 ghost use Rattle.desk_model.specs.Obstacles.{names_reference};
 ghost use Rattle.desk_wanting.specs.Obstacles.{wanting_found};
 
-/// Over any tables, a freeze at a day of the calendar is refused with the first refusal of the list
-/// (`refused`). If there is none, it is accepted where its duties fit (`accepted`), and else
-/// refused as full (`full`). So the list is empty where a freeze is accepted (`only`).
+/// For any tables, a freeze on a day of the calendar is refused with the first refusal of the list
+/// (`refused`). If there is none, it is accepted if its duties fit (`accepted`), and else refused
+/// as full (`full`). So the list is empty if a freeze is accepted (`only`).
 pub fn freeze_meets_the_first_refusal()
     ensures refused { (w : Readings) (t : Tables) (r day : List ℕ) (first : Refusal)
         (others : List Refusal)
@@ -42,7 +42,7 @@ pub fn freeze_meets_the_first_refusal()
         → answer_from w t (Freeze r day) ≡ Frozen first count → wanting_found w t r ≡ [] }
 {}
 
-/// The same after any commands: a freeze is answered by the list over their tables.
+/// The same after any commands: a freeze is answered by the list for their tables.
 pub fn recorded_freeze_meets_the_first_refusal()
     ensures refused { (w : Readings) (h : List Command) (r day : List ℕ) (first : Refusal)
         (others : List Refusal)
@@ -60,10 +60,10 @@ pub fn recorded_freeze_meets_the_first_refusal()
         → answer w h (Freeze r day) ≡ Frozen first count → wanting_found w (tables w h) r ≡ [] }
 {}
 
-/// What is in the list, over any tables. A release that isn't there (`unknown`), isn't open
-/// (`shut`) or has no document (`empty`) has one refusal alone. Of any other, each refusal that
-/// stands against a package that it ships is in the list (`held`), and nothing else is (`only`); a
-/// reference of a document is there once at most (`once`).
+/// What is in the list, for any tables. A release that doesn't exist (`unknown`), isn't open
+/// (`shut`) or has no document (`empty`) has only that refusal. For any other, each refusal for a
+/// package that it ships is in the list (`held`), and nothing else is (`only`); a reference of a
+/// document is there at most once (`once`).
 pub fn list_holds_what_stands_against_a_freeze()
     ensures unknown { (w : Readings) (t : Tables) (r : List ℕ)
         → release_found t r ≡ None → wanting_found w t r ≡ UnknownRelease ∷ [] }

@@ -1,4 +1,4 @@
-//! Listings of one set alone.
+//! Listings with only one set.
 
 ghost use Rattle.std.specs.Prelude.{◌≡◌, ℕ, List, IfOk, IfErr, Ok, map};
 ghost use Rattle.desk_base.specs.declared.profile.Profile.{Profile};
@@ -15,7 +15,7 @@ use desk_model::{Fault, PackageRow};
 use desk_packages::{InForce, in_force};
 use std::alloc::{AllocError, Global};
 
-/// The set among some, where it is alone.
+/// The only one of these sets, if there is just one.
 fn sole_of(sets: Items<Items<Text>>) -> Option<Items<Text>>
     ensures { result ≡ sole_set (Ok sets) }
 {
@@ -26,7 +26,7 @@ fn sole_of(sets: Items<Items<Text>>) -> Option<Items<Text>>
     sets.pop()
 }
 
-/// The set of terms that an expression is true under, where its listing has one alone.
+/// The set of terms under which an expression is true, if its listing has only one.
 fn sole_set<T: Texts>(
     alloc: Global,
     texts: &T,
@@ -42,8 +42,8 @@ fn sole_set<T: Texts>(
     }
 }
 
-/// The set of terms that the conclusion in force for a package is true under, where its listing has
-/// one alone.
+/// The set of terms under which the conclusion in force for a package is true, if its listing has
+/// only one.
 pub(crate) fn sole_terms<T: Texts, S: Store>(
     alloc: Global,
     texts: &T,

@@ -1,4 +1,4 @@
-//! What stands against the packages that a release ships.
+//! The refusals for the packages that a release ships.
 
 ghost use Rattle.std.specs.Prelude.{◌≡◌, ◌++◌, ◌∷◌, [], Option, is_some, IfOk, IfErr, OnOk};
 ghost use Rattle.std.specs.List.{flat_map};
@@ -43,8 +43,7 @@ fn unchosen(row: &PackageRow, terms: &[Text]) -> Result<Option<Refusal>, AllocEr
     }))
 }
 
-/// Adds what stands against a package whatever its terms are: it has no conclusion, or none of
-/// them.
+/// Adds the refusals for a package if it has no conclusion, or if no terms are chosen for it.
 fn add_bare(
     row: &PackageRow,
     is_concluded: bool,
@@ -59,7 +58,7 @@ fn add_bare(
     add_refusal(refusals, unchosen(row, terms)?)
 }
 
-/// Adds what stands against a package that a release with this form ships.
+/// Adds the refusals for a package that a release with this form ships.
 fn add_package_refusals<T: Texts, S: Store>(
     alloc: Global,
     texts: &T,
@@ -82,7 +81,7 @@ fn add_package_refusals<T: Texts, S: Store>(
 }
 
 #[tactic(auto, using(desk_access::proofs::Chains::same_then_kept, desk_access::proofs::Chains::same_then_same))]
-/// What stands against packages that a release with this form ships, in their order.
+/// The refusals for packages that a release with this form ships, in their order.
 pub(crate) fn refusals_of<T: Texts, S: Store>(
     alloc: Global,
     texts: &T,

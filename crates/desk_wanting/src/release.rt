@@ -16,7 +16,7 @@ use desk_model::{Fault, Refusal};
 use desk_packages::{shipped_packages, unready};
 use std::alloc::Global;
 
-/// A refusal alone.
+/// A list of one refusal.
 fn alone(alloc: Global, refusal: Refusal) -> Result<Vec<Refusal>, Fault>
     ensures found { IfOk result (λ refusals. refusals.items ≡ refusal ∷ []) }
     ensures fault { IfErr result (λ fault. fault ≡ Memory) }
@@ -54,12 +54,12 @@ pub fn open_wanting<T: Texts, S: Store>(
     told_once(alloc, refusals)
 }
 
-/// All that stands in the way of a freeze of a release, in the order in which a freeze meets it. If
-/// there is no such release, it isn't open or no document is attached, that refusal is alone.
-/// Otherwise it is what stands against each package that it ships, by document and id:
-/// NoConclusion, NoChoice, NotAdopted for each chosen reference without adoption, unless the list
-/// names that reference of the document already, and NoRule for each other chosen term without a
-/// rule in the release's form. The limit of duties isn't checked.
+/// Everything that stands in the way of a freeze of a release, in the order in which a freeze meets
+/// it. If there is no such release, or it isn't open, or no document is attached, that is the only
+/// refusal. Otherwise these are the refusals for each package that it ships, by document and id:
+/// NoConclusion, NoChoice, NotAdopted for each chosen reference without an adoption, unless the
+/// list already names that reference of the document, and NoRule for each other chosen term without
+/// a rule in the release's form. The limit of duties isn't checked.
 ///
 /// # Errors
 ///

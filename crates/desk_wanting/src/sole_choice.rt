@@ -14,7 +14,7 @@ use desk_base::{Items, Text};
 use desk_model::{Fault, PackageRow};
 use std::alloc::{AllocError, Global};
 
-/// The terms to choose for a package whose conclusion is true under one minimal set alone.
+/// The terms to choose for a package whose conclusion is true under only one minimal set.
 #[derive(Drop)]
 pub struct SoleChoice {
     /// The number of the package's document, from 1.
@@ -35,7 +35,7 @@ fn choice_of(row: &PackageRow, terms: Items<Text>) -> Result<SoleChoice, AllocEr
     })
 }
 
-/// The sole choice for a package that a release ships, where nothing is chosen for it.
+/// The sole choice for a package that a release ships, if nothing is chosen for it.
 fn sole_choice<T: Texts, S: Store>(
     alloc: Global,
     texts: &T,

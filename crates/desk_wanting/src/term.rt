@@ -1,4 +1,4 @@
-//! What stands against the terms that are chosen for a package.
+//! The refusals for the terms that are chosen for a package.
 
 ghost use Rattle.std.specs.Prelude.{◌≡◌, ◌++◌, [], is_some, IfOk, IfErr, OnOk};
 ghost use Rattle.std.specs.List.{cons_option, filter_map};
@@ -29,7 +29,7 @@ pub(crate) fn add_refusal(
     Ok(())
 }
 
-/// Adds the references without adoption among the terms of a document.
+/// Adds the refusals for the references without an adoption among the terms of a document.
 #[tactic(auto, using(desk_access::proofs::Chains::same_then_kept, desk_access::proofs::Chains::same_then_same))]
 fn add_unadopted<T: Texts, S: Store>(
     alloc: Global,
@@ -59,7 +59,7 @@ pub(crate) fn is_found<F: Drop>(found: Option<F>) -> bool
     found.is_some()
 }
 
-/// What stands against a term of a package that is no reference without adoption: it has no rule.
+/// The refusal for a term of a package that has no rule and isn't a reference without an adoption.
 fn unruled_alone<T: Texts, S: Store>(
     alloc: Global,
     texts: &T,
@@ -84,7 +84,8 @@ fn unruled_alone<T: Texts, S: Store>(
 }
 
 #[tactic(auto, using(desk_access::proofs::Chains::same_then_kept, desk_access::proofs::Chains::same_then_same))]
-/// Adds the terms of a package without a rule, apart from the references without adoption.
+/// Adds the refusals for the terms of a package without a rule, except references without an
+/// adoption.
 fn add_unruled<T: Texts, S: Store>(
     alloc: Global,
     texts: &T,
@@ -108,8 +109,8 @@ fn add_unruled<T: Texts, S: Store>(
     Ok(())
 }
 
-/// Adds what stands against the terms of a package: first the references without adoption, then the
-/// other terms without a rule.
+/// Adds the refusals for the terms of a package: first those for references without an adoption,
+/// then those for other terms without a rule.
 pub(crate) fn add_term_refusals<T: Texts, S: Store>(
     alloc: Global,
     texts: &T,

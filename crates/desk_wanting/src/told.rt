@@ -1,4 +1,4 @@
-//! Each reference without adoption is listed once.
+//! Each reference without an adoption is listed once.
 
 ghost use Rattle.std.specs.Prelude.{◌≡◌, ◌++◌, ◌∷◌, [], IfOk, IfErr, OnOk, if◌then◌else◌};
 ghost use Rattle.std.specs.List.{list_any};
@@ -9,7 +9,7 @@ use desk_base::Text;
 use desk_model::{Fault, Refusal};
 use std::alloc::{AllocError, Global};
 
-/// Whether a refusal names a reference of a document as one without adoption.
+/// Whether a refusal names a reference of a document as one without an adoption.
 fn names_reference(document: u32, reference: &Text, refusal: &Refusal) -> bool
     ensures { result ≡ names_reference document reference.now refusal.now }
 {
@@ -30,7 +30,7 @@ fn tell_reference(told: &[Refusal], document: u32, reference: &Text) -> bool
         .any(|refusal| names_reference(document, reference, refusal))
 }
 
-/// Whether a refusal is for a reference without adoption that others name already.
+/// Whether a refusal is for a reference without an adoption that others already name.
 fn is_told(told: &[Refusal], refusal: &Refusal) -> bool
     ensures { result ≡ is_told told.now refusal.now }
 {
@@ -43,7 +43,8 @@ fn is_told(told: &[Refusal], refusal: &Refusal) -> bool
     }
 }
 
-/// Adds a refusal, unless it is for a reference without adoption that those before it name already.
+/// Adds a refusal, unless it is for a reference without an adoption that those before it already
+/// name.
 fn add_once(told: &mut Vec<Refusal>, refusal: Refusal) -> Result<(), AllocError>
     ensures { OnOk result (told.new.items
         ≡ told.old.items ++ (if is_told told.old.items refusal then [] else refusal ∷ [])) }
@@ -56,7 +57,7 @@ fn add_once(told: &mut Vec<Refusal>, refusal: Refusal) -> Result<(), AllocError>
     Ok(())
 }
 
-/// The refusals, each reference without adoption only where it is named first.
+/// The refusals, with each reference without an adoption only where it is named first.
 pub(crate) fn told_once(alloc: Global, refusals: Vec<Refusal>) -> Result<Vec<Refusal>, Fault>
     ensures found { IfOk result (λ told. told.items ≡ told_once [] refusals.items) }
     ensures fault { IfErr result (λ fault. fault ≡ Memory) }

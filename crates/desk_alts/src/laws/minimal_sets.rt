@@ -1,12 +1,12 @@
 //! Laws of the alternatives of a licence expression (SPDX 2.3, Annex D) and of its cheapest choice,
 //! each the contract of a function with an empty body.
 //!
-//! `alternatives` and `cheapest` may answer that no memory is left, so their contracts say what a
-//! listing and a cheapest choice are, and not that there are any. Here it is said of the definitions alone: each
-//! tree has one list of its distinct terms (`AreTermsOf`); it has one list of its minimal sets
-//! (`AreAlternatives`), and either can be listed or has a fault, never both; and each has one
-//! cheapest set (`IsCheapest`) or none with costs, whatever its terms cost. All of it is
-//! constructive: there is a function that answers each of these questions as the definitions say.
+//! `alternatives` and `cheapest` may report that no memory is left, so their contracts say what a
+//! listing and a cheapest choice are, and not that there are any. The laws here say by the
+//! definitions alone: each tree has one list of its distinct terms (`AreTermsOf`) and one list of
+//! its minimal sets (`AreAlternatives`); either it can be listed or it has a fault, never both; and
+//! it has one cheapest set (`IsCheapest`) or none with costs, whatever its terms cost. All of this
+//! is constructive: a function answers each of these questions as the definitions say.
 
 ghost use Rattle.std.specs.Prelude.{◌≡◌, ◌⊎◌, ℕ, List, Option};
 ghost use Rattle.desk_expr.specs.declared.term.Term.{Term};
@@ -27,7 +27,7 @@ pub fn one_list_of_terms()
 {}
 
 /// Each tree can be listed, and has a list of its minimal sets; or it has more than 128 terms; or
-/// it has no more, and a wide front. What can be listed has neither fault.
+/// it has no more than that, and a wide front. A tree that can be listed has neither fault.
 pub fn listing_exists()
     ensures some { (e : Tree) → (IsListable e × (sets : List (List Term)) × AreAlternatives e sets)
         ⊎ (HasMoreTerms 128 e ⊎ ((HasMoreTerms 128 e → ⊥) × HasWideFront e)) }
@@ -35,7 +35,7 @@ pub fn listing_exists()
         ⊎ ((HasMoreTerms 128 e → ⊥) × HasWideFront e) → ⊥ }
 {}
 
-/// Each tree has a list of its minimal sets, whether the limits let it be listed or not, and only
+/// Each tree has a list of its minimal sets, whether or not the limits allow listing it, and only
 /// one.
 pub fn one_listing()
     ensures some { (e : Tree) → (sets : List (List Term)) × AreAlternatives e sets }
@@ -43,7 +43,7 @@ pub fn one_listing()
         → a ≡ b }
 {}
 
-/// Each tree has a cheapest set, or no set that satisfies it has costs for all its terms.
+/// Each tree has a cheapest set, or each set that satisfies it has a term without a cost.
 pub fn cheapest_exists()
     ensures some { (cost : Term → Option ℕ) (e : Tree)
         → ((price : ℕ) × (set : List Term) × IsCheapest cost e price set) ⊎ HasNoCosts cost e }

@@ -1,10 +1,10 @@
 //! The sections of a document (SPDX 2.3, clauses 6 to 10) are one cutting, whichever definition
 //! cuts.
 //!
-//! Four definitions tell in which section a field stands: the faults of a document by the fields
-//! before it, the newest first; its parts by the tags that begin one; the files of a package and
-//! the findings by walks from the first field that count packages. `sections_are_one_cutting` says
-//! that each tells what `parts` of `specs/Cut.antt` does.
+//! Four definitions say which section a field is in: the faults of a document by the fields before
+//! it, the newest first; its parts by the tags that begin one; the files of a package and the
+//! findings by walks from the first field that count packages. `sections_are_one_cutting` says that
+//! each agrees with `parts` of `specs/Cut.antt`.
 
 ghost use Rattle.std.specs.Prelude.{◌≡◌, List, map, reverse};
 ghost use Rattle.std.specs.List.{filter, flat_map};
@@ -14,9 +14,9 @@ ghost use Rattle.desk_tagvalue.specs.Faults.{section, kind_of};
 ghost use Rattle.desk_bom.specs.Contents.{own_files};
 ghost use Rattle.desk_findings.specs.Cut.{parts, fields, last_part, packages_of, files_of, is_package_part, is_file_part, owned, listed, findings_fields};
 
-/// The definitions cut a document into sections in one way: each field is in one part, in order
+/// All definitions cut a document into the same sections: each field is in one part, in order
 /// (`whole`); a fault sees the last part of the fields before it (`faults`); packages and files are
-/// the parts of these kinds (`packages`, `files`); a file is in the package that begins last before
+/// the parts of these kinds (`packages`, `files`); a file is in the last package that begins before
 /// it (`contents`); findings place each field in its part, by how many packages have begun
 /// (`findings`).
 pub fn sections_are_one_cutting()

@@ -8,7 +8,7 @@ use Rattle.desk_snapshot.specs.Conditions.{rules_by}
 use Rattle.desk_audit_texts.specs.Left.{IsLeft}
 use Rattle.desk_audit_texts.proofs.catalogue.catalogue_fault.Given as goal
 
--- so far each body was read, and what is left is behind the rules of these
+-- so far each body was read, and what is left comes after the rules of these
 abbrev pub invariant-loop-row : goal.invariant-loop-row
 invariant-loop-row g l = (w : Readings) → g.T.Texts.are_right w → record {
   read : list_all (λ row. is_some (result_ok (w.catalogue row.body))) (take l.row-index l.catalogue) ≡ true;

@@ -1,7 +1,7 @@
 use Rattle.std.proofs.Common.{◌≡◌, ◌++◌, List, map, drop}
 use Rattle.desk_audit_texts.proofs.left.behind.Given as goal
 
--- the rows begin with those of the items just where the rest begin with those of the rest
+-- the rows begin with those of the items if and only if the rest begin with those of the rest
 abbrev pub invariant-loop-item : goal.invariant-loop-item
 invariant-loop-item g l =
     (end : List _) →

@@ -4,7 +4,7 @@ use Rattle.desk_tagvalue.specs.Entries.{entry_text}
 use Rattle.desk_bom.specs.Contents.{own_files}
 use Rattle.desk_bom.proofs.contents.add_own.Given as goal
 
--- those found, and those of what is left, are all
+-- those found and those in what is left are all
 abbrev pub invariant-loop-entry : goal.invariant-loop-entry
 invariant-loop-entry l = record {
   packages : l.packages ≤ l.entry-index;

@@ -6,7 +6,7 @@ use Rattle.desk_tagvalue.specs.Views.{edge_text}
 use Rattle.desk_bom.specs.Shipping.{shipping_arrow, shipping_arrows}
 use Rattle.desk_bom.proofs.shipping.shipping_arrows.Given as goal
 
--- those found, and those of what is left, are all
+-- those found and those in what is left are all
 abbrev pub invariant-loop-edge : goal.invariant-loop-edge
 invariant-loop-edge l = record {
   same : l.edges ≡ l.document.edges;

@@ -4,7 +4,7 @@ use Rattle.desk_catalogue.proofs.KeptLemmas.{put_texts}
 use Rattle.desk_catalogue.proofs.order.sorted_set.Given as goal
 use Rattle.desk_base.specs.Borrowed.{texts, texts_in}
 
--- the texts that are left, put into the set, make it whole
+-- the texts that are left complete the set when they are added
 abbrev pub invariant-loop-last : goal.invariant-loop-last
 invariant-loop-last l = put_texts (texts_in l.listed) (texts l.set.keys) ≡ sorted_set (texts_in l.fn.listed)
 

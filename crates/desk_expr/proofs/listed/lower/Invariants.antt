@@ -2,7 +2,7 @@ use Rattle.std.proofs.Common.{◌≡◌, ℕ, ◌≤◌, ◌-◌, length}
 use Rattle.desk_expr.specs.Listed.{lower_in, lower_by}
 use Rattle.desk_expr.proofs.listed.lower.Given as goal
 
--- the halvings that are left end at the same place
+-- the remaining halvings end at the same place
 abbrev pub invariant-loop-low : goal.invariant-loop-low
 invariant-loop-low l = record {
   ordered : l.low ≤ l.high;

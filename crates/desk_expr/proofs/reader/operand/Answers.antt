@@ -18,7 +18,7 @@ returns-in_ok-push-in-Opening-clause-ok c =
     (ap (λ k. symbol k c.args.token.now.text.now) c.in-Opening.is)
     c.push.new.list.items c.new.result.lists.items c.new.result.operands.items c.in_ok-push-in-Opening.ensures.ok c.new.ensures.lists c.new.ensures.operands
 
--- what is no word and opens nothing is refused
+-- a token that is no word and opens nothing is refused
 stops : (m : Reader) (s : Symbol) (h : Halt) → s ≢ opening → (h ≡ Unexpected → (t : Term) (o : Option (List ℕ)) → s ≡ word t o → ⊥) → (h ≡ Unclosed → ⊥) → Stops (record m { state = Operand }) s h
 stops m s Unexpected no_opening no_word closed = operand_other m.outer.items m.inner s no_opening (no_word refl)
 stops m s Unclosed no_opening no_word closed = closed refl

@@ -18,7 +18,7 @@ returns-in-With-clause-ok c =
     word_with c.args.outer.items c.args.inner.lists.items c.args.inner.operands.items c.args.leaf (symbol c.args.token.now.kind c.args.token.now.text.now)
     (ap (λ k. symbol k c.args.token.now.text.now) c.in-With.is)
 
--- a word that no WITH follows is an operand
+-- a word that isn't followed by WITH is an operand
 steps_as_operand : (m : Reader) (t : Term) (s : Symbol) → s ≢ with_word → (res : Result Reader Halt) → IfOk res (λ n. Steps (record m { state = Done (one t) }) s n) → IfOk res (λ n. Steps (record m { state = Word t }) s n)
 steps_as_operand m t s not_with (Ok n) h =
     λ r e.

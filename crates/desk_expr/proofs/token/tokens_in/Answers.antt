@@ -7,7 +7,7 @@ use Rattle.desk_expr.specs.Tokens.{AreTokensBy, lexeme}
 use Rattle.desk_expr.specs.Given.{TokenGiven}
 use Rattle.desk_expr.proofs.token.tokens_in.Goals as goal
 
--- calls of next until there is none give the tokens of what is left
+-- what `next` returns until it returns none are the tokens of what is left
 all_given : (given : List Token) (cuts last after : TokenCuts) → Yields TokenGiven cuts given last → TokenGiven last None after → AreTokensBy cuts.profile cuts.place cuts.rest.now (map lexeme given)
 all_given [] cuts last after same none = subst (λ (c : TokenCuts). AreTokensBy c.profile c.place c.rest.now []) (sym same) none.0
 all_given (t ∷ given) cuts last after (next, step, more) none =

@@ -2,7 +2,7 @@ use Rattle.std.proofs.Common.{◌+◌, ◌≤◌, ◌<◌, length, IfSome, IsUtf
 use Rattle.desk_fields.specs.NextField.{Reaches}
 use Rattle.desk_fields.proofs.scan.first_field.Given as goal
 
--- how far the pieces so far lead, of which the last alone may give a field
+-- how far the pieces so far lead; only the last of them may give a field
 abbrev pub invariant-loop-found : goal.invariant-loop-found
 invariant-loop-found l = record {
   utf8 : IsUtf8 l.found.rest.now;

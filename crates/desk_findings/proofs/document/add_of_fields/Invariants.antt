@@ -11,7 +11,7 @@ use Rattle.desk_findings.specs.Known.{state_in}
 use Rattle.desk_findings.specs.Told.{IsTold}
 use Rattle.desk_findings.proofs.document.add_of_fields.Given as goal
 
--- those found, and those of what is left, are all
+-- those found and those in what is left are all
 abbrev pub invariant-loop-entry : goal.invariant-loop-entry
 invariant-loop-entry l = record {
   packages : l.packages ≤ l.entry-index;

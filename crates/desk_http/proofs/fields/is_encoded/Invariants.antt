@@ -1,4 +1,4 @@
--- the fields that were passed over have other names
+-- the fields that were looked at have other names
 use Rattle.std.proofs.Common.{◌≡◌, drop, codes}
 use Rattle.std.specs.Prelude.{map}
 use Rattle.httparse.specs.Spans.{header_bytes}

@@ -2,7 +2,7 @@ use Rattle.std.proofs.Common.{ℕ, ◌<◌, ◌≤◌, ◌^◌, arith, lit<}
 use Rattle.std.proofs.Math.Nat.{pow-le-pow_right}
 use Rattle.desk_http.proofs.fields.number_of.Goals as goal
 
--- a number of so few digits is small
+-- a number of few digits is small
 small : (n digits : ℕ) → n < 10 ^ digits → digits ≤ 17 → n < 10 ^ 17
 small n digits within few =
     let most : 10 ^ digits ≤ 10 ^ 17 = pow-le-pow_right (lit< tt) few in

@@ -1,4 +1,4 @@
--- what was read and what it awaits; each turn gave a byte at least
+-- what was read and what it awaits; each turn gave at least one byte
 use Rattle.std.proofs.Common.{◌≤◌, length}
 use Rattle.std.specs.Io.KnownBytes.{Consumes}
 use Rattle.desk_http.specs.Framings.{IsAwaited}

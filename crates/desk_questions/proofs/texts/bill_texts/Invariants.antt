@@ -8,7 +8,7 @@ use Rattle.desk_access.specs.Seen.{Same, OfRows}
 use Rattle.desk_questions.specs.Billing.{AreLeft, licence_found, licence_ids}
 use Rattle.desk_questions.proofs.texts.bill_texts.Given as goal
 
--- the texts so far have their bodies, and what is left are those of the rest
+-- the texts so far have their bodies, and what remains are those of the rest
 abbrev pub invariant-loop-text : goal.invariant-loop-text
 invariant-loop-text g l =
     let old = g.S.Store.seen l.fn.store in

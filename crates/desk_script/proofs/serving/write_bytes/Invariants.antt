@@ -1,4 +1,4 @@
--- what is gone from the bytes is written
+-- what isn't left of the bytes is written
 use Rattle.std.proofs.Common.{◌≡◌, ℕ, List, ◌++◌}
 use Rattle.std.specs.Io.KnownBytes.{Appends}
 use Rattle.desk_script.proofs.serving.write_bytes.Given as goal

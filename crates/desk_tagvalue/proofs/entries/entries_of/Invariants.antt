@@ -6,7 +6,7 @@ use Rattle.desk_base.specs.Limits.{document_bytes}
 use Rattle.desk_tagvalue.specs.Entries.{entry_text, read_entry}
 use Rattle.desk_tagvalue.proofs.entries.entries_of.Given as goal
 
--- whatever the rest gives, behind the fields so far it is what the text gives
+-- what the rest gives, after the fields so far, is what the text gives
 abbrev pub invariant-loop-field : goal.invariant-loop-field
 invariant-loop-field l =
     (l.field-iterator.line + length l.field-iterator.rest.now ≤ 1 + document_bytes)

@@ -5,7 +5,7 @@ use Rattle.desk_tree_gather.specs.Firsts.{Knows, has_text, first_in, firsts_behi
 use Rattle.desk_tree_gather.specs.Sharing.{infos_at}
 use Rattle.desk_tree_gather.proofs.firsts.firsts_of.Given as goal
 
--- what was seen are the texts of the files so far; theirs, and those of the rest, are those of all
+-- the texts of the files so far were seen; these and those of the rest are those of all
 abbrev pub invariant-loop-file : goal.invariant-loop-file
 invariant-loop-file l = record {
   knows : Knows l.all l.of l.seen;

@@ -10,7 +10,7 @@ use Rattle.desk_tree_gather.specs.Shown.{files_of, tree_in}
 use Rattle.desk_tree_gather.proofs.gathering.each_info.Given as goal
 use Rattle.desk_base.proofs.Results.{onto}
 
--- the way is by the same annotations; what is gathered so far, and what the rest gives, is that of all
+-- the trail has the same annotations; what is gathered so far, with what the rest gives, is that of all
 abbrev pub invariant-loop-file : goal.invariant-loop-file
 invariant-loop-file l = record {
   same : l.trail.folders.now ≡ l.initial.trail.folders.now;

@@ -5,7 +5,7 @@ use Rattle.desk_tree_gather.specs.Sharing.{annotations_at, texts_at}
 use Rattle.desk_tree_gather.proofs.Running.{running}
 use Rattle.desk_tree_gather.proofs.information.given.Given as goal
 
--- the texts so far, and what the rest gives to them, are those of all
+-- the texts so far, and what the rest adds to them, are those of all
 abbrev pub invariant-loop-number : goal.invariant-loop-number
 invariant-loop-number l =
     running l.of l.own.items (texts_at l.all l.of l.numbers.items) (texts_at l.all l.of (option_to_list l.closest)) (annotations_at l.all (drop l.number-index l.counting))

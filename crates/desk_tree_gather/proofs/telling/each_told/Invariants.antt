@@ -9,7 +9,8 @@ use Rattle.desk_tree_gather.specs.Shown.{left_in}
 use Rattle.desk_tree_gather.proofs.telling.each_told.Given as goal
 use Rattle.desk_base.proofs.Results.{onto}
 
--- the way is by the same annotations; what is told so far, and what is told of those that are left, is that of all
+-- the trail has the same annotations; what is reported so far, with what is reported about those that are
+-- left, is that of all
 abbrev pub invariant-loop-path : goal.invariant-loop-path
 invariant-loop-path l = record {
   same : l.trail.folders.now ≡ l.initial.trail.folders.now;

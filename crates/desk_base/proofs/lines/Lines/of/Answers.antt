@@ -7,7 +7,7 @@ use Rattle.desk_base.specs.Lines.{AreLines, CutsInto, line_text}
 use Rattle.desk_base.specs.NextLine.{LineGiven}
 use Rattle.desk_base.proofs.lines.Lines.of.Goals as goal
 
--- calls of next until there is none give the lines of what is left
+-- what `next` returns until it returns none are the lines of what is left
 all_given : (given : List Line) (lines last after : Lines) → Yields LineGiven lines given last → LineGiven last None after → AreLines lines.number lines.rest.now given
 all_given [] lines last after same none = subst (λ (s : Lines). AreLines s.number s.rest.now []) (sym same) none.0
 all_given (l ∷ given) lines last after (next, step, more) none =

@@ -7,7 +7,7 @@ use Rattle.desk_expr.specs.Tree.{Tree, parts_of}
 use Rattle.desk_expr.specs.Printing.{printed_in, joined_on, IsWellFormed, AreWellFormed}
 use Rattle.desk_expr.proofs.expr.Expr.+add_to.Goals as goal
 
--- an operator and one part more
+-- an operator and one more part
 one_more : (place : Place) (between before now pushed then : List ℕ) (parts : List Tree) (i : ℕ) (d : Tree) → i < length parts
     → before ++ joined_on place between (parts_of parts) ≡ now ++ joined_on place between (parts_of (drop i parts)) → pushed ≡ now ++ between
     → then ≡ pushed ++ printed_in place (get_or parts i d)
@@ -19,7 +19,7 @@ one_more place between before now pushed then parts i d inside so_far is last =
     ∙ sym (append_assoc now between (part ++ rest)) ∙ ap (λ l. l ++ (part ++ rest)) (sym is) ∙ sym (append_assoc pushed part rest)
     ∙ ap (λ l. l ++ rest) (sym last)
 
--- one part more is well formed
+-- one more part is well formed
 formed_more : (parts : List Tree) (i : ℕ) (d : Tree) → i < length parts → (AreWellFormed (parts_of (drop i parts)) → AreWellFormed (parts_of parts))
     → IsWellFormed (get_or parts i d) → AreWellFormed (parts_of (drop (i + 1) parts)) → AreWellFormed (parts_of parts)
 formed_more parts i d inside so_far here rest =

@@ -8,7 +8,7 @@ use Rattle.desk_expr.specs.declared.term.Term.{Term}
 use Rattle.desk_expr.specs.Words.{is_term}
 use Rattle.desk_expr.proofs.expr.Expr.+collect_terms.Goals as goal
 
--- the terms of one part more
+-- the terms of one more part
 one_more : (before now then : List Term) (parts : List Tree) (i : ℕ) (d : Tree) → i < length parts → before ++ leaves_of (parts_of parts) ≡ now ++ leaves_of (parts_of (drop i parts))
     → then ≡ now ++ leaves (get_or parts i d) → before ++ leaves_of (parts_of parts) ≡ then ++ leaves_of (parts_of (drop (i + 1) parts))
 one_more before now then parts i d inside so_far is =

@@ -11,7 +11,7 @@ module _ (set : Term → Type 0) (parts : List Tree) (i : ℕ) (part : Tree) (in
   here : drop i parts ≡ part ∷ drop (i + 1) parts
   here = drop_more parts i part inside ∙ ap (λ (t : Tree). t ∷ drop (i + 1) parts) (sym at)
 
-  -- a part holds, so that all do where the others do
+  -- a part holds, so all parts do if the others do
   all_more : Holds set part → AllHold set (parts_of parts) ↔ AllHold set (parts_of (drop i parts))
       → AllHold set (parts_of parts) ↔ AllHold set (parts_of (drop (i + 1) parts))
   all_more holds so_far = (
@@ -19,7 +19,7 @@ module _ (set : Term → Type 0) (parts : List Tree) (i : ℕ) (part : Tree) (in
     (λ rest. so_far.1 (subst (λ (ts : List Tree). AllHold set (parts_of ts)) (sym here) (holds, rest))),
   )
 
-  -- a part doesn't hold, so that some does where one of the others does
+  -- a part doesn't hold, so some part does if one of the others does
   some_more : (Holds set part → ⊥) → SomeHolds set (parts_of parts) ↔ SomeHolds set (parts_of (drop i parts))
       → SomeHolds set (parts_of parts) ↔ SomeHolds set (parts_of (drop (i + 1) parts))
   some_more fails so_far = (

@@ -4,7 +4,7 @@ use Rattle.desk_expr.specs.Tree.{parts_of}
 use Rattle.desk_expr.specs.Meaning.{AllHold, SomeHolds}
 use Rattle.desk_expr.proofs.expr.Expr.+holds.Given as goal
 
--- all parts hold where those from the index on do
+-- all parts hold if those from the index on do
 abbrev pub invariant-loop-part : goal.invariant-loop-part
 invariant-loop-part l =
     AllHold (Contains l.listed.chosen.now) (parts_of l.part-items)

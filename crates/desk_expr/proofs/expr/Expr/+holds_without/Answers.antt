@@ -25,7 +25,7 @@ loop-part-2-preserved t c =
     λ k place gone at listed. some_marked (Without c.args.listed.chosen.now gone) c.deref-part-items-in-Any.result.now c.loop-part-2.part-index c.part-item-in-loop-part-2.result c.loop-part-2.marks c.holds_without-marks-in-loop-part-2.result k c.loop-part-2-test.true
     (c.loop-part-2.invariant k place gone at listed) (subst (λ (x : Tree). (bit_at c.holds_without-marks-in-loop-part-2.result k ≡ 1) ↔ Holds (Without c.args.listed.chosen.now gone) x) c.part-item-in-loop-part-2.is (c.holds_without-marks-in-loop-part-2.ensures k place gone at listed))
 
--- a term that is chosen holds where it is not the one that is gone
+-- a chosen term holds if it is not the one that is gone
 leaf_marked : (chosen : List Term) (leaf term gone : Term) (e : Tree) (marks k : ℕ) → term ≡ leaf → one leaf ≡ e → Contains chosen term
     → ((bit_at marks k ≡ 1) ↔ (term ≢ gone)) → (bit_at marks k ≡ 1) ↔ Holds (Without chosen gone) e
 leaf_marked chosen leaf term gone e marks k is e_is there told =

@@ -6,7 +6,7 @@ use Rattle.desk_expr.specs.Tree.{parts_of}
 use Rattle.desk_expr.specs.Meaning.{AllHold, SomeHolds, Without}
 use Rattle.desk_expr.proofs.expr.Expr.+holds_without.Given as goal
 
--- all parts hold where the bit is set and the parts from the index on hold
+-- all parts hold if the bit is set and the parts from the index on hold
 abbrev pub invariant-loop-part : goal.invariant-loop-part
 invariant-loop-part l =
     (k place : ℕ) (gone : Term) → slice_get l.candidates k ≡ Some place → slice_get l.listed.chosen.now place ≡ Some gone →

@@ -3,7 +3,7 @@ use Rattle.std.proofs.lemmas.List.{take_more}
 use Rattle.desk_expr.specs.Tree.{Tree}
 use Rattle.desk_expr.proofs.expr.ExprClone.+clone.Goals as goal
 
--- one part more is copied
+-- one more part is copied
 copied_more : (parts before after : List Tree) (i : ℕ) (part copy : Tree) → i < length parts → part ≡ get_or parts i part → before ≡ take i parts
     → copy ≡ part → after ≡ before ++ copy ∷ [] → after ≡ take (i + 1) parts
 copied_more parts before after i part copy inside at so_far is pushed =

@@ -14,7 +14,7 @@ returns-in-Ok-clause-ok c =
     let s : Symbol = symbol c.args.token.now.kind c.args.token.now.text.now in
     subst (λ m. TermSteps m s (Word c.in-Ok.leaf)) (sym c.in-Start.is) (start_word s c.in-Ok.leaf c.in-Ok.ensures.ok.0 c.in-Ok.ensures.ok.1)
 
--- what is no word is refused at the start
+-- a token that is no word is refused at the start
 stops : (s : Symbol) (h : Halt) → (h ≡ Unexpected → (t : Term) (o : Option (List ℕ)) → s ≡ word t o → ⊥) → (h ≡ Unclosed → ⊥) → TermStops Start s h
 stops s Unexpected no_word closed = start_other s (no_word refl)
 stops s Unclosed no_word closed = closed refl

@@ -13,14 +13,14 @@ use Rattle.desk_fields.proofs.OneReading.{fails_some, not_nothing}
 use Rattle.desk_base.proofs.LinesOnce.{line_some}
 use Rattle.desk_fields.proofs.scanner.Scanner.of.Goals as goal
 
--- calls of next until there is none give the reading of what is left
+-- what `next` returns until it returns none is the reading of what is left
 all_given : (given : List (Result Field DocFault)) (s last after : Scanner) → Yields FieldGiven s given last → FieldGiven last None after → Reads s.line s.rest.now (reading given)
 all_given [] s last after same none = subst (λ (x : Scanner). Reads x.line x.rest.now (reading [])) (sym same) (reads_end last.line last.rest.now none.0 none.1)
 all_given (Ok f ∷ given) s last after (next, step, more) none =
     reads_field s.line s.rest.now (field_text f) next.line next.rest.now step.0 (reading given) (all_given given next last after more none)
 all_given (Err fault ∷ given) s last after (next, step, more) none = reads_fault s.line s.rest.now fault step.0
 
--- nothing is skipped where nothing is left
+-- nothing is skipped if nothing is left
 skips_nothing : (line : ℕ) (text : List ℕ) (at : ℕ) (whole : List ℕ) → Skips line text at whole → text ≡ [] → whole ≡ []
 skips_nothing line text at whole here e = e
 skips_nothing line text at whole (further m w p end rest skips begins none) e =
