@@ -6,7 +6,7 @@ ghost use Rattle.desk_model.specs.Readings.{Readings};
 ghost use Rattle.desk_access.specs.Reading.{TellsExpression};
 ghost use Rattle.desk_base.specs.declared.profile.Profile.{Profile};
 
-use desk_base::{Items, Text};
+use desk_base::{Items, Text, TextList};
 use desk_model::{
     Catalogue, CatalogueFault, Cheapest, Document, DocumentFault, ExpressionFault, Finding,
     LicenceText, ListFault, Profile, Verdict,
@@ -107,7 +107,7 @@ pub trait Texts {
         &self,
         alloc: Global,
         expression: &Self::Expression,
-        terms: &[Text],
+        terms: &TextList,
     ) -> Result<Verdict, AllocError>
         ensures { (w : Readings) → are_right w → (profile : Profile) (text : List ℕ)
             → is_of profile text expression.now

@@ -11,7 +11,7 @@ ghost use Rattle.desk_snapshot.specs.Rows.{is_attachment, is_choice_of, is_relea
 use crate::in_force::in_force;
 use crate::printed::is_printed;
 use desk_access::texts::Texts;
-use desk_base::Text;
+use desk_base::TextList;
 use desk_model::{ReleaseState, Verdict};
 use desk_snapshot::{
     ByAttachment, ByChoice, ById, ByName, Snapshot, StoredChoice, StoredPackage, StoredRelease,
@@ -19,12 +19,12 @@ use desk_snapshot::{
 use std::alloc::{AllocError, Global};
 
 /// Whether each text is a term as it is printed.
-fn are_printed<T: Texts>(alloc: Global, texts: &T, terms: &[Text]) -> Result<bool, AllocError>
+fn are_printed<T: Texts>(alloc: Global, texts: &T, terms: &TextList) -> Result<bool, AllocError>
     ensures { (w : Readings) → T.are_right w → IfOk result (λ are.
         are ≡ list_all (is_printed w) terms.now) }
 {
-    for term in terms {
-        if !is_printed(alloc, texts, term.as_str())? {
+    for i in 0..terms.len() {
+        if !is_printed(alloc, texts, terms.at(i))? {
             return Ok(false);
         }
     }
@@ -46,7 +46,7 @@ fn are_minimal<T: Texts>(
     alloc: Global,
     texts: &T,
     expression: &T::Expression,
-    terms: &[Text],
+    terms: &TextList,
 ) -> Result<bool, AllocError>
     ensures { (w : Readings) → T.are_right w → (profile : Profile) (text : List ℕ)
         → T.is_of profile text expression.now
@@ -64,7 +64,7 @@ fn ships_under<T: Texts>(
     alloc: Global,
     texts: &T,
     snapshot: &Snapshot,
-    terms: &[Text],
+    terms: &TextList,
     row: &StoredPackage,
 ) -> Result<bool, AllocError>
     ensures { (w : Readings) → T.are_right w → IfOk result (λ ships.
@@ -88,18 +88,18 @@ fn is_alike(row: &StoredChoice, other: &StoredChoice) -> bool
 }
 
 /// The terms that a release holds for a package.
-fn terms_at(alloc: Global, snapshot: &Snapshot, row: &StoredChoice) -> Result<Vec<Text>, AllocError>
-    ensures { IfOk result (λ terms. terms.items ≡ terms_at snapshot.now row.now) }
+fn terms_at(alloc: Global, snapshot: &Snapshot, row: &StoredChoice) -> Result<TextList, AllocError>
+    ensures { IfOk result (λ terms. terms ≡ terms_at snapshot.now row.now) }
 {
     let key = ByChoice {
         release: row.release.as_str(),
         document: row.document,
         package_id: row.package_id.as_str(),
     };
-    let mut terms = Vec::new(alloc);
+    let mut terms = TextList::new(alloc);
     for other in snapshot.choice.among(&key) {
         if is_alike(row, other) {
-            terms.push(other.term.clone()?)?;
+            terms.push(other.term.as_str())?;
         }
     }
     Ok(terms)
@@ -155,7 +155,7 @@ fn is_choice<T: Texts>(
         return Ok(false);
     };
     let terms = terms_at(alloc, snapshot, row)?;
-    ships_under(alloc, texts, snapshot, terms.as_slice(), package_row)
+    ships_under(alloc, texts, snapshot, &terms, package_row)
 }
 
 /// Whether a choice is one that can be held, if the one before it, if there is one, is one: then so

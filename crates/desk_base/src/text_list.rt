@@ -1,9 +1,7 @@
 //! Owned lists of texts.
 
-ghost use Rattle.std.specs.Prelude.{◌≡◌, ◌<◌, ◌++◌, ◌∷◌, [], length, slice_index, slice_index_or, IfOk, OnOk, OnErr};
+ghost use Rattle.std.specs.Prelude.{◌≡◌, ◌<◌, ◌++◌, ◌∷◌, [], length, slice_index, slice_index_or, OnOk, OnErr};
 
-use crate::items::Items;
-use crate::text::Text;
 use std::alloc::{AllocError, Global};
 use std::marker::Model;
 
@@ -62,17 +60,6 @@ impl TextList {
     {
         let start = start_of(self.ends.as_slice(), place);
         &self.bytes[start as usize..self.ends[place] as usize]
-    }
-
-    /// The texts, each in its own memory.
-    pub fn to_items(&self, alloc: Global) -> Result<Items<Text>, AllocError>
-        ensures { IfOk result (λ items. items ≡ self.now) }
-    {
-        let mut items = Items::new(alloc);
-        for place in 0..self.len() {
-            items.push(Text::of(alloc, self.at(place))?)?;
-        }
-        Ok(items)
     }
 
     /// Adds a text at the end. If all texts together would have 2 ^ 32 bytes or more, it fails as

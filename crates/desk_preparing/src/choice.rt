@@ -1,10 +1,11 @@
 //! Terms are chosen for the packages of a release, and choices dropped.
 
-ghost use Rattle.std.specs.Prelude.{◌≡◌, ℕ, List, ◌≤◌, ◌<◌, ◌+◌, ◌++◌, ◌∷◌, [], IfOk, IfErr, OnOk, false, MatchOption, insert, map, length, Ok, Some, None, Option, filter};
+ghost use Rattle.std.specs.Prelude.{◌≡◌, ℕ, List, [], IfOk, IfErr, map};
 ghost use Rattle.desk_model.specs.Readings.{Readings};
+ghost use Rattle.desk_base.specs.Borrowed.{texts};
 ghost use Rattle.desk_base.specs.declared.profile.Profile.{Profile};
 ghost use Rattle.desk_model.specs.Faults.{MayFail};
-ghost use Rattle.desk_model.specs.Texts.{put_new, sorted_set};
+ghost use Rattle.desk_model.specs.Texts.{sorted_set};
 ghost use Rattle.desk_model.specs.Tables.{choice_row};
 ghost use Rattle.desk_model.specs.Answers.{refused_or};
 ghost use Rattle.desk_history.specs.FromTables.{chosen_change, conclusion_found};
@@ -24,6 +25,7 @@ use desk_base::{Items, Text, TextList};
 use desk_model::{Change, ChoiceRow, Fault, PackageRow, Plan, Refusal, ReleaseState, Verdict};
 use desk_packages::{Claim, InForce, claim_of, done, read_claim, refused, unready};
 use std::alloc::{AllocError, Global};
+use std::collections::BTreeSet;
 
 /// The terms that texts spell, or the place of the first that spells none.
 #[derive(Drop)]
@@ -45,47 +47,33 @@ fn read_terms<T: Texts>(alloc: Global, texts: &T, words: &TextList) -> Result<Te
     Ok(TermsRead::Terms(terms))
 }
 
-/// Where a term goes among others that are sorted, if it isn't there.
-fn place_of(set: &[Text], term: &Text) -> Option<usize>
-    ensures { MatchOption result (put_new term.now set.now ≡ set.now) (λ place.
-        (place ≤ length set.now) × (put_new term.now set.now ≡ insert set.now place term.now)) }
+/// The texts that a list has.
+fn set_of<'a>(alloc: Global, terms: &'a TextList) -> Result<BTreeSet<&'a str>, AllocError>
+    ensures { IfOk result (λ set. texts set.keys ≡ sorted_set terms.now) }
 {
-    for (place, other) in set.iter().enumerate() {
-        if term.as_str() < other.as_str() {
-            return Some(place);
-        }
-        if term.as_str() == other.as_str() {
-            return None;
-        }
-    }
-    Some(set.len())
-}
-
-fn put_new(set: &mut Vec<Text>, term: Text) -> Result<(), AllocError>
-    ensures { OnOk result (set.new.items ≡ put_new term set.old.items) }
-{
-    if let Some(place) = place_of(set.as_slice(), &term) {
-        set.insert(place, term)?;
-    }
-    Ok(())
-}
-
-/// The set of some terms, sorted.
-fn sorted_set(alloc: Global, terms: Items<Text>) -> Result<Vec<Text>, AllocError>
-    ensures { IfOk result (λ set. set.items ≡ sorted_set terms) }
-{
-    let mut terms = terms.into_vec();
-    let mut set = Vec::new(alloc);
-    while let Some(term) = terms.pop() {
-        put_new(&mut set, term)?;
+    let mut set = BTreeSet::new(alloc);
+    for i in (0..terms.len()).rev() {
+        set.insert(terms.at(i))?;
     }
     Ok(set)
+}
+
+/// The set of some terms, sorted. Only a term that isn't in it yet takes memory.
+fn sorted_set(alloc: Global, terms: &TextList) -> Result<Vec<Text>, AllocError>
+    ensures { IfOk result (λ sorted. sorted.items ≡ sorted_set terms.now) }
+{
+    let set = set_of(alloc, terms)?;
+    let mut sorted = Vec::with_capacity(alloc, set.len())?;
+    for term in set {
+        sorted.push(Text::of(alloc, term)?)?;
+    }
+    Ok(sorted)
 }
 
 /// What a verdict refuses.
 fn refusal_of(
     alloc: Global,
-    terms: &[Text],
+    terms: &TextList,
     verdict: Verdict,
 ) -> Result<Option<Refusal>, AllocError>
     ensures { IfOk result (λ refusal. refused_or refusal Done ≡ judged terms.now verdict) }
@@ -93,10 +81,8 @@ fn refusal_of(
     match verdict {
         Verdict::NotEnough => Ok(Some(Refusal::NotEnough)),
         Verdict::Superfluous(i) => {
-            let term = match terms.get(i) {
-                Some(term) => term.clone()?,
-                None => Text::of(alloc, "")?,
-            };
+            let word = if i < terms.len() { terms.at(i) } else { "" };
+            let term = Text::of(alloc, word)?;
             Ok(Some(Refusal::NotMinimal { term }))
         }
         Verdict::Minimal => Ok(None),
@@ -118,7 +104,7 @@ fn judge_by<T: Texts>(
     alloc: Global,
     texts: &T,
     expression: &T::Expression,
-    terms: &[Text],
+    terms: &TextList,
 ) -> Result<Option<Refusal>, AllocError>
     ensures { (w : Readings) → T.are_right w → (profile : Profile) (text : List ℕ)
         → T.is_of profile text expression.now
@@ -135,7 +121,7 @@ fn judge<T: Texts>(
     texts: &T,
     claim: &Claim,
     row: &PackageRow,
-    terms: &[Text],
+    terms: &TextList,
 ) -> Result<Option<Refusal>, AllocError>
     ensures { (w : Readings) → T.are_right w → IfOk result (λ refusal.
         refused_or refusal Done ≡ choose_for w terms.now (read_claim w claim.now) row.now) }
@@ -175,10 +161,10 @@ fn chosen(
     release: &Text,
     document: u32,
     package_id: &Text,
-    terms: Items<Text>,
+    terms: &TextList,
 ) -> Result<Change, AllocError>
-    ensures { IfOk result
-        (λ change. change ≡ chosen_change release.now document package_id.now (sorted_set terms)) }
+    ensures { IfOk result (λ change. change
+        ≡ chosen_change release.now document package_id.now (sorted_set terms.now)) }
 {
     let set = sorted_set(alloc, terms)?;
     let rows = choice_rows(alloc, release, document, package_id, set)?;
@@ -280,8 +266,7 @@ fn choose_at<T: Texts>(
         (chosen_change release.now place.now.document package_id.now (sorted_set terms.now))) }
     ensures sound { IfOk result IsSound }
 {
-    let terms = terms.to_items(alloc)?;
-    if let Some(refusal) = judge(alloc, texts, claim, &place.row, terms.as_slice())? {
+    if let Some(refusal) = judge(alloc, texts, claim, &place.row, terms)? {
         return Ok(refused(refusal));
     }
     Ok(done(chosen(alloc, release, place.document, package_id, terms)?))

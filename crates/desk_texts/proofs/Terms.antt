@@ -24,6 +24,12 @@ next_term texts i d ts t within are one =
     let after : i + 1 ≡ suc i = omega arith in
     subst (λ (xs : List (List ℕ)). AreTerms xs (ts ++ t ∷ [])) (sym (ap (λ n. take n texts) after ∙ take-suc texts i d within)) (one_more (take i texts) ts (get_or texts i d) t are one)
 
+pub terms_length : (texts : List (List ℕ)) (ts : List Term) → AreTerms texts ts → length ts ≡ length texts
+terms_length [] [] are = refl
+terms_length [] (t ∷ ts) are = absurd are
+terms_length (x ∷ xs) [] are = absurd are
+terms_length (x ∷ xs) (t ∷ ts) are = ap suc (terms_length xs ts are.1)
+
 bad_among : (front : List (List ℕ)) (text : List ℕ) (back : List (List ℕ)) (ts : List Term) → SpellsNoTerm text → AreTerms (front ++ text ∷ back) ts → ⊥
 bad_among [] text back [] bad are = are
 bad_among [] text back (t ∷ ts) bad are = bad t are.0

@@ -1,5 +1,6 @@
 pub mod Rising
 pub mod Terms
+pub mod Choices
 pub mod Expressions
 pub mod Catalogues
 pub mod Documents

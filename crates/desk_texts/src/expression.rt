@@ -1,16 +1,14 @@
 //! Licence expressions in the fields of a document.
 
-ghost use Rattle.std.specs.Prelude.{◌≡◌, ◌<◌, IfOk, OnOk, IsTrue, Contains};
+ghost use Rattle.std.specs.Prelude.{◌≡◌, ◌<◌, IfOk, OnOk};
 ghost use Rattle.desk_expr.specs.Faults.{fault_number};
-ghost use Rattle.desk_texts.specs.Expressions.{word_place, IsRead, fault_of, IsFault, IsVerdict, JudgesTerms};
+ghost use Rattle.desk_texts.specs.Expressions.{word_place, IsRead, fault_of, IsFault};
 ghost use Rattle.desk_findings.specs.Fields.{is_no_licence};
 
-use crate::term::read_terms;
-use desk_base::Text;
-use desk_expr::{Expr, ParseFault, Profile, Term, check_choice, parse_in, told};
+use desk_expr::{Expr, ParseFault, Profile, parse_in, told};
 use desk_fields::skip_blanks;
 use desk_findings::is_no_licence;
-use desk_model::{ExpressionFault, Verdict};
+use desk_model::ExpressionFault;
 use std::alloc::{AllocError, Global};
 
 /// The expression that a value is by a profile of operators.
@@ -70,26 +68,5 @@ pub(crate) fn expression_fault(
         Ok(_) if is_no_licence(text) => Ok(Some(ExpressionFault::Unexpected(word_place(text)))),
         Ok(_) => Ok(None),
         Err(fault) => Ok(Some(fault_of(fault)?)),
-    }
-}
-
-/// How terms satisfy an expression.
-fn judged(expr: &Expr, terms: &[Term]) -> Verdict
-    ensures { IsVerdict expr.now terms.now result }
-{
-    match check_choice(expr, terms) {
-        desk_expr::Verdict::NotEnough => Verdict::NotEnough,
-        desk_expr::Verdict::Superfluous(i) => Verdict::Superfluous(i),
-        desk_expr::Verdict::Minimal => Verdict::Minimal,
-    }
-}
-
-/// How texts that spell terms satisfy an expression.
-pub(crate) fn verdict(alloc: Global, expr: &Expr, words: &[Text]) -> Result<Verdict, AllocError>
-    ensures { IfOk result (JudgesTerms expr.now words.now) }
-{
-    match read_terms(alloc, words)? {
-        Some(terms) => Ok(judged(expr, terms.as_slice())),
-        None => Ok(Verdict::NotEnough),
     }
 }

@@ -7,6 +7,7 @@
 #![tactic(auto)]
 
 mod catalogue;
+mod choice;
 mod document;
 mod expression;
 mod findings;

@@ -4,8 +4,9 @@ ghost use Rattle.desk_texts.specs.Expressions.{IsExpression};
 ghost use Rattle.desk_texts.specs.Right.{AreRight};
 
 use crate::catalogue::read_catalogue;
+use crate::choice::verdict;
 use crate::document::read_document;
-use crate::expression::{expression_fault, read_expression, verdict};
+use crate::expression::{expression_fault, read_expression};
 use crate::findings::read_findings;
 use crate::licences::licence_texts;
 use crate::listing::{alternatives, cheapest, terms};
@@ -13,7 +14,7 @@ use crate::term::{
     adopted_as, exception_of, is_licence, licence_id_of, printed_term, reference_of,
 };
 use desk_access::texts::Texts;
-use desk_base::{Items, Text};
+use desk_base::{Items, Text, TextList};
 use desk_expr::Expr;
 use desk_model::{
     Catalogue, CatalogueFault, Cheapest, Document, DocumentFault, ExpressionFault, Finding,
@@ -103,7 +104,7 @@ impl Texts for Standard {
         &self,
         alloc: Global,
         expression: &Expr,
-        terms: &[Text],
+        terms: &TextList,
     ) -> Result<Verdict, AllocError> {
         verdict(alloc, expression, terms)
     }

@@ -3,7 +3,7 @@
 ghost use Rattle.std.specs.Prelude.{◌≡◌, IfOk};
 ghost use Rattle.std.specs.Option.{option_map};
 ghost use Rattle.desk_catalogue.specs.Terms.{IsTermOf};
-ghost use Rattle.desk_texts.specs.Terms.{IsTerm, AreAllTerms, reference_in, is_licence, adopted_as, without_plus, licence_id_in, exception_in};
+ghost use Rattle.desk_texts.specs.Terms.{IsTerm, reference_in, is_licence, adopted_as, without_plus, licence_id_in, exception_in};
 
 use desk_base::{Text, is_idstring_of_bytes};
 use desk_expr::{Term, is_reference, parse_term, print_term, told};
@@ -12,7 +12,7 @@ use desk_tagvalue::behind;
 use std::alloc::{AllocError, Global};
 
 /// The term that a text spells.
-fn read_term(alloc: Global, text: &str) -> Result<Option<Term>, AllocError>
+pub(crate) fn read_term(alloc: Global, text: &str) -> Result<Option<Term>, AllocError>
     ensures { IfOk result (IsTerm text.now) }
 {
     match parse_term(alloc, text) {
@@ -35,20 +35,6 @@ pub(crate) fn printed_term(alloc: Global, text: &str) -> Result<Option<Text>, Al
         }
         None => Ok(None),
     }
-}
-
-/// The terms that texts spell, if each spells one.
-pub(crate) fn read_terms(alloc: Global, texts: &[Text]) -> Result<Option<Vec<Term>>, AllocError>
-    ensures { IfOk result (λ read. AreAllTerms texts.now (option_map (λ terms. terms.items) read)) }
-{
-    let mut terms = Vec::new(alloc);
-    for text in texts {
-        match read_term(alloc, text.as_str())? {
-            Some(term) => terms.push(term)?,
-            None => return Ok(None),
-        }
-    }
-    Ok(Some(terms))
 }
 
 /// The reference that a printed term names.
