@@ -17,77 +17,207 @@ pub(crate) enum Form {
     Word,
     /// One word or more, up to the end of the line.
     Words,
-    /// A named value with a default.
-    Preset {
-        long: &'static str,
-        value: &'static str,
-    },
-    /// A named value that is required.
-    Wanted {
-        long: &'static str,
-    },
-    /// A named value that is optional.
-    Optional {
-        long: &'static str,
-    },
-    /// A named flag without a value.
-    Flag {
-        long: &'static str,
-    },
+    /// A value with this name and this default.
+    Preset(&'static str, &'static str),
+    /// A required value with this name.
+    Wanted(&'static str),
+    /// An optional value with this name.
+    Optional(&'static str),
+    /// A flag with this name, without a value.
+    Flag(&'static str),
     /// A whole number from 0 to this one, required at its position.
-    Count {
-        most: u32,
-    },
-    /// A named whole number from 0 to this one, required.
-    Number {
-        long: &'static str,
-        most: u32,
-    },
-    /// A named whole number from 0 to this one, optional.
-    OptionalNumber {
-        long: &'static str,
-        most: u32,
-    },
+    Count(u32),
+    /// A required whole number with this name, from 0 to this one.
+    Number(&'static str, u32),
+    /// An optional whole number with this name, from 0 to this one.
+    OptionalNumber(&'static str, u32),
 }
 
 /// An argument of a subcommand, with its line of help.
 #[derive(Clone, Copy)]
 pub(crate) struct Argument {
-    pub(crate) name: &'static str,
-    pub(crate) form: Form,
-    pub(crate) help: &'static str,
+    name: &'static str,
+    form: Form,
+    help: &'static str,
 }
 
-/// How the operators of a licence expression are written.
-pub(crate) const PROFILE: Argument = Argument {
-    name: "PROFILE",
-    form: Form::Preset {
-        long: "profile",
-        value: "1",
-    },
-    help: "How operators are written: 1 AND, OR, WITH; 2 also and, or, with",
-};
+macro_rules! argument {
+    ($name:literal, $form:expr, $help:literal) => {
+        Argument {
+            name: $name,
+            form: $form,
+            help: $help,
+        }
+    };
+}
 
-/// A licence expression.
-pub(crate) const EXPRESSION: Argument = Argument {
-    name: "EXPR",
-    form: Form::Word,
-    help: "The licence expression, one word: quote it",
-};
+// How the operators of a licence expression are written.
+const PROFILE: Argument = argument!(
+    "PROFILE",
+    Form::Preset("profile", "1"),
+    "How operators are written: 1 AND, OR, WITH; 2 also and, or, with"
+);
 
-/// The file that keeps a desk, which is required.
-pub(crate) const DATABASE: Argument = Argument {
-    name: "FILE",
-    form: Form::Wanted { long: "db" },
-    help: "The file that keeps the desk",
-};
+const EXPRESSION: Argument = argument!(
+    "EXPR",
+    Form::Word,
+    "The licence expression, one word: quote it"
+);
 
-/// The folder of a source tree.
-pub(crate) const FOLDER: Argument = Argument {
-    name: "DIR",
-    form: Form::Word,
-    help: "The folder of the tree",
-};
+// The file that keeps a desk.
+const DATABASE: Argument = argument!("FILE", Form::Wanted("db"), "The file that keeps the desk");
+
+// The same, for a subcommand that also works without one.
+const OPTIONAL_DATABASE: Argument = argument!(
+    "FILE",
+    Form::Optional("db"),
+    "The file that keeps the desk"
+);
+
+const DOCUMENT: Argument = argument!("DOC", Form::Word, "The file of the document");
+
+const FOLDER: Argument = argument!("DIR", Form::Word, "The folder of the tree");
+
+pub(crate) const CHECK: [Argument; 3] = [
+    PROFILE,
+    EXPRESSION,
+    argument!(
+        "TERM",
+        Form::Words,
+        "The terms that were chosen, a word each"
+    ),
+];
+
+pub(crate) const ALTERNATIVES: [Argument; 2] = [PROFILE, EXPRESSION];
+
+pub(crate) const SCRIPT: [Argument; 3] = [
+    OPTIONAL_DATABASE,
+    argument!(
+        "EXPLAIN",
+        Form::Flag("explain"),
+        "Tells each line that is not done on standard error"
+    ),
+    argument!(
+        "STOP",
+        Form::Flag("stop"),
+        "Ends with the first line that is not done"
+    ),
+];
+
+pub(crate) const IMPORT: [Argument; 3] = [DATABASE, PROFILE, DOCUMENT];
+
+pub(crate) const CATALOGUE: [Argument; 2] = [
+    DATABASE,
+    argument!("TOML", Form::Word, "The file of the catalogue"),
+];
+
+// For each subcommand about a release.
+pub(crate) const RELEASE: [Argument; 2] = [
+    DATABASE,
+    argument!("RELEASE", Form::Word, "The name of the release"),
+];
+
+pub(crate) const CHANGES: [Argument; 2] = [
+    DATABASE,
+    argument!("DUTY", Form::Count(u32::MAX), "The number of the duty"),
+];
+
+// For `audit` and `migrate`.
+pub(crate) const FILE: [Argument; 1] = [DATABASE];
+
+pub(crate) const GATHER: [Argument; 4] = [
+    FOLDER,
+    argument!(
+        "NAME",
+        Form::Wanted("name"),
+        "The name of the document and of its package"
+    ),
+    argument!(
+        "NAMESPACE",
+        Form::Wanted("namespace"),
+        "The URI that no other document has"
+    ),
+    argument!(
+        "CREATED",
+        Form::Wanted("created"),
+        "When it is made, as 2025-01-01T00:00:00Z"
+    ),
+];
+
+pub(crate) const LINT: [Argument; 2] = [
+    FOLDER,
+    argument!("JSON", Form::Flag("json"), "Prints one JSON object"),
+];
+
+pub(crate) const SERVE: [Argument; 3] = [
+    DATABASE,
+    argument!(
+        "PORT",
+        Form::Number("port", 65_535),
+        "The port, up to 65535; 0 takes a free one"
+    ),
+    argument!(
+        "N",
+        Form::Number("limit", 1_000_000),
+        "How many connections it serves, up to 1000000"
+    ),
+];
+
+pub(crate) const EXPLAIN: [Argument; 1] = [argument!(
+    "NAME",
+    Form::Word,
+    "The name, as the desk prints it"
+)];
+
+pub(crate) const PROPOSE: [Argument; 4] = [
+    OPTIONAL_DATABASE,
+    argument!(
+        "PROFILE",
+        Form::Optional("profile"),
+        "How operators are written: 1 AND, OR, WITH, if it isn't given; 2 also and, or, with"
+    ),
+    argument!(
+        "N",
+        Form::OptionalNumber("document", u32::MAX),
+        "The number that import gave the document"
+    ),
+    argument!(
+        "DOC",
+        Form::Word,
+        "The file of the document, or with --db its number"
+    ),
+];
+
+pub(crate) const LIST: [Argument; 6] = [
+    DATABASE,
+    argument!(
+        "RELEASE",
+        Form::Optional("release"),
+        "The release whose duties are listed"
+    ),
+    argument!(
+        "CODE",
+        Form::Optional("code"),
+        "The code of the duties that are listed"
+    ),
+    argument!(
+        "OPEN",
+        Form::Flag("open"),
+        "Lists the duties that are open alone"
+    ),
+    argument!(
+        "DAY",
+        Form::Optional("past"),
+        "Lists the duties whose waivers' last days lie before this day, YYYY-MM-DD"
+    ),
+    argument!("WHAT", Form::Word, "releases, documents or duties"),
+];
+
+pub(crate) const CONVERT: [Argument; 1] = [argument!(
+    "JSON",
+    Form::Word,
+    "The file of the document"
+)];
 
 /// A whole number up to this one.
 fn whole<'a>(most: u32) -> ValueParser<'a>
@@ -105,13 +235,13 @@ fn arg<'a>(alloc: Global, row: &Argument) -> Arg<'a>
     match row.form {
         Form::Word => arg.required(true),
         Form::Words => arg.required(true).num_args(1..),
-        Form::Preset { long, value } => arg.long(long).default_value(value),
-        Form::Wanted { long } => arg.long(long).required(true),
-        Form::Optional { long } => arg.long(long),
-        Form::Flag { long } => arg.long(long).action(ArgAction::SetTrue),
-        Form::Count { most } => arg.required(true).value_parser(whole(most)),
-        Form::Number { long, most } => arg.long(long).required(true).value_parser(whole(most)),
-        Form::OptionalNumber { long, most } => arg.long(long).value_parser(whole(most)),
+        Form::Preset(long, value) => arg.long(long).default_value(value),
+        Form::Wanted(long) => arg.long(long).required(true),
+        Form::Optional(long) => arg.long(long),
+        Form::Flag(long) => arg.long(long).action(ArgAction::SetTrue),
+        Form::Count(most) => arg.required(true).value_parser(whole(most)),
+        Form::Number(long, most) => arg.long(long).required(true).value_parser(whole(most)),
+        Form::OptionalNumber(long, most) => arg.long(long).value_parser(whole(most)),
     }
 }
 

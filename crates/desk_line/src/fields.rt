@@ -5,9 +5,12 @@ ghost use Rattle.std.specs.List.{list_any};
 ghost use Rattle.clap.specs.Words.{found_of, rows_of};
 ghost use Rattle.desk_line.specs.Fields.{begins_otherwise, ends_otherwise, can_stand};
 ghost use Rattle.desk_line.specs.Calls.{field_in};
+ghost use Rattle.desk_line.specs.Unfound.{IsFound};
 
-use crate::values::text_in;
+use crate::values::{Unfound, text_in, wanted};
 use clap::ArgMatches;
+use desk_base::Text;
+use std::alloc::Global;
 
 fn has_feed(value: &[u8]) -> bool
     ensures { result ≡ list_any (λ b. b == 10) value.now }
@@ -35,7 +38,7 @@ fn can_stand(value: &[u8]) -> bool
 }
 
 /// A value that can be written in a field, or `None` if it can't or isn't given.
-pub(crate) fn field_in<'a>(matches: &ArgMatches<'a>, id: &str) -> Option<&'a str>
+fn field_in<'a>(matches: &ArgMatches<'a>, id: &str) -> Option<&'a str>
     ensures { option_map (λ s. s.now) result ≡ field_in id.now (rows_of (found_of matches.now)) }
 {
     let value = text_in(matches, id)?;
@@ -44,4 +47,16 @@ pub(crate) fn field_in<'a>(matches: &ArgMatches<'a>, id: &str) -> Option<&'a str
     } else {
         None
     }
+}
+
+/// A copy of a value that must be there and can be written in a field.
+pub(crate) fn wanted_field(
+    alloc: Global,
+    matches: &ArgMatches<'_>,
+    id: &str,
+) -> Result<Text, Unfound>
+    ensures { IsFound (field_in id.now (rows_of (found_of matches.now))) result }
+{
+    let value = wanted(field_in(matches, id))?;
+    Ok(Text::of(alloc, value)?)
 }

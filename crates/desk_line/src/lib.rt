@@ -8,27 +8,19 @@
 //! No contract covers the texts of help and usage.
 #![tactic(auto)]
 
-mod alternatives;
 mod arguments;
-mod audit;
 mod call;
-mod catalogue;
-mod check;
-mod convert;
-mod explain;
+mod calls;
 mod fields;
-mod freezing;
-mod gather;
-mod import;
-mod lint;
+mod files;
 mod lists;
-mod migrate;
 mod propose;
 mod reading;
 mod reports;
 mod script;
-mod serve;
 mod subcommands;
+mod texts;
+mod trees;
 mod values;
 
 pub use call::{Call, FileCall, LineFault, Listed};

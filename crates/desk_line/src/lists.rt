@@ -1,47 +1,16 @@
 //! The subcommand that lists what a desk holds.
 
-ghost use Rattle.std.specs.Prelude.{◌≡◌, IfOk, codes, option_map};
+ghost use Rattle.std.specs.Prelude.{◌≡◌, IfOk, option_map};
 ghost use Rattle.clap.specs.Words.{found_of, rows_of};
 ghost use Rattle.desk_base.specs.Day.{is_day};
 ghost use Rattle.desk_line.specs.Calls.{filter_in, has_filter, is_day_if_given, list_in, listed_as, listed_in};
+ghost use Rattle.desk_line.specs.Unfound.{IsFound};
 
-use crate::arguments::{Argument, DATABASE, Form};
 use crate::call::{Call, FileCall, Listed};
-use crate::script::copied_text;
-use crate::values::{is_true, text_in};
+use crate::values::{Unfound, is_used, optional_text, text_in, wanted, wanted_text};
 use clap::ArgMatches;
 use desk_base::{Day, Text};
 use std::alloc::{AllocError, Global};
-
-/// Its arguments.
-pub(crate) const ARGUMENTS: [Argument; 6] = [
-    DATABASE,
-    Argument {
-        name: "RELEASE",
-        form: Form::Optional { long: "release" },
-        help: "The release whose duties are listed",
-    },
-    Argument {
-        name: "CODE",
-        form: Form::Optional { long: "code" },
-        help: "The code of the duties that are listed",
-    },
-    Argument {
-        name: "OPEN",
-        form: Form::Flag { long: "open" },
-        help: "Lists the duties that are open alone",
-    },
-    Argument {
-        name: "DAY",
-        form: Form::Optional { long: "past" },
-        help: "Lists the duties whose waivers' last days lie before this day, YYYY-MM-DD",
-    },
-    Argument {
-        name: "WHAT",
-        form: Form::Word,
-        help: "releases, documents or duties",
-    },
-];
 
 /// Which duties are listed.
 #[derive(Drop)]
@@ -56,10 +25,10 @@ fn filter_in(alloc: Global, matches: &ArgMatches<'_>) -> Result<Filter, AllocErr
     ensures { IfOk result (λ filter. filter ≡ filter_in (rows_of (found_of matches.now))) }
 {
     Ok(Filter {
-        release: copied_text(alloc, text_in(matches, "RELEASE"))?,
-        code: copied_text(alloc, text_in(matches, "CODE"))?,
-        is_open: is_true(text_in(matches, "OPEN")),
-        past: copied_text(alloc, text_in(matches, "DAY"))?,
+        release: optional_text(alloc, matches, "RELEASE")?,
+        code: optional_text(alloc, matches, "CODE")?,
+        is_open: is_used(matches, "OPEN"),
+        past: optional_text(alloc, matches, "DAY")?,
     })
 }
 
@@ -114,32 +83,23 @@ fn listed_as(what: &str, filter: Filter) -> Option<Listed>
     None
 }
 
-fn listed_in(alloc: Global, matches: &ArgMatches<'_>) -> Result<Option<Listed>, AllocError>
-    ensures { IfOk result (λ r. r ≡ listed_in (rows_of (found_of matches.now))) }
+fn listed_in(alloc: Global, matches: &ArgMatches<'_>) -> Result<Listed, Unfound>
+    ensures { IsFound (listed_in (rows_of (found_of matches.now))) result }
 {
     if !is_day_if_given(text_in(matches, "DAY")) {
-        return Ok(None);
+        return Err(Unfound::Lacking);
     }
+    let what = wanted(text_in(matches, "WHAT"))?;
     let filter = filter_in(alloc, matches)?;
-    match text_in(matches, "WHAT") {
-        Some(what) => Ok(listed_as(what, filter)),
-        None => Ok(None),
-    }
+    wanted(listed_as(what, filter))
 }
 
-/// The call with the values of these matches, or `None` if they lack one or one isn't allowed.
-pub(crate) fn list_from(alloc: Global, matches: &ArgMatches<'_>) -> Result<Option<Call>, AllocError>
-    ensures { IfOk result (λ r. r ≡ list_in (rows_of (found_of matches.now))) }
+/// The call of `list`.
+pub(crate) fn list_from(alloc: Global, matches: &ArgMatches<'_>) -> Result<Call, Unfound>
+    ensures { IsFound (list_in (rows_of (found_of matches.now))) result }
 {
-    let Some(list) = listed_in(alloc, matches)? else {
-        return Ok(None);
-    };
-    let Some(database) = text_in(matches, "FILE") else {
-        return Ok(None);
-    };
-    let database = Text::of(alloc, database)?;
-    Ok(Some(Call::File {
-        database,
-        call: FileCall::List { list },
-    }))
+    let list = listed_in(alloc, matches)?;
+    let database = wanted_text(alloc, matches, "FILE")?;
+    let call = FileCall::List { list };
+    Ok(Call::File { database, call })
 }

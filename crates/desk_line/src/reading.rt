@@ -3,10 +3,12 @@
 ghost use Rattle.std.specs.Prelude.{◌≡◌, Some, IfOk, IfErr, map};
 ghost use Rattle.clap.specs.Words.{IsAmong, subcommand_rows_of};
 ghost use Rattle.desk_line.specs.Calls.{call_at, call_of, lacking, IsFault, IsFaultOf, IsLack, IsLackOf};
+ghost use Rattle.desk_line.specs.Unfound.{IsFound};
 
 use crate::call::{Call, LineFault};
+use crate::calls::call_from;
 use crate::subcommands::desk_command;
-use crate::values::call_from;
+use crate::values::Unfound;
 use clap::error::ErrorKind;
 use clap::{ArgMatches, Command, Error};
 use std::alloc::{AllocError, Global};
@@ -37,12 +39,12 @@ impl From<AllocError> for LineFault {
 }
 
 /// The call of the subcommand that was found.
-fn call_found(alloc: Global, matches: &ArgMatches<'_>) -> Result<Option<Call>, AllocError>
-    ensures { IfOk result (λ call. call ≡ call_at (subcommand_rows_of matches.now)) }
+fn call_found(alloc: Global, matches: &ArgMatches<'_>) -> Result<Call, Unfound>
+    ensures { IsFound (call_at (subcommand_rows_of matches.now)) result }
 {
     match matches.subcommand() {
         Some((name, inner)) => call_from(alloc, name, inner),
-        None => Ok(None),
+        None => Err(Unfound::Lacking),
     }
 }
 
@@ -89,9 +91,10 @@ fn call_or_lack(
     ensures call { IfOk result (λ call. call_at (subcommand_rows_of matches.now) ≡ Some call) }
     ensures fault { IfErr result (IsLackOf (subcommand_rows_of matches.now)) }
 {
-    match call_found(alloc, matches)? {
-        Some(call) => Ok(call),
-        None => Err(lack(command, matches)),
+    match call_found(alloc, matches) {
+        Ok(call) => Ok(call),
+        Err(Unfound::Lacking) => Err(lack(command, matches)),
+        Err(Unfound::Memory) => Err(LineFault::Memory(AllocError)),
     }
 }
 

@@ -8,11 +8,7 @@ ghost use Rattle.desk_line.specs.Calls.{kind_at};
 ghost use Rattle.desk_line.specs.Rows.{kind_named, row_app, row_shape};
 ghost use Rattle.desk_line.specs.Words.{desk_alone, desk_app};
 
-use crate::arguments::{Argument, args};
-use crate::{
-    alternatives, audit, catalogue, check, convert, explain, freezing, gather, import, lint, lists,
-    migrate, propose, reports, script, serve,
-};
+use crate::arguments::{self, Argument, args};
 use clap::Command;
 use desk_help::Help;
 use std::alloc::{AllocError, Global};
@@ -57,143 +53,69 @@ pub(crate) enum Kind {
 /// A subcommand: its name and its arguments.
 #[derive(Clone, Copy)]
 pub(crate) struct Subcommand {
-    pub(crate) kind: Kind,
-    pub(crate) name: &'static str,
-    pub(crate) arguments: &'static [Argument],
+    kind: Kind,
+    name: &'static str,
+    arguments: &'static [Argument],
+}
+
+macro_rules! subcommand {
+    ($kind:expr, $name:literal, $arguments:expr) => {
+        Subcommand {
+            kind: $kind,
+            name: $name,
+            arguments: &$arguments,
+        }
+    };
 }
 
 /// The subcommands.
-pub(crate) const SUBCOMMANDS: [Subcommand; 21] = [
-    Subcommand {
-        kind: Kind::Check,
-        name: "check",
-        arguments: &check::ARGUMENTS,
-    },
-    Subcommand {
-        kind: Kind::Alternatives,
-        name: "alternatives",
-        arguments: &alternatives::ARGUMENTS,
-    },
-    Subcommand {
-        kind: Kind::Script,
-        name: "script",
-        arguments: &script::ARGUMENTS,
-    },
-    Subcommand {
-        kind: Kind::Import,
-        name: "import",
-        arguments: &import::ARGUMENTS,
-    },
-    Subcommand {
-        kind: Kind::Catalogue,
-        name: "catalogue",
-        arguments: &catalogue::ARGUMENTS,
-    },
-    Subcommand {
-        kind: Kind::Notices,
-        name: "notices",
-        arguments: &reports::RELEASE_ARGUMENTS,
-    },
-    Subcommand {
-        kind: Kind::Duties,
-        name: "duties",
-        arguments: &reports::RELEASE_ARGUMENTS,
-    },
-    Subcommand {
-        kind: Kind::Totals,
-        name: "totals",
-        arguments: &reports::RELEASE_ARGUMENTS,
-    },
-    Subcommand {
-        kind: Kind::Changes,
-        name: "changes",
-        arguments: &reports::DUTY_ARGUMENTS,
-    },
-    Subcommand {
-        kind: Kind::Audit,
-        name: "audit",
-        arguments: &audit::ARGUMENTS,
-    },
-    Subcommand {
-        kind: Kind::Migrate,
-        name: "migrate",
-        arguments: &migrate::ARGUMENTS,
-    },
-    Subcommand {
-        kind: Kind::Gather,
-        name: "gather",
-        arguments: &gather::ARGUMENTS,
-    },
-    Subcommand {
-        kind: Kind::Lint,
-        name: "lint",
-        arguments: &lint::ARGUMENTS,
-    },
-    Subcommand {
-        kind: Kind::Serve,
-        name: "serve",
-        arguments: &serve::ARGUMENTS,
-    },
-    Subcommand {
-        kind: Kind::Explain,
-        name: "explain",
-        arguments: &explain::ARGUMENTS,
-    },
-    Subcommand {
-        kind: Kind::Propose,
-        name: "propose",
-        arguments: &propose::ARGUMENTS,
-    },
-    Subcommand {
-        kind: Kind::Choices,
-        name: "choices",
-        arguments: &reports::RELEASE_ARGUMENTS,
-    },
-    Subcommand {
-        kind: Kind::Wanting,
-        name: "wanting",
-        arguments: &reports::RELEASE_ARGUMENTS,
-    },
-    Subcommand {
-        kind: Kind::List,
-        name: "list",
-        arguments: &lists::ARGUMENTS,
-    },
-    Subcommand {
-        kind: Kind::Page,
-        name: "page",
-        arguments: &reports::RELEASE_ARGUMENTS,
-    },
-    Subcommand {
-        kind: Kind::Convert,
-        name: "convert",
-        arguments: &convert::ARGUMENTS,
-    },
+const SUBCOMMANDS: [Subcommand; 21] = [
+    subcommand!(Kind::Check, "check", arguments::CHECK),
+    subcommand!(Kind::Alternatives, "alternatives", arguments::ALTERNATIVES),
+    subcommand!(Kind::Script, "script", arguments::SCRIPT),
+    subcommand!(Kind::Import, "import", arguments::IMPORT),
+    subcommand!(Kind::Catalogue, "catalogue", arguments::CATALOGUE),
+    subcommand!(Kind::Notices, "notices", arguments::RELEASE),
+    subcommand!(Kind::Duties, "duties", arguments::RELEASE),
+    subcommand!(Kind::Totals, "totals", arguments::RELEASE),
+    subcommand!(Kind::Changes, "changes", arguments::CHANGES),
+    subcommand!(Kind::Audit, "audit", arguments::FILE),
+    subcommand!(Kind::Migrate, "migrate", arguments::FILE),
+    subcommand!(Kind::Gather, "gather", arguments::GATHER),
+    subcommand!(Kind::Lint, "lint", arguments::LINT),
+    subcommand!(Kind::Serve, "serve", arguments::SERVE),
+    subcommand!(Kind::Explain, "explain", arguments::EXPLAIN),
+    subcommand!(Kind::Propose, "propose", arguments::PROPOSE),
+    subcommand!(Kind::Choices, "choices", arguments::RELEASE),
+    subcommand!(Kind::Wanting, "wanting", arguments::RELEASE),
+    subcommand!(Kind::List, "list", arguments::LIST),
+    subcommand!(Kind::Page, "page", arguments::RELEASE),
+    subcommand!(Kind::Convert, "convert", arguments::CONVERT),
 ];
 
-fn help_of(kind: Kind) -> Help {
+fn help_of(kind: Kind) -> &'static Help {
     match kind {
-        Kind::Check => desk_help::CHECK,
-        Kind::Alternatives => desk_help::ALTERNATIVES,
-        Kind::Script => desk_help::SCRIPT,
-        Kind::Import => desk_help::IMPORT,
-        Kind::Catalogue => desk_help::CATALOGUE,
-        Kind::Notices => desk_help::NOTICES,
-        Kind::Duties => desk_help::DUTIES,
-        Kind::Totals => desk_help::TOTALS,
-        Kind::Changes => desk_help::CHANGES,
-        Kind::Audit => desk_help::AUDIT,
-        Kind::Migrate => desk_help::MIGRATE,
-        Kind::Gather => desk_help::GATHER,
-        Kind::Lint => desk_help::LINT,
-        Kind::Serve => desk_help::SERVE,
-        Kind::Explain => desk_help::EXPLAIN,
-        Kind::Propose => desk_help::PROPOSE,
-        Kind::Choices => desk_help::CHOICES,
-        Kind::Wanting => desk_help::WANTING,
-        Kind::List => desk_help::LISTS,
-        Kind::Page => desk_help::PAGE,
-        Kind::Convert => desk_help::CONVERT,
+        Kind::Check => &desk_help::CHECK,
+        Kind::Alternatives => &desk_help::ALTERNATIVES,
+        Kind::Script => &desk_help::SCRIPT,
+        Kind::Import => &desk_help::IMPORT,
+        Kind::Catalogue => &desk_help::CATALOGUE,
+        Kind::Notices => &desk_help::NOTICES,
+        Kind::Duties => &desk_help::DUTIES,
+        Kind::Totals => &desk_help::TOTALS,
+        Kind::Changes => &desk_help::CHANGES,
+        Kind::Audit => &desk_help::AUDIT,
+        Kind::Migrate => &desk_help::MIGRATE,
+        Kind::Gather => &desk_help::GATHER,
+        Kind::Lint => &desk_help::LINT,
+        Kind::Serve => &desk_help::SERVE,
+        Kind::Explain => &desk_help::EXPLAIN,
+        Kind::Propose => &desk_help::PROPOSE,
+        Kind::Choices => &desk_help::CHOICES,
+        Kind::Wanting => &desk_help::WANTING,
+        Kind::List => &desk_help::LISTS,
+        Kind::Page => &desk_help::PAGE,
+        Kind::Convert => &desk_help::CONVERT,
     }
 }
 
@@ -217,7 +139,7 @@ pub(crate) fn kind_at(name: &str) -> Option<Kind>
 }
 
 /// A command with a name and its help, and nothing else.
-fn titled<'a>(alloc: Global, name: &'static str, help: Help) -> Command<'a>
+fn titled<'a>(alloc: Global, name: &'static str, help: &'static Help) -> Command<'a>
     ensures app { app_of result ≡ new_app name.now }
     ensures local { (out-Command result).has_globals ≡ false }
 {
@@ -262,7 +184,7 @@ fn desk_alone<'a>(alloc: Global) -> Command<'a>
 }
 
 /// The whole command.
-pub fn desk_command<'a>(alloc: Global) -> Result<Command<'a>, AllocError>
+pub(crate) fn desk_command<'a>(alloc: Global) -> Result<Command<'a>, AllocError>
     ensures shape { IfOk result (λ c. app_of c ≡ desk_app) }
     ensures local { IfOk result (λ c. (out-Command c).has_globals ≡ false) }
 {

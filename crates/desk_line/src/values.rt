@@ -2,29 +2,42 @@
 
 ghost use Rattle.std.specs.Prelude.{◌≡◌, IfOk, map, option_map};
 ghost use Rattle.clap.specs.Words.{all_of, first_of, found_of, rows_of};
-ghost use Rattle.desk_line.specs.Calls.{call_in, is_true, profile_in, profile_written};
+ghost use Rattle.desk_line.specs.Calls.{is_true, number_in, profile_in, profile_written};
+ghost use Rattle.desk_line.specs.Unfound.{IsFound};
 
-use crate::alternatives::alternatives_from;
-use crate::audit::audit_from;
-use crate::call::Call;
-use crate::catalogue::catalogue_from;
-use crate::check::check_from;
-use crate::convert::convert_from;
-use crate::explain::explain_from;
-use crate::freezing::{choices_from, wanting_from};
-use crate::gather::gather_from;
-use crate::import::import_from;
-use crate::lint::lint_from;
-use crate::lists::list_from;
-use crate::migrate::migrate_from;
-use crate::propose::propose_from;
-use crate::reports::{changes_from, duties_from, notices_from, page_from, totals_from};
-use crate::script::script_from;
-use crate::serve::serve_from;
-use crate::subcommands::{Kind, kind_at};
 use clap::ArgMatches;
 use desk_base::{Items, Profile, Text};
 use std::alloc::{AllocError, Global};
+
+/// Why there is no value or no call.
+#[derive(Clone, Copy, Drop)]
+pub(crate) enum Unfound {
+    /// A value is missing or isn't allowed.
+    Lacking,
+    /// There is no memory for it.
+    Memory,
+}
+
+impl From<AllocError> for Unfound {
+    ghost use Rattle.std.specs.Prelude.{◌≡◌};
+    ghost use Rattle.desk_line.specs.declared.values.Unfound.TheVariants.{Memory};
+
+    ghost from_gives = { λ _ unfound. unfound ≡ Memory };
+
+    fn from(_error: AllocError) -> Unfound {
+        Unfound::Memory
+    }
+}
+
+/// A value that must be there.
+pub(crate) fn wanted<T>(value: Option<T>) -> Result<T, Unfound>
+    ensures { IsFound value result }
+{
+    match value {
+        Some(value) => Ok(value),
+        None => Err(Unfound::Lacking),
+    }
+}
 
 pub(crate) fn text_in<'a>(matches: &ArgMatches<'a>, id: &str) -> Option<&'a str>
     ensures { option_map (λ s. s.now) result ≡ first_of id.now (rows_of (found_of matches.now)) }
@@ -32,15 +45,30 @@ pub(crate) fn text_in<'a>(matches: &ArgMatches<'a>, id: &str) -> Option<&'a str>
     matches.get_str(id)
 }
 
-pub(crate) fn texts_in(
+/// A copy of a value that must be there.
+pub(crate) fn wanted_text(
     alloc: Global,
     matches: &ArgMatches<'_>,
     id: &str,
-) -> Result<Option<Items<Text>>, AllocError>
-    ensures { IfOk result (λ r. r ≡ all_of id.now (rows_of (found_of matches.now))) }
+) -> Result<Text, Unfound>
+    ensures { IsFound (first_of id.now (rows_of (found_of matches.now))) result }
 {
-    match matches.get_strs(id) {
-        Some(values) => Ok(Some(copied(alloc, values)?)),
+    match text_in(matches, id) {
+        Some(text) => Ok(Text::of(alloc, text)?),
+        None => Err(Unfound::Lacking),
+    }
+}
+
+/// A copy of a value, if it is there.
+pub(crate) fn optional_text(
+    alloc: Global,
+    matches: &ArgMatches<'_>,
+    id: &str,
+) -> Result<Option<Text>, AllocError>
+    ensures { IfOk result (λ text. text ≡ first_of id.now (rows_of (found_of matches.now))) }
+{
+    match text_in(matches, id) {
+        Some(text) => Ok(Some(Text::of(alloc, text)?)),
         None => Ok(None),
     }
 }
@@ -56,14 +84,35 @@ fn copied(alloc: Global, values: &[&str]) -> Result<Items<Text>, AllocError>
     Ok(texts)
 }
 
-/// Whether a flag is used.
-pub(crate) fn is_true(value: Option<&str>) -> bool
-    ensures { result ≡ is_true (option_map (λ s. s.now) value.entry) }
+/// Copies of the values of an argument that must be there.
+pub(crate) fn wanted_texts(
+    alloc: Global,
+    matches: &ArgMatches<'_>,
+    id: &str,
+) -> Result<Items<Text>, Unfound>
+    ensures { IsFound (all_of id.now (rows_of (found_of matches.now))) result }
 {
-    match value {
+    match matches.get_strs(id) {
+        Some(values) => Ok(copied(alloc, values)?),
+        None => Err(Unfound::Lacking),
+    }
+}
+
+/// Whether a flag is used.
+pub(crate) fn is_used(matches: &ArgMatches<'_>, id: &str) -> bool
+    ensures { result ≡ is_true (first_of id.now (rows_of (found_of matches.now))) }
+{
+    match text_in(matches, id) {
         Some(value) => value == "true",
         None => false,
     }
+}
+
+/// The number that a value is.
+pub(crate) fn number_in(matches: &ArgMatches<'_>, id: &str) -> Option<u32>
+    ensures { result ≡ number_in 32 id.now (rows_of (found_of matches.now)) }
+{
+    matches.get_one(id)
 }
 
 /// The profile whose number a text is.
@@ -80,39 +129,4 @@ pub(crate) fn profile_in(matches: &ArgMatches<'_>) -> Option<Profile>
     ensures { result ≡ profile_in (rows_of (found_of matches.now)) }
 {
     profile_written(text_in(matches, "PROFILE")?)
-}
-
-/// The call of a subcommand with these matches, or `None` if they lack a value, a value isn't
-/// allowed, or no subcommand has the name.
-pub fn call_from(
-    alloc: Global,
-    name: &str,
-    matches: &ArgMatches<'_>,
-) -> Result<Option<Call>, AllocError>
-    ensures { IfOk result (λ r. r ≡ call_in name.now (rows_of (found_of matches.now))) }
-{
-    match kind_at(name) {
-        Some(Kind::Check) => check_from(alloc, matches),
-        Some(Kind::Alternatives) => alternatives_from(alloc, matches),
-        Some(Kind::Script) => Ok(Some(script_from(alloc, matches)?)),
-        Some(Kind::Import) => import_from(alloc, matches),
-        Some(Kind::Catalogue) => catalogue_from(alloc, matches),
-        Some(Kind::Notices) => notices_from(alloc, matches),
-        Some(Kind::Duties) => duties_from(alloc, matches),
-        Some(Kind::Totals) => totals_from(alloc, matches),
-        Some(Kind::Changes) => changes_from(alloc, matches),
-        Some(Kind::Audit) => audit_from(alloc, matches),
-        Some(Kind::Migrate) => migrate_from(alloc, matches),
-        Some(Kind::Gather) => gather_from(alloc, matches),
-        Some(Kind::Lint) => lint_from(alloc, matches),
-        Some(Kind::Serve) => serve_from(alloc, matches),
-        Some(Kind::Explain) => explain_from(alloc, matches),
-        Some(Kind::Propose) => propose_from(alloc, matches),
-        Some(Kind::Choices) => choices_from(alloc, matches),
-        Some(Kind::Wanting) => wanting_from(alloc, matches),
-        Some(Kind::List) => list_from(alloc, matches),
-        Some(Kind::Page) => page_from(alloc, matches),
-        Some(Kind::Convert) => convert_from(alloc, matches),
-        None => Ok(None),
-    }
 }
