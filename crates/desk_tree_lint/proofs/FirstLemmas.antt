@@ -1,18 +1,19 @@
--- First mentions in a map.
-use Rattle.std.proofs.Common.{◌≡◌, ◌∙◌, ◌+◌, ◌<◌, inl, inr, subst, sym, ℕ, Bool, true, false, cond, List, [], ◌∷◌, ◌++◌, length, get_or, take, map, Option, Some, None, ap, refl, nat_cmp, is_eq, Ordering}
-use Rattle.std.specs.Prelude.{Vec, Result, OnOk, is_some, option_map, ◌⊎◌, ◌||◌, not, filter}
-use Rattle.std.specs.List.{flat_map}
+-- First mentions of keys.
+use Rattle.std.proofs.Common.{◌≡◌, ◌∙◌, ◌+◌, ◌<◌, inl, inr, subst, sym, ℕ, zero, suc, Bool, true, false, cond, List, [], ◌∷◌, ◌++◌, length, get_or, set, take, map, Option, Some, None, ap, refl, arith, nat_cmp, is_eq, Less}
+use Rattle.std.specs.Option.{option_copied}
+use Rattle.std.specs.Prelude.{Result, OnOk, is_some, option_map, ◌⊎◌, ◌||◌, not, filter}
+use Rattle.std.specs.List.{flat_map, AllByRecursion}
+use Rattle.std.specs.List.Sorted.{IsStrictlySortedBy}
 use Rattle.std.specs.Str.{bytes_eq}
-use Rattle.std.specs.declared.alloc.Global.{Global}
 use Rattle.std.specs.Cmp.Lexicographic.{slice_cmp}
-use Rattle.std.specs.BTreeMap.{Updates, is_at}
-use Rattle.std.specs.Map.{lookup, IsKeyTest, AreApart, KeepsOthers}
-use Rattle.std.specs.Ordering.{eq_by_cmp}
 use Rattle.std.proofs.lemmas.Bool.{cases_Bool, false≢true}
-use Rattle.std.proofs.lemmas.List.{append_assoc, append-nil, flat_map_more, map_more, take_more}
-use Rattle.std.proofs.lemmas.Cmp.{eq_by_cmp_equiv, nat_list_cmp_total, nat_list_eq_equiv}
+use Rattle.std.proofs.lemmas.List.{append_assoc, append-nil, flat_map_more, get_or-map, length-map, map_more, map_push, map-set, take_more}
+use Rattle.std.proofs.lemmas.Cmp.{nat_list_eq_equiv}
 use Rattle.std.proofs.lemmas.Slice.Eq.{bytes_eq-Decides}
 use Rattle.std.proofs.lemmas.Map.Text.{is_eq-slice_cmp}
+use denote.Ref.{Bor}
+use Rattle.desk_base.specs.Borrowed.{texts}
+use Rattle.desk_tree_lint.specs.declared.naming.Asked.{Asked}
 use Rattle.desk_tree_lint.specs.declared.naming.Mention.{Mention}
 use Rattle.desk_tree_gather.specs.declared.gathering.FileInfo.{FileInfo}
 use Rattle.desk_catalogue.specs.Values.{is_among}
@@ -21,35 +22,10 @@ use Rattle.desk_tree_gather.specs.declared.information.Subject.TheVariants.{Lice
 use Rattle.desk_tree_gather.specs.Firsts.{first_in, firsts_behind, firsts_of}
 use Rattle.desk_tree_gather.specs.Information.{or_else}
 use Rattle.desk_tree_gather.proofs.AmongLemmas.{among-append}
-use Rattle.desk_tree_lint.specs.Firsts.{Firsts, mention_in, mentions_shown, mentions_of, first_mentions, kept_for, Holds}
+use Rattle.desk_tree_lint.specs.Firsts.{AskedText, asked_in, asked_of, keys_asked, mention_in, mentions_of, first_mentions, Holds}
 use Rattle.desk_tree_lint.specs.Naming.{MentionText, mention, ids, mentions_by, mentions, first_with}
 use Rattle.desk_tree_lint.specs.Texts.{key_of}
-
-abbrev key_cmp : Vec ℕ Global → Vec ℕ Global → Ordering
-key_cmp a b = slice_cmp nat_cmp a.items b.items
-
-module _ (eq : Vec ℕ Global → Vec ℕ Global → Bool) (test : Vec ℕ Global → Bool) where
-  other_entries : (old new : List (Vec ℕ Global × Mention)) → KeepsOthers eq test old new → (other : Vec ℕ Global → Bool) → IsKeyTest eq other → AreApart test other → lookup other new ≡ lookup other old
-  unfolding KeepsOthers
-  other_entries old new h = h
-
-apart_in_order : (bs cs ks : List ℕ) → bytes_eq bs cs ≡ false → is_eq (slice_cmp nat_cmp bs ks) ≡ true → is_eq (slice_cmp nat_cmp cs ks) ≡ false
-apart_in_order bs cs ks differs same =
-    is_eq-slice_cmp cs ks ∙ nat_list_eq_equiv.symm cs ks ∙ sym (nat_list_eq_equiv.congr bs ks cs (sym (is_eq-slice_cmp bs ks) ∙ same)) ∙ differs
-
--- one more key in the map
-pub kept_for-insert : (key : Vec ℕ Global) (name : List ℕ) (x : Mention) (old new : Firsts) → key.items ≡ name → Updates key_cmp old new key (Some x) → (q : List ℕ)
-    → kept_for new q ≡ cond (bytes_eq name q) (Some (mention_in x)) (kept_for old q)
-kept_for-insert key name x old new is updates q =
-    elim (cases_Bool (bytes_eq key.items q)) [
-      | inl here ↦
-          subst (λ l. kept_for new l ≡ Some (mention_in x)) ((bytes_eq-Decides key.items q).0 here) (ap (option_map mention_in) updates.1)
-          ∙ sym (ap (λ b. cond b (Some (mention_in x)) (kept_for old q)) (ap (λ f. bytes_eq f q) (sym is) ∙ here))
-      | inr away ↦
-          ap (option_map mention_in) (other_entries (eq_by_cmp key_cmp) (is_at (key_cmp key)) old.entries new.entries updates.3 (λ k. is_eq (slice_cmp nat_cmp q k.items))
-          (λ a b. (eq_by_cmp_equiv nat_list_cmp_total).congr q a.items b.items) (λ k. apart_in_order key.items q k.items away))
-          ∙ sym (ap (λ b. cond b (Some (mention_in x)) (kept_for old q)) (ap (λ f. bytes_eq f q) (sym is) ∙ away))
-    ]
+use Rattle.desk_tree_lint.proofs.OrderLemmas.{or_true}
 
 -- ---- one mention after others
 
@@ -68,47 +44,173 @@ known_one b m (Some x) some = refl
 known_one true m None some = absurd (false≢true (some refl))
 known_one false m None some = refl
 
-new_one : (b : Bool) (m : MentionText) (old : Option MentionText) → (b ≡ true → is_some old ≡ false) → cond b (Some m) old ≡ or_else old (cond b (Some m) None)
-new_one true m None none = refl
-new_one true m (Some x) none = absurd (false≢true (sym (none refl)))
-new_one false m None none = refl
-new_one false m (Some x) none = refl
-
 pub some_shown : (o : Option Mention) → is_some (option_map mention_in o) ≡ is_some o
 some_shown None = refl
 some_shown (Some m) = refl
 
--- a mention changes nothing if its key is kept already
-pub kept_before : (m : Mention) (firsts : Firsts) (name : List ℕ) → name ≡ key_of m.id.now → is_some (kept_for firsts name) ≡ true
-    → (ms : List MentionText) → Holds ms firsts → Holds (ms ++ mention_in m ∷ []) firsts
-kept_before m firsts name is some ms holds key =
-    known_one (bytes_eq name key) (mention_in m) (kept_for firsts key) (λ same. subst (λ n. is_some (kept_for firsts n) ≡ true) ((bytes_eq-Decides name key).0 same) some)
-    ∙ ap (λ o. or_else o (cond (bytes_eq name key) (Some (mention_in m)) None)) (holds key)
-    ∙ ap (λ n. or_else (first_with key ms) (cond (bytes_eq n key) (Some (mention_in m)) None)) is
-    ∙ sym (first_behind ms (mention_in m) key)
+behind_none : (o : Option MentionText) → or_else o None ≡ o
+behind_none (Some m) = refl
+behind_none None = refl
 
--- a mention is kept if its key isn't yet
-pub kept_new : (m : Mention) (old new : Firsts) (name : List ℕ) → name ≡ key_of m.id.now → is_some (kept_for old name) ≡ false
-    → ((q : List ℕ) → kept_for new q ≡ cond (bytes_eq name q) (Some (mention_in m)) (kept_for old q))
-    → (ms : List MentionText) → Holds ms old → Holds (ms ++ mention_in m ∷ []) new
-kept_new m old new name is none updates ms holds key =
-    updates key
-    ∙ new_one (bytes_eq name key) (mention_in m) (kept_for old key) (λ same. subst (λ n. is_some (kept_for old n) ≡ false) ((bytes_eq-Decides name key).0 same) none)
-    ∙ ap (λ o. or_else o (cond (bytes_eq name key) (Some (mention_in m)) None)) (holds key)
-    ∙ ap (λ n. or_else (first_with key ms) (cond (bytes_eq n key) (Some (mention_in m)) None)) is
-    ∙ sym (first_behind ms (mention_in m) key)
+module _ (ms : List MentionText) (m : MentionText) (key : List ℕ) where
+  -- a mention is no first of another key
+  other_key : bytes_eq (key_of m.id) key ≡ false → first_with key ms ≡ first_with key (ms ++ m ∷ [])
+  other_key away = sym (first_behind ms m key ∙ ap (λ b. or_else (first_with key ms) (cond b (Some m) None)) away ∙ behind_none (first_with key ms))
 
--- one more of some mentions
-pub shown_more : (before : List MentionText) (ms : List Mention) (i : ℕ) (d : Mention) → i < length ms
-    → (before ++ mentions_shown (take i ms)) ++ mention_in (get_or ms i d) ∷ [] ≡ before ++ mentions_shown (take (i + 1) ms)
-shown_more before ms i d within =
-    append_assoc before (mentions_shown (take i ms)) (mention_in (get_or ms i d) ∷ [])
-    ∙ ap (λ l. before ++ l) (sym (map_more mention_in ms i d within))
+  -- nor of a key that was mentioned before
+  known_key : (bytes_eq (key_of m.id) key ≡ true → is_some (first_with key ms) ≡ true) → first_with key ms ≡ first_with key (ms ++ m ∷ [])
+  known_key some = known_one (bytes_eq (key_of m.id) key) m (first_with key ms) some ∙ sym (first_behind ms m key)
+
+  own_key : bytes_eq (key_of m.id) key ≡ true → first_with key ms ≡ None → Some m ≡ first_with key (ms ++ m ∷ [])
+  own_key here none = sym (first_behind ms m key ∙ (λ j. or_else (none j) (cond (here j) (Some m) None)))
+
+-- ---- the keys that are asked for
+
+keys-of : (keys : List (List ℕ)) (ms : List MentionText) → map (λ (a : AskedText). a.key) (asked_of keys ms) ≡ keys
+keys-of [] ms = refl
+keys-of (k ∷ ks) ms = ap (λ l. k ∷ l) (keys-of ks ms)
+
+keys-shown : (asked : List Asked) → map (λ (a : AskedText). a.key) (map asked_in asked) ≡ keys_asked asked
+keys-shown [] = refl
+keys-shown (a ∷ more) = ap (λ l. a.key.now ∷ l) (keys-shown more)
+
+pub keys_held : (keys : List (List ℕ)) (ms : List MentionText) (asked : List Asked) → Holds keys ms asked → keys_asked asked ≡ keys
+keys_held keys ms asked h = sym (keys-shown asked) ∙ ap (map (λ (a : AskedText). a.key)) h.firsts ∙ keys-of keys ms
+
+-- keys of which both lists have the same firsts
+asked_alike : (keys : List (List ℕ)) (ms ns : List MentionText) → ((key : List ℕ) → is_among keys key ≡ true → first_with key ms ≡ first_with key ns) → asked_of keys ms ≡ asked_of keys ns
+asked_alike [] ms ns same = refl
+asked_alike (k ∷ ks) ms ns same = λ j.
+    record { key = k; first = same k (ap (λ b. b || is_among ks k) (nat_list_eq_equiv.refl k)) j }
+    ∷ asked_alike ks ms ns (λ key among. same key (ap (λ b. bytes_eq k key || b) among ∙ or_true (bytes_eq k key))) j
+
+less_than_each : (k : List ℕ) (ks : List (List ℕ)) (key : List ℕ) → AllByRecursion (λ y. slice_cmp nat_cmp k y ≡ Less) ks → is_among ks key ≡ true → slice_cmp nat_cmp k key ≡ Less
+less_than_each k [] key all among = absurd (false≢true among)
+less_than_each k (x ∷ xs) key all among =
+    elim (cases_Bool (bytes_eq x key)) [
+      | inl here ↦ subst (λ y. slice_cmp nat_cmp k y ≡ Less) ((bytes_eq-Decides x key).0 here) all.0
+      | inr away ↦ less_than_each k xs key all.1 (ap (λ b. b || is_among xs key) (sym away) ∙ among)
+    ]
+
+pub here_among : (ks : List (List ℕ)) (p : ℕ) (d : List ℕ) → p < length ks → is_among ks (get_or ks p d) ≡ true
+here_among [] p d within = absurd (omega (arith, within))
+here_among (k ∷ ks) zero d within = ap (λ b. b || is_among ks k) (nat_list_eq_equiv.refl k)
+here_among (k ∷ ks) (suc p) d within = ap (λ b. bytes_eq k (get_or ks p d) || b) (here_among ks p d (omega (arith, within))) ∙ or_true (bytes_eq k (get_or ks p d))
+
+apart : (k key : List ℕ) → slice_cmp nat_cmp k key ≡ Less → bytes_eq k key ≡ false
+apart k key less = sym (is_eq-slice_cmp k key) ∙ ap is_eq less
+
+same_key : (k key : List ℕ) → k ≡ key → bytes_eq key k ≡ true
+same_key k key is = ap (λ l. bytes_eq key l) is ∙ nat_list_eq_equiv.refl key
+
+-- a mention is kept at the place of its key
+at_place : (keys : List (List ℕ)) (ms : List MentionText) (m : MentionText) (p : ℕ) (d : List ℕ) → IsStrictlySortedBy (slice_cmp nat_cmp) keys → p < length keys → get_or keys p d ≡ key_of m.id
+    → first_with (key_of m.id) ms ≡ None → set (asked_of keys ms) p (record { key = key_of m.id; first = Some m }) ≡ asked_of keys (ms ++ m ∷ [])
+unfolding IsStrictlySortedBy
+at_place [] ms m p d up within is none = absurd (omega (arith, within))
+at_place (k ∷ ks) ms m zero d up within is none = λ j.
+    record { key = sym is j; first = own_key ms m k (same_key k (key_of m.id) is) (ap (λ l. first_with l ms) is ∙ none) j }
+    ∷ asked_alike ks ms (ms ++ m ∷ []) (λ key among. other_key ms m key (ap (λ l. bytes_eq l key) (sym is) ∙ apart k key (less_than_each k ks key up.0 among))) j
+at_place (k ∷ ks) ms m (suc p) d up within is none =
+    let less : slice_cmp nat_cmp k (get_or ks p d) ≡ Less = less_than_each k ks (get_or ks p d) up.0 (here_among ks p d (omega (arith, within))) in
+    λ j. record { key = k; first = other_key ms m k (nat_list_eq_equiv.symm (key_of m.id) k ∙ ap (λ l. bytes_eq k l) (sym is) ∙ apart k (get_or ks p d) less) j }
+    ∷ at_place ks ms m p d up.1 (omega (arith, within)) is none j
+
+-- what is kept at a place
+kept_at : (keys : List (List ℕ)) (ms : List MentionText) (asked : List Asked) (p : ℕ) (d : Asked) (e : AskedText) → map asked_in asked ≡ asked_of keys ms → p < length asked
+    → asked_in (get_or asked p d) ≡ get_or (asked_of keys ms) p e
+kept_at keys ms asked p d e is within = sym (get_or-map asked_in asked p d e within) ∙ ap (λ l. get_or l p e) is
+
+first_at : (keys : List (List ℕ)) (ms : List MentionText) (p : ℕ) (e : AskedText) → p < length keys → get_or (asked_of keys ms) p e ≡ record { key = get_or keys p e.key; first = first_with (get_or keys p e.key) ms }
+first_at [] ms p e within = absurd (omega (arith, within))
+first_at (k ∷ ks) ms zero e within = refl
+first_at (k ∷ ks) ms (suc p) e within = first_at ks ms p e (omega (arith, within))
+
+as_many : (keys : List (List ℕ)) (ms : List MentionText) (asked : List Asked) → map asked_in asked ≡ asked_of keys ms → length asked ≡ length keys
+as_many keys ms asked is = sym (length-map asked asked_in) ∙ ap length is ∙ length-map keys (λ key. record { key = key; first = first_with key ms })
+
+-- the key and the first mention at a place
+pub held_at : (keys : List (List ℕ)) (ms : List MentionText) (asked : List Asked) (p : ℕ) (d : Asked) → Holds keys ms asked → p < length asked
+    → (get_or keys p d.key.now ≡ (get_or asked p d).key.now) × (option_map mention_in (get_or asked p d).first ≡ first_with (get_or asked p d).key.now ms)
+held_at keys ms asked p d h within =
+    let e = asked_in d in
+    let both = kept_at keys ms asked p d e h.firsts within ∙ first_at keys ms p e (subst (λ n. p < n) (as_many keys ms asked h.firsts) within) in
+    let own = ap (λ (a : AskedText). a.key) both in (
+      sym own,
+      ap (λ (a : AskedText). a.first) both ∙ ap (λ key. first_with key ms) (sym own),
+    )
+
+none_shown : (o : Option Mention) → is_some o ≡ false → option_map mention_in o ≡ None
+none_shown None is = refl
+none_shown (Some m) is = absurd (false≢true (sym is))
+
+-- a mention is kept where its key has none
+pub kept_new : (m : Mention) (asked : List Asked) (name : List ℕ) (p : ℕ) (d : Asked) → name ≡ key_of m.id.now → p < length asked → (get_or asked p d).key.now ≡ name → is_some (get_or asked p d).first ≡ false
+    → (keys : List (List ℕ)) (ms : List MentionText) → Holds keys ms asked → Holds keys (ms ++ mention_in m ∷ []) (set asked p (record (get_or asked p d) { first = Some m }))
+kept_new m asked name p d is within own none keys ms h =
+    let at = held_at keys ms asked p d h within in
+    let key : (get_or asked p d).key.now ≡ key_of m.id.now = own ∙ is in
+    record {
+      ordered = h.ordered;
+      firsts =
+          map-set asked_in asked p (record (get_or asked p d) { first = Some m })
+          ∙ (λ j. set (h.firsts j) p (record { key = key j; first = Some (mention_in m) }))
+          ∙ at_place keys ms (mention_in m) p d.key.now h.ordered (subst (λ n. p < n) (as_many keys ms asked h.firsts) within) (at.0 ∙ key)
+          (ap (λ l. first_with l ms) (sym key) ∙ sym at.1 ∙ none_shown (get_or asked p d).first none);
+    }
+
+-- it changes nothing where its key has one
+pub kept_before : (m : MentionText) (asked : List Asked) (name : List ℕ) (p : ℕ) (d : Asked) → name ≡ key_of m.id → p < length asked → (get_or asked p d).key.now ≡ name → is_some (get_or asked p d).first ≡ true
+    → (keys : List (List ℕ)) (ms : List MentionText) → Holds keys ms asked → Holds keys (ms ++ m ∷ []) asked
+kept_before m asked name p d is within own some keys ms h =
+    let at = held_at keys ms asked p d h within in
+    let known : is_some (first_with (key_of m.id) ms) ≡ true =
+    ap is_some (ap (λ l. first_with l ms) (sym (own ∙ is)) ∙ sym at.1) ∙ some_shown (get_or asked p d).first ∙ some in
+    record {
+      ordered = h.ordered;
+      firsts = h.firsts ∙ asked_alike keys ms (ms ++ m ∷ []) (λ key among. known_key ms m key
+          (λ same. subst (λ l. is_some (first_with l ms) ≡ true) ((bytes_eq-Decides (key_of m.id) key).0 same) known));
+    }
+
+-- nor where its key isn't asked for
+pub kept_nowhere : (m : MentionText) (asked : List Asked) (name : List ℕ) → name ≡ key_of m.id → (IsStrictlySortedBy (slice_cmp nat_cmp) (keys_asked asked) → is_among (keys_asked asked) name ≡ false)
+    → (keys : List (List ℕ)) (ms : List MentionText) → Holds keys ms asked → Holds keys (ms ++ m ∷ []) asked
+kept_nowhere m asked name is none keys ms h =
+    let all = keys_held keys ms asked h in
+    let away : is_among keys (key_of m.id) ≡ false =
+    (λ j. is_among (sym all j) (sym is j)) ∙ none (subst (IsStrictlySortedBy (slice_cmp nat_cmp)) (sym all) h.ordered) in
+    record {
+      ordered = h.ordered;
+      firsts = h.firsts ∙ asked_alike keys ms (ms ++ m ∷ []) (λ key among. other_key ms m key (elim (cases_Bool (bytes_eq (key_of m.id) key)) [
+        | inl here ↦ absurd (false≢true (sym away ∙ ap (is_among keys) ((bytes_eq-Decides (key_of m.id) key).0 here) ∙ among))
+        | inr apart ↦ apart
+      ]));
+    }
+
+-- the first of a key that stands at a place, and of one that stands at none
+pub first_there : (asked : List Asked) (name : List ℕ) (p : ℕ) (d : Asked) → p < length asked → (get_or asked p d).key.now ≡ name
+    → (keys : List (List ℕ)) (ms : List MentionText) → Holds keys ms asked → option_map mention_in (get_or asked p d).first ≡ first_with name ms
+first_there asked name p d within own keys ms h = (held_at keys ms asked p d h within).1 ∙ ap (λ l. first_with l ms) own
+
+pub first_nowhere : (asked : List Asked) (name : List ℕ) → (IsStrictlySortedBy (slice_cmp nat_cmp) (keys_asked asked) → is_among (keys_asked asked) name ≡ false)
+    → (keys : List (List ℕ)) (ms : List MentionText) → Holds keys ms asked → is_among keys name ≡ true → ⊥
+first_nowhere asked name none keys ms h among =
+    let all = keys_held keys ms asked h in
+    false≢true (sym (none (subst (IsStrictlySortedBy (slice_cmp nat_cmp)) (sym all) h.ordered)) ∙ ap (λ ks. is_among ks name) all ∙ among)
+
+-- one more of some mentions of a file
+pub shown_more : (before : List MentionText) (path : List ℕ) (ids : List (Bor (List ℕ))) (i : ℕ) (d : Bor (List ℕ)) → i < length ids
+    → (before ++ map (mention path) (texts (take i ids))) ++ mention path (get_or ids i d).now ∷ [] ≡ before ++ map (mention path) (texts (take (i + 1) ids))
+shown_more before path ids i d within =
+    append_assoc before (map (mention path) (texts (take i ids))) (mention path (get_or ids i d).now ∷ [])
+    ∙ ap (λ l. before ++ l) (sym (ap (map (mention path)) (map_more (λ (b : Bor (List ℕ)). b.now) ids i d within) ∙ map_push (mention path) (texts (take i ids)) (get_or ids i d).now))
 
 -- the same mentions are kept
-pub holds_along : {T E : Type 0} (result : Result T E) (old new : Firsts) (more same : List MentionText) → more ≡ same
-    → OnOk result ((ms : List MentionText) → Holds ms old → Holds (ms ++ more) new) → OnOk result ((ms : List MentionText) → Holds ms old → Holds (ms ++ same) new)
-holds_along result old new more same is kept = subst (λ (l : List MentionText). OnOk result ((ms : List MentionText) → Holds ms old → Holds (ms ++ l) new)) is kept
+pub holds_along : {T E : Type 0} (result : Result T E) (old new : List Asked) (more same : List MentionText) → more ≡ same
+    → OnOk result ((keys : List (List ℕ)) (ms : List MentionText) → Holds keys ms old → Holds keys (ms ++ more) new)
+    → OnOk result ((keys : List (List ℕ)) (ms : List MentionText) → Holds keys ms old → Holds keys (ms ++ same) new)
+holds_along result old new more same is kept =
+    subst (λ (l : List MentionText). OnOk result ((keys : List (List ℕ)) (ms : List MentionText) → Holds keys ms old → Holds keys (ms ++ l) new)) is kept
 
 -- those of one more file
 pub mentions_more : (ms : List MentionText) (firsts : List First) (i : ℕ) (d : First) → i < length firsts
@@ -117,7 +219,12 @@ mentions_more ms firsts i d within =
     flat_map_more mentions_of ms (map first_in (take i firsts)) (first_in (get_or firsts i d))
     ∙ ap (λ fs. ms ++ first_mentions fs) (sym (map_more first_in firsts i d within))
 
--- ---- what adds no first mention
+-- a mention that is lent
+pub lent_shown : (lent : Option (Bor Mention)) (kept : Option Mention) → option_copied lent ≡ kept → option_map (λ (m : Bor Mention). mention_in m.now) lent ≡ option_map mention_in kept
+lent_shown None kept is = ap (option_map mention_in) is
+lent_shown (Some m) kept is = ap (option_map mention_in) is
+
+-- ---- what brings no first
 
 -- identifiers add no first mention after these, whichever file names them
 abbrev pub BringNone : List MentionText → List (List ℕ) → Type 0

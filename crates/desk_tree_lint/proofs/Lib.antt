@@ -1,5 +1,7 @@
 pub mod UsedLemmas
 pub mod ListLemmas
+pub mod NameLemmas
+pub mod OrderLemmas
 pub mod SetLemmas
 pub mod StemLemmas
 pub mod FirstLemmas

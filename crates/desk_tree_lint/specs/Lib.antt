@@ -1,6 +1,7 @@
 pub mod Texts
 pub mod Used
 pub mod Naming
+pub mod Names
 pub mod Firsts
 pub mod Sets
 pub mod Lists

@@ -15,6 +15,7 @@
 mod laws;
 mod linting;
 mod lists;
+mod names;
 mod naming;
 mod texts;
 mod used;
@@ -22,4 +23,5 @@ mod used;
 pub use laws::one_lint;
 pub use linting::{lint, lists_of};
 pub use lists::Lint;
+pub use names::Names;
 pub use naming::{Name, names_of};

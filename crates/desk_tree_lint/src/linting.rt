@@ -1,7 +1,9 @@
 //! What a tree lacks.
 
-ghost use Rattle.std.specs.Prelude.{◌≡◌, ◌⊎◌, ℕ, List, IfOk, IfErr, Ok, Err, alloc_error};
+ghost use Rattle.std.specs.Prelude.{◌≡◌, ◌⊎◌, ℕ, List, IfOk, IfErr, Ok, Err, alloc_error, map};
 ghost use Rattle.desk_tree_gather.specs.declared.gathering.FileInfo.{FileInfo};
+ghost use Rattle.desk_tree_gather.specs.Firsts.{first_in, firsts_of};
+ghost use Rattle.desk_tree_gather.specs.declared.information.Subject.TheVariants.{Licences};
 ghost use Rattle.desk_tree_gather.specs.Readers.{Reader, IsRightReader};
 ghost use Rattle.desk_tree_gather.specs.Gathering.{gathered};
 ghost use Rattle.desk_tree_gather.specs.Shown.{tree_in};
@@ -12,21 +14,23 @@ ghost use Rattle.desk_tree_lint.specs.Lists.{lists_of, IsLint};
 use crate::lists::{Lint, bare, missing, unused};
 use crate::texts::text_files;
 use crate::used::used;
-use desk_tree_gather::{GatherFault, Infos, SourceFile, gathered, tree_of};
+use desk_tree_gather::{First, GatherFault, Infos, SourceFile, Subject, gathered, tree_of};
 use std::alloc::{AllocError, Global};
 use std::collections::BTreeMap;
 
-/// The lists of a tree, from the information of its covered files. A licence that is no expression
-/// uses nothing. The only error is lack of memory.
+/// The lists of a tree, from the information of its covered files and the licences that they have
+/// first. A licence that is no expression uses nothing. The only error is lack of memory.
 pub fn lists_of<'a>(
     alloc: Global,
     tree: &BTreeMap<&'a str, &'a [u8]>,
     infos: &Infos,
+    firsts: &[First<'_>],
 ) -> Result<Lint, AllocError>
-    ensures { IfOk result (λ l. (keys : List (List ℕ)) × AreUsed infos.now keys
+    ensures { map first_in firsts.now ≡ firsts_of Licences infos.now
+        → IfOk result (λ l. (keys : List (List ℕ)) × AreUsed infos.now keys
         × (l ≡ lists_of infos.now keys (text_files (tree_in tree.now)))) }
 {
-    let keys = used(alloc, infos)?;
+    let keys = used(alloc, firsts)?;
     let texts = text_files(alloc, tree)?;
     Ok(Lint {
         missing: missing(alloc, keys.as_slice(), texts.as_slice())?,
@@ -45,8 +49,9 @@ fn linted(alloc: Global, files: &[SourceFile]) -> Result<Result<Lint, GatherFaul
         Ok(infos) => infos,
         Err(fault) => return Ok(Err(fault)),
     };
+    let firsts = infos.firsts(alloc, Subject::Licences)?;
     match tree_of(alloc, files)? {
-        Ok(tree) => Ok(Ok(lists_of(alloc, &tree, &infos)?)),
+        Ok(tree) => Ok(Ok(lists_of(alloc, &tree, &infos, firsts.as_slice())?)),
         Err(fault) => Ok(Err(fault)),
     }
 }

@@ -1,6 +1,10 @@
 //! The lists of what a tree lacks.
 
 ghost use Rattle.std.specs.Prelude.{◌≡◌, ◌++◌, ◌||◌, IfOk, OnOk, map};
+ghost use Rattle.std.specs.Cmp.Lexicographic.{slice_cmp};
+ghost use Rattle.std.specs.List.Sorted.{IsStrictlySortedBy};
+ghost use Rattle.std.specs.Ordering.{nat_cmp};
+ghost use Rattle.desk_catalogue.specs.Values.{is_among};
 ghost use Rattle.desk_tree_gather.specs.Sharing.{outline_in};
 ghost use Rattle.desk_tree_lint.specs.Sets.{IsSetOf};
 ghost use Rattle.desk_tree_lint.specs.Texts.{TextFile};
@@ -9,7 +13,7 @@ ghost use Rattle.desk_tree_lint.specs.Shown.{bytes_in, only, texts_in};
 ghost use Rattle.desk_base.specs.Borrowed.{texts};
 
 use crate::texts::LicenceText;
-use desk_base::{Items, Key, Text};
+use desk_base::{Items, Key, Text, TextList};
 use desk_tree_gather::{Infos, Outline};
 use std::alloc::{AllocError, Global};
 use std::collections::BTreeSet;
@@ -19,8 +23,8 @@ use std::collections::BTreeSet;
 pub struct Lint {
     /// Licences, exceptions and references that are used and have no text, by their keys, in byte
     /// order.
-    pub missing: Items<Text>,
-    /// Paths of licence texts that nothing uses, in byte order.
+    pub missing: TextList,
+    /// Paths of licences' texts that nothing uses, in byte order.
     pub unused: Items<Text>,
     /// Paths of covered files without a copyright notice or without a licence, in byte order.
     pub bare: Items<Text>,
@@ -35,17 +39,6 @@ fn set_of<'a>(alloc: Global, listed: &[&'a str]) -> Result<BTreeSet<&'a str>, Al
         set.insert(*text)?;
     }
     Ok(set)
-}
-
-// The keys themselves.
-fn borrowed<'a>(alloc: Global, keys: &'a [Key]) -> Result<Vec<&'a str>, AllocError>
-    ensures { IfOk result (λ v. bytes_in v ≡ keys.now) }
-{
-    let mut borrowed = Vec::new(alloc);
-    for key in keys {
-        borrowed.push(key.as_str())?;
-    }
-    Ok(borrowed)
 }
 
 // The keys of texts.
@@ -70,12 +63,11 @@ fn known_by<'a>(
     set_of(alloc, keys.as_slice())
 }
 
-// The set of keys.
-fn known_of<'a>(alloc: Global, keys: &'a [Key]) -> Result<BTreeSet<&'a str>, AllocError>
-    ensures { IfOk result (IsSetOf keys.now) }
+// Whether a key is among others, which are in order.
+fn has_key(keys: &[Key], key: &Key) -> bool
+    ensures { IsStrictlySortedBy (slice_cmp nat_cmp) keys.now → result ≡ is_among keys.now key.now }
 {
-    let keys = borrowed(alloc, keys)?;
-    set_of(alloc, keys.as_slice())
+    keys.binary_search(key).is_ok()
 }
 
 // Adds a text if it belongs to a list.
@@ -93,35 +85,45 @@ fn add_if(
     Ok(())
 }
 
+// Adds a text where it belongs to a list in one buffer.
+fn add_key_if(list: &mut TextList, belongs: bool, key: &str) -> Result<(), AllocError>
+    ensures { OnOk result (list.new ≡ list.old ++ only belongs key.now) }
+{
+    if belongs {
+        list.push(key)?;
+    }
+    Ok(())
+}
+
 /// The keys that are used and have no text.
 pub(crate) fn missing(
     alloc: Global,
     used: &[Key],
     listed: &[LicenceText<'_>],
-) -> Result<Items<Text>, AllocError>
+) -> Result<TextList, AllocError>
     ensures { IfOk result (λ lacking. lacking ≡ missing used.now (texts_in listed.now)) }
 {
     let known = known_by(alloc, listed)?;
-    let mut lacking = Items::new(alloc);
+    let mut lacking = TextList::new(alloc);
     for key in used {
         let lacks = !known.contains(key.as_str());
-        add_if(alloc, &mut lacking, lacks, key.as_str())?;
+        add_key_if(&mut lacking, lacks, key.as_str())?;
     }
     Ok(lacking)
 }
 
-/// The paths of the texts whose keys aren't used.
+/// The paths of the texts whose keys aren't used. The keys that are used are in order.
 pub(crate) fn unused(
     alloc: Global,
     used: &[Key],
     listed: &[LicenceText<'_>],
 ) -> Result<Items<Text>, AllocError>
-    ensures { IfOk result (λ paths. paths ≡ unused used.now (texts_in listed.now)) }
+    ensures { IsStrictlySortedBy (slice_cmp nat_cmp) used.now
+        → IfOk result (λ paths. paths ≡ unused used.now (texts_in listed.now)) }
 {
-    let known = known_of(alloc, used)?;
     let mut paths = Items::new(alloc);
     for text in listed {
-        let needless = !known.contains(text.key.as_str());
+        let needless = !has_key(used, &text.key);
         add_if(alloc, &mut paths, needless, text.path)?;
     }
     Ok(paths)

@@ -1,18 +1,25 @@
 //! How licences are written where they are first named.
 
-ghost use Rattle.std.specs.Prelude.{◌≡◌, ◌++◌, ◌∷◌, [], ◌<◌, ◌==◌, List, IfOk, OnOk, map, option_map};
+ghost use Rattle.std.specs.Prelude.{◌≡◌, ◌++◌, ◌∷◌, [], ◌<◌, ◌==◌, ℕ, true, false, List, length, slice_index_or, IfOk, IfSome, IfNone, OnOk, map, option_map};
+ghost use Rattle.std.specs.Cmp.Lexicographic.{slice_cmp};
 ghost use Rattle.std.specs.List.{flat_map, slice_split};
+ghost use Rattle.std.specs.List.Sorted.{IsStrictlySortedBy};
+ghost use Rattle.std.specs.Ordering.{nat_cmp};
 ghost use Rattle.desk_base.specs.Borrowed.{texts, texts_in};
-ghost use Rattle.desk_tree_gather.specs.Firsts.{first_in};
-ghost use Rattle.desk_tree_lint.specs.Naming.{cut_at, runs, is_operator, without_plus, ids_in, mention, MentionText, mentions_by, first_with, name_by, name_of};
-ghost use Rattle.desk_tree_lint.specs.Firsts.{mention_in, mentions_shown, Holds, first_mentions};
+ghost use Rattle.desk_catalogue.specs.Values.{is_among};
+ghost use Rattle.desk_tree_gather.specs.Firsts.{first_in, firsts_of};
+ghost use Rattle.desk_tree_gather.specs.declared.gathering.FileInfo.{FileInfo};
+ghost use Rattle.desk_tree_gather.specs.declared.information.Subject.TheVariants.{Licences};
+ghost use Rattle.desk_tree_lint.specs.Naming.{cut_at, runs, is_operator, without_plus, ids_in, ids, mention, MentionText, mentions_by, first_with, name_by, name_of};
+ghost use Rattle.desk_tree_lint.specs.declared.naming.Asked.{Asked};
+ghost use Rattle.desk_tree_lint.specs.Firsts.{mention_in, asked_in, asked_of, keys_asked, Holds, first_mentions};
 
+use crate::names::Names;
 use crate::texts::key_of;
-use desk_base::{Items, Text};
+use desk_base::{Text, TextList};
 use desk_tree_annotations::SharedText;
-use desk_tree_gather::{First, Infos, Subject};
+use desk_tree_gather::First;
 use std::alloc::{AllocError, Global};
-use std::collections::BTreeMap;
 
 /// How a licence, an exception or a reference is shown.
 #[derive(Drop)]
@@ -20,14 +27,21 @@ pub struct Name {
     /// The identifier as it was first written.
     pub id: Text,
     /// The first file that names it.
-    pub path: Option<Text>,
+    pub path: Option<SharedText>,
 }
 
 // An identifier and the file that names it.
-#[derive(Clone, Copy)]
+#[derive(Drop)]
 pub(crate) struct Mention<'a> {
     pub(crate) id: &'a str,
-    pub(crate) path: &'a str,
+    pub(crate) path: SharedText,
+}
+
+// A key that is asked for, and its first mention so far.
+#[derive(Drop)]
+pub(crate) struct Asked<'k, 'a> {
+    pub(crate) key: &'k str,
+    pub(crate) first: Option<Mention<'a>>,
 }
 
 // What is between the separators of a text.
@@ -79,67 +93,111 @@ fn without_plus(run: &str) -> &str
 }
 
 // Adds the identifiers among runs.
-fn add_runs<'a>(
-    found: &mut Vec<Mention<'a>>,
-    path: &'a str,
-    listed: &[&'a str],
-) -> Result<(), AllocError>
-    ensures { OnOk result (mentions_shown found.new.items
-        ≡ mentions_shown found.old.items ++ map (mention path.now) (ids_in (texts listed.now))) }
+fn add_runs<'a>(found: &mut Vec<&'a str>, listed: &[&'a str]) -> Result<(), AllocError>
+    ensures { OnOk result (texts_in found.new ≡ texts_in found.old ++ ids_in (texts listed.now)) }
 {
     for run in listed {
         if !is_operator(run) {
-            let id = without_plus(run);
-            found.push(Mention { id, path })?;
+            found.push(without_plus(run))?;
         }
     }
     Ok(())
 }
 
-// The identifiers in a licence of a file.
-fn mentions_by<'a>(
-    alloc: Global,
-    path: &'a str,
-    licence: &'a str,
-) -> Result<Vec<Mention<'a>>, AllocError>
-    ensures { IfOk result (λ v. mentions_shown v.items ≡ mentions_by path.now licence.now) }
+// The identifiers in a licence.
+fn ids(alloc: Global, licence: &str) -> Result<Vec<&str>, AllocError>
+    ensures { IfOk result (λ v. texts_in v ≡ ids licence.now) }
 {
     let runs = runs(alloc, licence)?;
     let mut found = Vec::new(alloc);
-    add_runs(&mut found, path, runs.as_slice())?;
+    add_runs(&mut found, runs.as_slice())?;
     Ok(found)
 }
 
-// Keeps a mention after others, unless one of them has its key.
+// The texts themselves.
+fn borrowed(alloc: Global, keys: &TextList) -> Result<Vec<&str>, AllocError>
+    ensures { IfOk result (λ v. texts_in v ≡ keys.now) }
+{
+    let mut borrowed = Vec::with_capacity(alloc, keys.len())?;
+    for place in 0..keys.len() {
+        borrowed.push(keys.at(place))?;
+    }
+    Ok(borrowed)
+}
+
+// The keys in byte order, each once.
+fn ordered(alloc: Global, keys: &TextList) -> Result<Vec<&str>, AllocError>
+    ensures ordered { IfOk result (λ v. IsStrictlySortedBy (slice_cmp nat_cmp) (texts_in v)) }
+    ensures members { IfOk result (λ v. (key : List ℕ) → is_among keys.now key ≡ true
+        → is_among (texts_in v) key ≡ true) }
+{
+    let mut keys = borrowed(alloc, keys)?;
+    keys.sort_unstable();
+    keys.dedup();
+    Ok(keys)
+}
+
+// The keys with no mentions.
+fn unmentioned<'k, 'a>(alloc: Global, keys: &[&'k str]) -> Result<Vec<Asked<'k, 'a>>, AllocError>
+    ensures { IfOk result (λ v. map asked_in v.items ≡ asked_of (texts keys.now) []) }
+{
+    let mut asked = Vec::with_capacity(alloc, keys.len())?;
+    for key in keys {
+        asked.push(Asked {
+            key: *key,
+            first: None,
+        })?;
+    }
+    Ok(asked)
+}
+
+// The place of a key among those that are asked for.
+fn place_of(asked: &[Asked<'_, '_>], key: &str) -> Option<usize>
+    ensures found { IfSome result (λ i. (i < length asked.now)
+        × ((a : Asked) → (slice_index_or asked.now i a).key.now ≡ key.now)) }
+    ensures none { IfNone result (IsStrictlySortedBy (slice_cmp nat_cmp) (keys_asked asked.now)
+        → is_among (keys_asked asked.now) key.now ≡ false) }
+{
+    match asked.binary_search_by(|one| one.key.cmp(key)) {
+        Ok(place) => Some(place),
+        Err(_) => None,
+    }
+}
+
+// Keeps a mention after others, if its key is asked for and none of them has it.
 fn keep<'a>(
     alloc: Global,
-    firsts: &mut BTreeMap<Vec<u8>, Mention<'a>>,
-    mention: Mention<'a>,
+    asked: &mut [Asked<'_, 'a>],
+    path: &SharedText,
+    id: &'a str,
 ) -> Result<(), AllocError>
-    ensures { OnOk result ((ms : List MentionText) → Holds ms firsts.old
-        → Holds (ms ++ mention_in mention.entry ∷ []) firsts.new) }
+    ensures { OnOk result ((keys : List (List ℕ)) (ms : List MentionText)
+        → Holds keys ms asked.old → Holds keys (ms ++ mention path.now id.now ∷ []) asked.new) }
 {
-    let key = key_of(alloc, mention.id)?;
-    let name = key.as_str().as_bytes();
-    if firsts.contains_key(name) {
+    let key = key_of(alloc, id)?;
+    let Some(place) = place_of(asked, key.as_str()) else {
+        return Ok(());
+    };
+    if asked[place].first.is_some() {
         return Ok(());
     }
-    let bytes = Vec::from_slice(alloc, name)?;
-    firsts.insert(bytes, mention)?;
+    let path = path.clone()?;
+    asked[place].first = Some(Mention { id, path });
     Ok(())
 }
 
-// Keeps mentions after others, each unless an earlier one has its key.
+// Keeps mentions after others, each if its key is asked for and no earlier one has it.
 fn keep_each<'a>(
     alloc: Global,
-    firsts: &mut BTreeMap<Vec<u8>, Mention<'a>>,
-    mentions: &[Mention<'a>],
+    asked: &mut [Asked<'_, 'a>],
+    path: &SharedText,
+    ids: &[&'a str],
 ) -> Result<(), AllocError>
-    ensures { OnOk result ((ms : List MentionText) → Holds ms firsts.old
-        → Holds (ms ++ mentions_shown mentions.now) firsts.new) }
+    ensures { OnOk result ((keys : List (List ℕ)) (ms : List MentionText) → Holds keys ms asked.old
+        → Holds keys (ms ++ map (mention path.now) (texts ids.now)) asked.new) }
 {
-    for mention in mentions {
-        keep(alloc, firsts, *mention)?;
+    for id in ids {
+        keep(alloc, asked, path, *id)?;
     }
     Ok(())
 }
@@ -147,98 +205,98 @@ fn keep_each<'a>(
 // Keeps the mentions in a licence of a file after others.
 fn keep_licence<'a>(
     alloc: Global,
-    firsts: &mut BTreeMap<Vec<u8>, Mention<'a>>,
-    path: &'a str,
+    asked: &mut [Asked<'_, 'a>],
+    path: &SharedText,
     licence: &'a str,
 ) -> Result<(), AllocError>
-    ensures { OnOk result ((ms : List MentionText) → Holds ms firsts.old
-        → Holds (ms ++ mentions_by path.now licence.now) firsts.new) }
+    ensures { OnOk result ((keys : List (List ℕ)) (ms : List MentionText) → Holds keys ms asked.old
+        → Holds keys (ms ++ mentions_by path.now licence.now) asked.new) }
 {
-    let found = mentions_by(alloc, path, licence)?;
-    keep_each(alloc, firsts, found.as_slice())
+    let ids = ids(alloc, licence)?;
+    keep_each(alloc, asked, path, ids.as_slice())
 }
 
 // Keeps the mentions in a file's licences after others.
 fn keep_licences<'a>(
     alloc: Global,
-    firsts: &mut BTreeMap<Vec<u8>, Mention<'a>>,
-    path: &'a str,
+    asked: &mut [Asked<'_, 'a>],
+    path: &SharedText,
     licences: &'a [SharedText],
 ) -> Result<(), AllocError>
-    ensures { OnOk result ((ms : List MentionText) → Holds ms firsts.old
-        → Holds (ms ++ flat_map (mentions_by path.now) licences.now) firsts.new) }
+    ensures { OnOk result ((keys : List (List ℕ)) (ms : List MentionText)
+        → Holds keys ms asked.old
+        → Holds keys (ms ++ flat_map (mentions_by path.now) licences.now) asked.new) }
 {
     for licence in licences {
-        keep_licence(alloc, firsts, path, licence.as_str())?;
+        keep_licence(alloc, asked, path, licence.as_str())?;
     }
     Ok(())
 }
 
-// The first mention of each key in the licences that files have first.
-fn firsts_in<'a>(
+// Keeps the first mention of each key in the licences that files have first.
+fn keep_firsts<'a>(
     alloc: Global,
-    listed: &'a [First<'a>],
-) -> Result<BTreeMap<Vec<u8>, Mention<'a>>, AllocError>
-    ensures { IfOk result (Holds (first_mentions (map first_in listed.now))) }
+    asked: &mut [Asked<'_, 'a>],
+    listed: &'a [First<'_>],
+) -> Result<(), AllocError>
+    ensures { OnOk result ((keys : List (List ℕ)) → Holds keys [] asked.old
+        → Holds keys (first_mentions (map first_in listed.now)) asked.new) }
 {
-    let mut firsts = BTreeMap::new(alloc);
     for first in listed {
-        keep_licences(alloc, &mut firsts, first.path, first.texts.as_slice())?;
+        let path = SharedText::of(alloc, first.path)?;
+        keep_licences(alloc, asked, &path, first.texts.as_slice())?;
     }
-    Ok(firsts)
+    Ok(())
 }
 
-// How a key is shown.
-fn name_by(alloc: Global, key: &str, found: Option<Mention<'_>>) -> Result<Name, AllocError>
-    ensures { IfOk result (λ name. name ≡ name_by key.now (option_map mention_in found.entry)) }
+// The first mention that is kept for a key.
+fn first_of<'s, 'a>(asked: &'s [Asked<'_, 'a>], key: &str) -> Option<&'s Mention<'a>>
+    ensures { (keys : List (List ℕ)) (ms : List MentionText) → Holds keys ms asked.now
+        → is_among keys key.now ≡ true
+        → option_map (λ m. mention_in m.now) result ≡ first_with key.now ms }
 {
-    match found {
-        Some(mention) => Ok(Name {
-            id: Text::of(alloc, mention.id)?,
-            path: Some(Text::of(alloc, mention.path)?),
-        }),
-        None => Ok(Name {
-            id: Text::of(alloc, key)?,
-            path: None,
-        }),
+    match place_of(asked, key) {
+        Some(place) => asked[place].first.as_ref(),
+        None => None,
     }
 }
 
-// How a key is shown, given the first mention of each.
-fn name_of(
-    alloc: Global,
-    firsts: &BTreeMap<Vec<u8>, Mention<'_>>,
-    key: &str,
-) -> Result<Name, AllocError>
-    ensures { (ms : List MentionText) → Holds ms firsts.now
-        → IfOk result (λ name. name ≡ name_by key.now (first_with key.now ms)) }
+// Adds what a key is shown by.
+fn add_name(names: &mut Names, key: &str, first: Option<&Mention<'_>>) -> Result<(), AllocError>
+    ensures { OnOk result (names.new
+        ≡ names.old ++ name_by key.now (option_map (λ m. mention_in m.now) first.entry) ∷ []) }
 {
-    let found = firsts.get(key.as_bytes()).copied();
-    name_by(alloc, key, found)
+    match first {
+        Some(mention) => {
+            let path = mention.path.clone()?;
+            names.push(mention.id, Some(path))
+        }
+        None => names.push(key, None),
+    }
 }
 
-// How keys are shown, given the first mention of each.
-fn each_name(
-    alloc: Global,
-    firsts: &BTreeMap<Vec<u8>, Mention<'_>>,
-    keys: &[Text],
-) -> Result<Items<Name>, AllocError>
-    ensures { (ms : List MentionText) → Holds ms firsts.now
+// What keys are shown by, where the first of each is known.
+fn each_name(alloc: Global, asked: &[Asked<'_, '_>], keys: &TextList) -> Result<Names, AllocError>
+    ensures { (all : List (List ℕ)) (ms : List MentionText) → Holds all ms asked.now
+        → ((key : List ℕ) → is_among keys.now key ≡ true → is_among all key ≡ true)
         → IfOk result (λ names. names ≡ map (λ key. name_by key (first_with key ms)) keys.now) }
 {
-    let mut names = Items::new(alloc);
-    for key in keys {
-        names.push(name_of(alloc, firsts, key.as_str())?)?;
+    let mut names = Names::new(alloc);
+    for place in 0..keys.len() {
+        let key = keys.at(place);
+        add_name(&mut names, key, first_of(asked, key))?;
     }
     Ok(names)
 }
 
-/// How keys are written where files first name them, each with the first file. The only error is
-/// lack of memory.
-pub fn names_of(alloc: Global, infos: &Infos, keys: &[Text]) -> Result<Items<Name>, AllocError>
-    ensures { IfOk result (λ names. names ≡ map (name_of infos.now) keys.now) }
+/// How keys are written where files first name them, each with the first file, from the licences
+/// that the files have first. The only error is lack of memory.
+pub fn names_of(alloc: Global, firsts: &[First<'_>], keys: &TextList) -> Result<Names, AllocError>
+    ensures { (infos : List FileInfo) → map first_in firsts.now ≡ firsts_of Licences infos
+        → IfOk result (λ names. names ≡ map (name_of infos) keys.now) }
 {
-    let listed = infos.firsts(alloc, Subject::Licences)?;
-    let firsts = firsts_in(alloc, listed.as_slice())?;
-    each_name(alloc, &firsts, keys)
+    let ordered = ordered(alloc, keys)?;
+    let mut asked = unmentioned(alloc, ordered.as_slice())?;
+    keep_firsts(alloc, asked.as_mut_slice(), firsts)?;
+    each_name(alloc, asked.as_slice(), keys)
 }

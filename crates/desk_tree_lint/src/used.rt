@@ -1,13 +1,15 @@
 //! The licences and exceptions that the covered files use.
 
 ghost use Rattle.std.specs.Prelude.{◌≡◌, ◌⊎◌, ◌↔◌, ◌++◌, ℕ, List, OnOk, IfOk, Contains, map};
-ghost use Rattle.desk_tree_gather.specs.Firsts.{first_in};
+ghost use Rattle.desk_tree_gather.specs.Firsts.{first_in, firsts_of};
+ghost use Rattle.desk_tree_gather.specs.declared.gathering.FileInfo.{FileInfo};
+ghost use Rattle.desk_tree_gather.specs.declared.information.Subject.TheVariants.{Licences};
 ghost use Rattle.desk_tree_lint.specs.Used.{keys_in, Uses, IsUsedIn, IsFirstUsed, AreUsed};
 
 use desk_base::Key;
 use desk_expr::{Term, parse, terms, told};
 use desk_tree_annotations::SharedText;
-use desk_tree_gather::{First, Infos, Subject};
+use desk_tree_gather::First;
 use std::alloc::{AllocError, Global};
 
 // Adds the keys of terms.
@@ -61,11 +63,11 @@ fn each_used(alloc: Global, firsts: &[First<'_>]) -> Result<Vec<Key>, AllocError
 }
 
 /// The keys that files use, each once, in byte order.
-pub(crate) fn used(alloc: Global, infos: &Infos) -> Result<Vec<Key>, AllocError>
-    ensures { IfOk result (λ v. AreUsed infos.now v.items) }
+pub(crate) fn used(alloc: Global, firsts: &[First<'_>]) -> Result<Vec<Key>, AllocError>
+    ensures { (infos : List FileInfo) → map first_in firsts.now ≡ firsts_of Licences infos
+        → IfOk result (λ v. AreUsed infos v.items) }
 {
-    let firsts = infos.firsts(alloc, Subject::Licences)?;
-    let mut keys = each_used(alloc, firsts.as_slice())?;
+    let mut keys = each_used(alloc, firsts)?;
     keys.sort()?;
     keys.dedup();
     Ok(keys)

@@ -1,4 +1,5 @@
 pub mod BlankLemmas
+pub mod CountLemmas
 pub mod Floats
 pub mod LineLemmas
 pub mod ProblemLemmas

@@ -53,6 +53,11 @@ row_line row = shown row.path ++ (place row.line ++ (shown row.message ++ codes 
 abbrev pub line_of_kind : Kind → Row → List ℕ
 line_of_kind kind row = if nat_eq (kind_number row.kind) (kind_number kind) then row_line row else []
 
+-- the line of a row, if that is of the kind that is asked for, where one is
+abbrev pub line_if : Option Kind → Row → List ℕ
+line_if None row = row_line row
+line_if (Some kind) row = line_of_kind kind row
+
 -- how many rows are of a kind
 abbrev pub count_of : Kind → List Row → ℕ
 count_of kind rows = count_by (λ (row : Row). nat_eq (kind_number row.kind) (kind_number kind)) rows
@@ -106,14 +111,7 @@ abbrev pub is_none : List Row → Bool
 is_none [] = true
 is_none (row ∷ rows) = false
 
--- the rows of a tree's problems, and how many of its files are covered
-pub record AreListed (r : Reader) (files : List SourceFile) (rows : List Row) (covered : ℕ) : Type 0 where
-  pub problems : Problems
-  pub are_problems : AreProblems r files problems
-  pub are_rows : AreRows problems rows
-  pub counts : covered ≡ problems.covered
-
--- the report on a tree: the rows of its problems; it is clean if it has none
+-- the report on a tree: the rows of its problems; it is clean where it has none
 pub record IsReport (r : Reader) (files : List SourceFile) (json : Bool) (report : Report) : Type 0 where
   pub problems : Problems
   pub rows : List Row

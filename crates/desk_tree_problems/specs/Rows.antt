@@ -106,7 +106,16 @@ flaw_row (BadToml path) stop = plain_row kind.BadToml path (codes "no TOML docum
 flaw_row (BadAnnotation path index fault) stop = plain_row kind.BadAnnotation path (codes "annotation " ++ (decimal index ++ (codes ", counted from 0, has " ++ annotation_words fault)))
 flaw_row (BadExpression path line text) stop = record { kind = kind.BadExpression; path = path; line = Some line; message = expression_words text stop }
 
--- the fault at which the text of a flaw stops, if it has a text
+-- the kind of a flaw
+abbrev pub flaw_kind : Flaw → Kind
+flaw_kind TooManyFiles = kind.TooManyFiles
+flaw_kind (BadPath path) = kind.BadPath
+flaw_kind (TwicePath path) = kind.TwicePath
+flaw_kind (BadToml path) = kind.BadToml
+flaw_kind (BadAnnotation path index fault) = kind.BadAnnotation
+flaw_kind (BadExpression path line text) = kind.BadExpression
+
+-- how the text of a flaw stops, where it has one
 abbrev pub StopsSo : Flaw → Option ParseFault → Type 0
 StopsSo (BadExpression path line text) stop = StopsAt text stop
 StopsSo _ stop = stop ≡ None

@@ -13,12 +13,15 @@
 
 mod bare;
 mod blanks;
+mod counting;
 mod json;
 mod lines;
 mod problems;
 mod reports;
 mod row;
 mod rows;
+mod summary;
+mod telling;
 
 pub use bare::{Bare, Lacking};
 pub use blanks::Blank;

@@ -1,11 +1,10 @@
-//! The report as lines.
+//! The lines of rows.
 
 ghost use Rattle.std.specs.Prelude.{◌≡◌, ◌++◌, IfOk, OnOk, codes};
-ghost use Rattle.std.specs.List.{flat_map};
 ghost use Rattle.std.specs.String.{string_bytes};
-ghost use Rattle.desk_tree_problems.specs.Reports.{shown_byte, held, shown_at, shown_behind, shown, place, row_line, count_of, some_count, counts_of, counts, summary, lines_text, line_of_kind};
+ghost use Rattle.desk_tree_problems.specs.Reports.{shown_byte, held, shown_at, shown_behind, shown, place, row_line, line_of_kind, line_if};
 
-use crate::row::{Kind, Row, kinds};
+use crate::row::{Kind, Row};
 use std::alloc::{AllocError, Global};
 
 // The first byte of control characters from U+0080 on, and of other characters.
@@ -78,17 +77,6 @@ fn add_line(alloc: Global, text: &mut Vec<u8>, row: &Row) -> Result<(), AllocErr
     Ok(())
 }
 
-// The lines of the rows.
-fn row_lines(alloc: Global, rows: &[Row]) -> Result<Vec<u8>, AllocError>
-    ensures { IfOk result (λ text. text.items ≡ flat_map row_line rows.now) }
-{
-    let mut text = Vec::new(alloc);
-    for row in rows {
-        add_line(alloc, &mut text, row)?;
-    }
-    Ok(text)
-}
-
 // Adds the line of a row, if that is of a kind.
 fn add_of_kind(alloc: Global, text: &mut Vec<u8>, row: &Row, kind: Kind) -> Result<(), AllocError>
     ensures { OnOk result (text.new.items ≡ text.old.items ++ line_of_kind kind row.now) }
@@ -99,84 +87,17 @@ fn add_of_kind(alloc: Global, text: &mut Vec<u8>, row: &Row, kind: Kind) -> Resu
     Ok(())
 }
 
-/// The lines of the rows of a kind.
-pub(crate) fn lines_of_kind(alloc: Global, rows: &[Row], kind: Kind) -> Result<Vec<u8>, AllocError>
-    ensures { IfOk result (λ text. text.items ≡ flat_map (line_of_kind kind) rows.now) }
-{
-    let mut text = Vec::new(alloc);
-    for row in rows {
-        add_of_kind(alloc, &mut text, row, kind)?;
-    }
-    Ok(text)
-}
-
-// How many rows are of a kind.
-fn count_of(rows: &[Row], kind: Kind) -> usize
-    ensures { result ≡ count_of kind rows.now }
-{
-    let number = kind.number();
-    rows.iter()
-        .filter(|row| row.kind.number() == number)
-        .count()
-}
-
-// A kind with how many there are, if there are some.
-fn some_count(alloc: Global, kind: Kind, count: usize) -> Result<String, AllocError>
-    ensures { IfOk result (λ words. string_bytes words ≡ some_count kind count) }
-{
-    if count == 0 {
-        return String::from_str(alloc, "");
-    }
-    let name = kind.name();
-    format!(in alloc; ", {name}: {count}")
-}
-
-// The counts for some kinds.
-fn counts_of(alloc: Global, rows: &[Row], kinds: &[Kind]) -> Result<Vec<u8>, AllocError>
-    ensures { IfOk result (λ text. text.items ≡ counts_of kinds.now rows.now) }
-{
-    let mut text = Vec::new(alloc);
-    for kind in kinds {
-        let words = some_count(alloc, *kind, count_of(rows, *kind))?;
-        text.extend_from_slice(words.as_bytes())?;
-    }
-    Ok(text)
-}
-
-// The counts by kind, or that there is nothing to count.
-fn counts(alloc: Global, rows: &[Row]) -> Result<Vec<u8>, AllocError>
-    ensures { IfOk result (λ text. text.items ≡ counts rows.now) }
-{
-    if rows.is_empty() {
-        let words = String::from_str(alloc, "; nothing is wrong by the desk's rules")?;
-        return Ok(words.into_bytes());
-    }
-    counts_of(alloc, rows, &kinds())
-}
-
-// Adds the line that counts the rows.
-fn add_summary(
+/// Adds the line of a row, if that is of the kind that is asked for, where one is.
+pub(crate) fn add_row(
     alloc: Global,
     text: &mut Vec<u8>,
-    rows: &[Row],
-    covered: usize,
+    row: &Row,
+    only: Option<Kind>,
 ) -> Result<(), AllocError>
-    ensures { OnOk result (text.new.items ≡ text.old.items ++ summary rows.now covered) }
+    ensures { OnOk result (text.new.items ≡ text.old.items ++ line_if only row.now) }
 {
-    let count = rows.len();
-    let words = format!(in alloc; "problems: {count}, covered files: {covered}")?;
-    let counts = counts(alloc, rows)?;
-    text.extend_from_slice(words.as_bytes())?;
-    text.extend_from_slice(counts.as_slice())?;
-    text.push(b'\n')?;
-    Ok(())
-}
-
-/// A line for each row, and one that counts them.
-pub(crate) fn lines_text(alloc: Global, rows: &[Row], covered: usize) -> Result<Vec<u8>, AllocError>
-    ensures { IfOk result (λ text. text.items ≡ lines_text rows.now covered) }
-{
-    let mut text = row_lines(alloc, rows)?;
-    add_summary(alloc, &mut text, rows, covered)?;
-    Ok(text)
+    match only {
+        Some(kind) => add_of_kind(alloc, text, row, kind),
+        None => add_line(alloc, text, row),
+    }
 }

@@ -11,9 +11,9 @@ ghost use Rattle.desk_tree_gather.specs.Shown.{tree_in};
 
 use crate::bare::{Bare, bare_files};
 use crate::blanks::{Blank, blanks_in};
-use desk_base::{Items, Text};
-use desk_tree_gather::{Flaw, SourceFile, Surveyed, bytes_at, survey};
-use desk_tree_lint::{Lint, Name, lists_of, names_of};
+use desk_base::{Items, Text, TextList};
+use desk_tree_gather::{Flaw, SourceFile, Subject, Surveyed, bytes_at, survey};
+use desk_tree_lint::{Lint, Names, lists_of, names_of};
 use std::alloc::{AllocError, Global};
 use std::collections::BTreeMap;
 
@@ -30,11 +30,11 @@ pub struct Problems {
     pub blanks: Items<Blank>,
     /// Licences, exceptions and references that are used and have no text, by their keys, in byte
     /// order.
-    pub missing: Items<Text>,
+    pub missing: TextList,
     /// How each of these is first written, and the first file that names it.
-    pub names: Items<Name>,
-    /// Paths of licence texts that nothing uses, in byte order; none if some use may not have been
-    /// read, because of a flaw or older annotations.
+    pub names: Names,
+    /// Paths of licences' texts that nothing uses, in byte order; none where some use may not have
+    /// been read, for a flaw or older annotations.
     pub unused: Items<Text>,
     /// Covered files without a copyright notice or without a licence, by path.
     pub bare: Items<Bare>,
@@ -67,13 +67,14 @@ fn surveyed(alloc: Global, files: &[SourceFile]) -> Result<Problems, AllocError>
     ensures { (r : Reader) → IsRightReader r → IfOk result (AreProblems r files.now) }
 {
     let Surveyed { tree, flaws, infos } = survey(alloc, files)?;
+    let firsts = infos.firsts(alloc, Subject::Licences)?;
     let Lint {
         missing,
         unused,
         ..
-    } = lists_of(alloc, &tree, &infos)?;
+    } = lists_of(alloc, &tree, &infos, firsts.as_slice())?;
     let dep5 = has_dep5(&tree);
-    let names = names_of(alloc, &infos, missing.as_slice())?;
+    let names = names_of(alloc, firsts.as_slice(), &missing)?;
     let unsure = dep5 || are_some(flaws.as_slice());
     Ok(Problems {
         dep5,

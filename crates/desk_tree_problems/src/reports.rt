@@ -1,14 +1,18 @@
 //! The report on a tree.
 
-ghost use Rattle.std.specs.Prelude.{◌≡◌, IfOk};
+ghost use Rattle.std.specs.Prelude.{◌≡◌, List, IfOk};
 ghost use Rattle.desk_tree_gather.specs.Readers.{Reader, IsRightReader};
-ghost use Rattle.desk_tree_problems.specs.Reports.{text_of, is_none, AreBlankLines, AreListed, IsReport};
+ghost use Rattle.desk_tree_problems.specs.Reports.{text_of, AreBlankLines, IsReport};
+ghost use Rattle.desk_tree_problems.specs.Rows.{AreRows};
+ghost use Rattle.desk_tree_problems.specs.declared.row.Row.{Row};
 
+use crate::counting::number_of;
 use crate::json::json_text;
-use crate::lines::{lines_of_kind, lines_text};
-use crate::problems::problems_of;
-use crate::row::{Kind, Row};
+use crate::problems::{Problems, problems_of};
+use crate::row::Kind;
 use crate::rows::rows_of;
+use crate::summary::lines_text;
+use crate::telling::problem_lines;
 use desk_tree_gather::SourceFile;
 use std::alloc::{AllocError, Global};
 
@@ -22,39 +26,17 @@ pub struct Report {
     pub is_clean: bool,
 }
 
-// The rows as a text.
-fn text_of(alloc: Global, json: bool, rows: &[Row], covered: usize) -> Result<Vec<u8>, AllocError>
-    ensures { IfOk result (λ text. text.items ≡ text_of json rows.now covered) }
+// The problems as a text.
+fn text_of(alloc: Global, json: bool, problems: &Problems) -> Result<Vec<u8>, AllocError>
+    ensures { IfOk result (λ text. (rows : List Row) × AreRows problems.now rows
+        × (text.items ≡ text_of json rows problems.now.covered)) }
 {
     if json {
-        json_text(alloc, rows, covered)
+        let rows = rows_of(alloc, problems)?;
+        json_text(alloc, rows.as_slice(), problems.covered)
     } else {
-        lines_text(alloc, rows, covered)
+        lines_text(alloc, problems)
     }
-}
-
-fn is_none(rows: &[Row]) -> bool
-    ensures { result ≡ is_none rows.now }
-{
-    rows.is_empty()
-}
-
-/// The rows of a tree's problems.
-#[derive(Drop)]
-struct Listed {
-    rows: Vec<Row>,
-    covered: usize,
-}
-
-fn rows_in(alloc: Global, files: &[SourceFile]) -> Result<Listed, AllocError>
-    ensures { (r : Reader) → IsRightReader r
-        → IfOk result (λ l. AreListed r files.now l.rows.items l.covered) }
-{
-    let problems = problems_of(alloc, files)?;
-    Ok(Listed {
-        rows: rows_of(alloc, &problems)?,
-        covered: problems.covered,
-    })
 }
 
 /// The report on a tree, as lines or as a JSON object. The only error is lack of memory.
@@ -63,10 +45,11 @@ fn rows_in(alloc: Global, files: &[SourceFile]) -> Result<Listed, AllocError>
 pub fn report_on(alloc: Global, files: &[SourceFile], json: bool) -> Result<Report, AllocError>
     ensures { (r : Reader) → IsRightReader r → IfOk result (IsReport r files.now json) }
 {
-    let Listed { rows, covered } = rows_in(alloc, files)?;
+    let problems = problems_of(alloc, files)?;
+    let number = number_of(&problems)?;
     Ok(Report {
-        text: text_of(alloc, json, rows.as_slice(), covered)?,
-        is_clean: is_none(rows.as_slice()),
+        text: text_of(alloc, json, &problems)?,
+        is_clean: number == 0,
     })
 }
 
@@ -78,6 +61,6 @@ pub fn blank_lines(alloc: Global, files: &[SourceFile]) -> Result<Vec<u8>, Alloc
     ensures { (r : Reader) → IsRightReader r
         → IfOk result (λ text. AreBlankLines r files.now text.items) }
 {
-    let Listed { rows, .. } = rows_in(alloc, files)?;
-    lines_of_kind(alloc, rows.as_slice(), Kind::BlankAtEnd)
+    let problems = problems_of(alloc, files)?;
+    problem_lines(alloc, &problems, Some(Kind::BlankAtEnd))
 }

@@ -13,9 +13,9 @@ use crate::problems::Problems;
 use crate::row::{Kind, Row, row_of};
 use desk_base::{Items, Text};
 use desk_expr::{ParseFault, parse};
-use desk_tree_annotations::AnnotationFault;
+use desk_tree_annotations::{AnnotationFault, SharedText};
 use desk_tree_gather::Flaw;
-use desk_tree_lint::Name;
+use desk_tree_lint::{Name, Names};
 use std::alloc::{AllocError, Global};
 
 // How many bytes a text may have to be quoted.
@@ -148,8 +148,8 @@ fn path_words(path: &str) -> &'static str
     "an empty part, . or .. in the path: give its parts from the root, each a name"
 }
 
-// The row of a flaw.
-fn flaw_row(alloc: Global, flaw: &Flaw) -> Result<Row, AllocError>
+/// The row of a flaw.
+pub(crate) fn flaw_row(alloc: Global, flaw: &Flaw) -> Result<Row, AllocError>
     ensures { IfOk result (IsFlawRow flaw.now) }
 {
     match flaw {
@@ -195,8 +195,8 @@ fn flaw_rows(alloc: Global, flaws: &[Flaw]) -> Result<Vec<Row>, AllocError>
     Ok(rows)
 }
 
-// The rows of older annotations.
-fn dep5_rows(alloc: Global, dep5: bool) -> Result<Vec<Row>, AllocError>
+/// The rows of older annotations.
+pub(crate) fn dep5_rows(alloc: Global, dep5: bool) -> Result<Vec<Row>, AllocError>
     ensures { IfOk result (λ rows. rows.items ≡ dep5_rows dep5) }
 {
     let mut rows = Vec::new(alloc);
@@ -212,8 +212,8 @@ fn dep5_rows(alloc: Global, dep5: bool) -> Result<Vec<Row>, AllocError>
     Ok(rows)
 }
 
-// The row of an annotation with a licence that no document can hold.
-fn blank_row(alloc: Global, blank: &Blank) -> Result<Row, AllocError>
+/// The row of an annotation with a licence that no document can hold.
+pub(crate) fn blank_row(alloc: Global, blank: &Blank) -> Result<Row, AllocError>
     ensures { IfOk result (λ row. row ≡ blank_row blank.now) }
 {
     let index = blank.index;
@@ -239,7 +239,7 @@ fn add_blanks(alloc: Global, rows: &mut Vec<Row>, blanks: &[Blank]) -> Result<()
 }
 
 // Which file names a licence.
-fn named_words(alloc: Global, path: &Option<Text>) -> Result<String, AllocError>
+fn named_words(alloc: Global, path: &Option<SharedText>) -> Result<String, AllocError>
     ensures { IfOk result (λ words. string_bytes words ≡ named_words path.now) }
 {
     match path {
@@ -265,8 +265,8 @@ fn text_words(alloc: Global, id: &str) -> Result<String, AllocError>
     }
 }
 
-// The row of a text that is missing.
-fn missing_row(alloc: Global, name: &Name) -> Result<Row, AllocError>
+/// The row of a text that is missing.
+pub(crate) fn missing_row(alloc: Global, name: &Name) -> Result<Row, AllocError>
     ensures { IfOk result (λ row. row ≡ missing_row name.now) }
 {
     let named = named_words(alloc, &name.path)?;
@@ -278,17 +278,17 @@ fn missing_row(alloc: Global, name: &Name) -> Result<Row, AllocError>
     row_of(alloc, Kind::Missing, "LICENSES/", message.as_str())
 }
 
-fn add_missing(alloc: Global, rows: &mut Vec<Row>, names: &[Name]) -> Result<(), AllocError>
+fn add_missing(alloc: Global, rows: &mut Vec<Row>, names: &Names) -> Result<(), AllocError>
     ensures { OnOk result (rows.new.items ≡ rows.old.items ++ map missing_row names.now) }
 {
-    for name in names {
-        rows.push(missing_row(alloc, name)?)?;
+    for place in 0..names.len() {
+        rows.push(missing_row(alloc, &names.at(alloc, place)?)?)?;
     }
     Ok(())
 }
 
-// The row of a text that nothing uses.
-fn unused_row(alloc: Global, path: &str) -> Result<Row, AllocError>
+/// The row of a text that nothing uses.
+pub(crate) fn unused_row(alloc: Global, path: &str) -> Result<Row, AllocError>
     ensures { IfOk result (λ row. row ≡ unused_row path.now) }
 {
     row_of(
@@ -327,8 +327,8 @@ fn lacking_words(lacking: Lacking) -> &'static str
     }
 }
 
-// The row of a file that lacks something.
-fn bare_row(alloc: Global, bare: &Bare) -> Result<Row, AllocError>
+/// The row of a file that lacks something.
+pub(crate) fn bare_row(alloc: Global, bare: &Bare) -> Result<Row, AllocError>
     ensures { IfOk result (λ row. row ≡ bare_row bare.now) }
 {
     row_of(
@@ -358,7 +358,7 @@ pub fn rows_of(alloc: Global, problems: &Problems) -> Result<Vec<Row>, AllocErro
     let mut told = flaw_rows(alloc, problems.flaws.as_slice())?;
     rows.append(&mut told)?;
     add_blanks(alloc, &mut rows, problems.blanks.as_slice())?;
-    add_missing(alloc, &mut rows, problems.names.as_slice())?;
+    add_missing(alloc, &mut rows, &problems.names)?;
     add_unused(alloc, &mut rows, problems.unused.as_slice())?;
     add_bare(alloc, &mut rows, problems.bare.as_slice())?;
     Ok(rows)

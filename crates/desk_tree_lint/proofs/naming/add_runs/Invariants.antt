@@ -1,10 +1,8 @@
-use Rattle.std.proofs.Common.{◌≡◌, ◌++◌, drop, map}
-use Rattle.desk_base.specs.Borrowed.{texts}
-use Rattle.desk_tree_lint.specs.Firsts.{mentions_shown}
-use Rattle.desk_tree_lint.specs.Naming.{mention, ids_in}
+use Rattle.std.proofs.Common.{◌≡◌, ◌++◌, drop}
+use Rattle.desk_base.specs.Borrowed.{texts, texts_in}
+use Rattle.desk_tree_lint.specs.Naming.{ids_in}
 use Rattle.desk_tree_lint.proofs.naming.add_runs.Given as goal
 
 -- those that were added, and those in what is left, are all
 abbrev pub invariant-loop-run : goal.invariant-loop-run
-invariant-loop-run l =
-    mentions_shown l.found.items ++ map (mention l.path) (ids_in (texts (drop l.run-index l.listed))) ≡ mentions_shown l.initial.found.items ++ map (mention l.path) (ids_in (texts l.listed))
+invariant-loop-run l = texts_in l.found ++ ids_in (texts (drop l.run-index l.listed)) ≡ texts_in l.initial.found ++ ids_in (texts l.listed)

@@ -1,7 +1,9 @@
-use Rattle.std.proofs.Common.{◌++◌, List, take}
-use Rattle.desk_tree_lint.specs.Firsts.{mentions_shown, Holds}
-use Rattle.desk_tree_lint.specs.Naming.{MentionText}
+use Rattle.std.proofs.Common.{◌++◌, ℕ, List, map, take}
+use Rattle.desk_base.specs.Borrowed.{texts}
+use Rattle.desk_tree_lint.specs.Firsts.{Holds}
+use Rattle.desk_tree_lint.specs.Naming.{MentionText, mention}
 use Rattle.desk_tree_lint.proofs.naming.keep_each.Given as goal
 
-abbrev pub invariant-loop-mention : goal.invariant-loop-mention
-invariant-loop-mention l = (ms : List MentionText) → Holds ms l.initial.firsts → Holds (ms ++ mentions_shown (take l.mention-index l.mentions)) l.firsts
+abbrev pub invariant-loop-id : goal.invariant-loop-id
+invariant-loop-id l = (keys : List (List ℕ)) (ms : List MentionText) → Holds keys ms l.initial.asked
+    → Holds keys (ms ++ map (mention l.path) (texts (take l.id-index l.ids))) l.asked
