@@ -1,4 +1,5 @@
--- What a command comes to over the rows of some tables before anything is written, and how that is written.
+-- What a command comes to over the rows of some tables before anything is written, and how that is
+-- written.
 use Rattle.std.specs.Prelude.{◌≡◌, Bool, true, false, Result, Ok, Err}
 use Rattle.desk_model.specs.Readings.{Readings}
 use Rattle.desk_model.specs.Tables.{Tables}
@@ -27,7 +28,8 @@ abbrev pub IsSound : Plan → Type 0
 IsSound (Leave a) = is_recorded a ≡ false
 IsSound (Make a change) = is_recorded a ≡ true
 
--- if the refusal is decided from the command alone, no fault of the store is returned and nothing is written
+-- if the refusal is decided from the command alone, no fault of the store is returned and nothing
+-- is written
 abbrev pub SparesStore : Bool → Result Plan Fault → Type 0
 SparesStore alone (Ok (Leave a)) = Unit {0}
 SparesStore alone (Ok (Make a change)) = alone ≡ false
@@ -41,7 +43,8 @@ module _ {Left : Type 0} where
   Plans old new (Err fault) = Kept old new
 
   -- carrying out a plan: its answer, and its change written whole or not at all
-  abbrev pub Carries : (Left → Tables → Type 0) → Plan → Seen Left → Seen Left → Result Answer Fault → Type 0
+  abbrev pub Carries : (Left → Tables → Type 0) → Plan → Seen Left → Seen Left → Result Answer Fault
+      → Type 0
   Carries stands (Leave a) old new (Ok answer) = (answer ≡ a) × Same old new
   Carries stands (Leave a) old new (Err fault) = ⊥
   Carries stands (Make a change) old new (Ok answer) = (answer ≡ a) × Made stands change old new

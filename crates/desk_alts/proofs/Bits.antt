@@ -1,7 +1,10 @@
 -- When a number has no bit outside another.
-use Rattle.std.proofs.Common.{◌≡◌, ◌↔◌, ◌∙◌, ⊎_elim, ℕ, zero, suc, ◌-◌, ◌<◌, ◌≤◌, ◌^◌, ◌≢◌, min, max, ◌*◌, ◌%◌, inl, inr, sym, ap, refl, arith, bit_and, bit_or}
+use Rattle.std.proofs.Common.{◌≡◌, ◌↔◌, ◌∙◌, ⊎_elim, ℕ, zero, suc, ◌-◌, ◌<◌, ◌≤◌, ◌^◌, ◌≢◌, min}
+use Rattle.std.proofs.Common.{max, ◌*◌, ◌%◌, inl, inr, sym, ap, refl, arith, bit_and, bit_or}
 use Rattle.std.specs.Int.{bit_at, bit_not, w64}
-use Rattle.std.proofs.lemmas.Nat.Bits.{bit_at_and, bit_at_or, bit_at-lt, bit_at-zero, bit_at_not, bit_at_above, same_from_bits, bit_at_set_same, bit_at_set_other}
+use Rattle.std.proofs.lemmas.Nat.Bits.{bit_at_and, bit_at_or, bit_at-lt, bit_at-zero, bit_at_not}
+use Rattle.std.proofs.lemmas.Nat.Bits.{bit_at_above, same_from_bits, bit_at_set_same}
+use Rattle.std.proofs.lemmas.Nat.Bits.{bit_at_set_other}
 use Rattle.std.proofs.lemmas.Bool.{cases_eq}
 use Rattle.std.proofs.str.Laws.{order}
 use Rattle.desk_alts.specs.Masks.{IsWithin}
@@ -30,14 +33,16 @@ and_same a b = (
 )
 
 -- the test `a & !b == 0`
-pub and_not_none : (a b : ℕ) → a < 2 ^ 64 → b < 2 ^ 64 → (bit_and a (bit_not w64 b) ≡ 0) ↔ IsWithin a b
+pub and_not_none : (a b : ℕ) → a < 2 ^ 64 → b < 2 ^ 64
+    → (bit_and a (bit_not w64 b) ≡ 0) ↔ IsWithin a b
 and_not_none a b small small' = (
   (λ none k set.
       ⊎_elim
       (λ below.
       let is = bit_at_and a (bit_not w64 b) k in
       let flip = bit_at_not w64 b k small' below in
-      let empty : bit_at (bit_and a (bit_not w64 b)) k ≡ 0 = ap (λ x. bit_at x k) none ∙ bit_at-zero k in
+      let empty : bit_at (bit_and a (bit_not w64 b)) k ≡ 0 = ap (λ x. bit_at x k) none
+      ∙ bit_at-zero k in
       let low = bit_at-lt b k in
       bit_from_min (bit_at a k) (bit_at b k) (bit_at (bit_not w64 b) k) _ is flip empty set low)
       (λ above. absurd (let unset = bit_at_above a 64 k small above in omega (arith, unset, set)))
@@ -46,7 +51,9 @@ and_not_none a b small small' = (
       (λ k.
       bit_at_and a (bit_not w64 b) k
       ∙ ⊎_elim
-      (λ below. min_none (bit_at a k) (bit_at b k) (bit_at (bit_not w64 b) k) (bit_at_not w64 b k small' below) (bit_le _ _ (bit_at-lt a k) (bit_at-lt b k) (within k)) (bit_at-lt b k))
+      (λ below. min_none (bit_at a k) (bit_at b k) (bit_at (bit_not w64 b) k)
+      (bit_at_not w64 b k small' below) (bit_le _ _ (bit_at-lt a k) (bit_at-lt b k) (within k))
+      (bit_at-lt b k))
       (λ above. let unset = bit_at_above a 64 k small above in min_left_none (bit_at a k) _ unset)
       (order k 64)
       ∙ sym (bit_at-zero k))),
@@ -63,11 +70,14 @@ and_not_none a b small small' = (
 pub or_none : (x y : ℕ) → (bit_or x y ≡ 0) ↔ ((x ≡ 0) × (y ≡ 0))
 or_none x y = (
   (λ none. (
-    same_from_bits x 0 (λ k. max_none_left (bit_at x k) (bit_at y k) (bit_at 0 k) (sym (bit_at_or x y k) ∙ ap (λ n. bit_at n k) none) (bit_at-zero k)),
-    same_from_bits y 0 (λ k. max_none_right (bit_at x k) (bit_at y k) (bit_at 0 k) (sym (bit_at_or x y k) ∙ ap (λ n. bit_at n k) none) (bit_at-zero k)),
+    same_from_bits x 0 (λ k. max_none_left (bit_at x k) (bit_at y k) (bit_at 0 k)
+        (sym (bit_at_or x y k) ∙ ap (λ n. bit_at n k) none) (bit_at-zero k)),
+    same_from_bits y 0 (λ k. max_none_right (bit_at x k) (bit_at y k) (bit_at 0 k)
+        (sym (bit_at_or x y k) ∙ ap (λ n. bit_at n k) none) (bit_at-zero k)),
   )),
   (λ both. same_from_bits (bit_or x y) 0
-      (λ k. bit_at_or x y k ∙ max_none (bit_at x k) (bit_at y k) (bit_at 0 k) (ap (λ n. bit_at n k) both.0) (ap (λ n. bit_at n k) both.1))),
+      (λ k. bit_at_or x y k ∙ max_none (bit_at x k) (bit_at y k) (bit_at 0 k)
+      (ap (λ n. bit_at n k) both.0) (ap (λ n. bit_at n k) both.1))),
 ) where
   max_none_left : (a b z : ℕ) → max a b ≡ z → z ≡ 0 → a ≡ z
   max_none_left a b z is none = omega arith
@@ -82,8 +92,10 @@ or_none x y = (
 pub or_within : (x y m : ℕ) → IsWithin (bit_or x y) m ↔ (IsWithin x m × IsWithin y m)
 or_within x y m = (
   (λ h. (
-    (λ k set. h k (let is = bit_at_or x y k in let low = bit_at-lt y k in omega (arith, is, set, low))),
-    (λ k set. h k (let is = bit_at_or x y k in let low = bit_at-lt x k in omega (arith, is, set, low))),
+    (λ k set. h k (let is = bit_at_or x y k in let low = bit_at-lt y k in
+        omega (arith, is, set, low))),
+    (λ k set. h k (let is = bit_at_or x y k in let low = bit_at-lt x k in
+        omega (arith, is, set, low))),
   )),
   (λ both k set.
       let is = bit_at_or x y k in
@@ -99,7 +111,8 @@ bit_of_one_same k low =
     let set = bit_at_set_same w64 0 k low in
     let is = bit_at_or 0 (1 * 2 ^ k % 2 ^ 64) k in
     let none = bit_at-zero k in
-    right_of_max (bit_at 0 k) (bit_at (1 * 2 ^ k % 2 ^ 64) k) (bit_at (bit_or 0 (1 * 2 ^ k % 2 ^ 64)) k) 1 is set none
+    right_of_max (bit_at 0 k) (bit_at (1 * 2 ^ k % 2 ^ 64) k)
+    (bit_at (bit_or 0 (1 * 2 ^ k % 2 ^ 64)) k) 1 is set none
   where
     right_of_max : (a b m n : ℕ) → m ≡ max a b → m ≡ n → a ≡ 0 → b ≡ n
     right_of_max a b m n is same none = omega arith
@@ -109,7 +122,8 @@ bit_of_one_other k i low ne =
     let set = bit_at_set_other w64 0 k low i ne in
     let is = bit_at_or 0 (1 * 2 ^ k % 2 ^ 64) i in
     let none = bit_at-zero i in
-    right_of_max (bit_at 0 i) (bit_at (1 * 2 ^ k % 2 ^ 64) i) (bit_at (bit_or 0 (1 * 2 ^ k % 2 ^ 64)) i) is set none
+    right_of_max (bit_at 0 i) (bit_at (1 * 2 ^ k % 2 ^ 64) i)
+    (bit_at (bit_or 0 (1 * 2 ^ k % 2 ^ 64)) i) is set none
   where
     right_of_max : (a b m : ℕ) → m ≡ max a b → m ≡ a → a ≡ 0 → b ≡ 0
     right_of_max a b m is same none = omega arith
@@ -120,7 +134,8 @@ one_within k n low = (
   (λ set i there.
       elim (cases_eq i k) [
         | inl same ↦ ap (bit_at n) same ∙ set
-        | inr other ↦ absurd (let none = bit_of_one_other k i low other in omega (arith, none, there))
+        | inr other ↦ absurd (let none = bit_of_one_other k i low other in
+            omega (arith, none, there))
       ]),
 )
 

@@ -1,5 +1,6 @@
 -- Each tree has one cheapest set, or none with costs.
-use Rattle.std.proofs.Common.{◌≡◌, ◌∙◌, ◌⊎◌, inl, inr, ℕ, zero, suc, ◌+◌, List, [], ◌∷◌, length, get_or, add-one, sym, subst, refl, arith, Option, Some, None}
+use Rattle.std.proofs.Common.{◌≡◌, ◌∙◌, ◌⊎◌, inl, inr, ℕ, zero, suc, ◌+◌, List, [], ◌∷◌, length}
+use Rattle.std.proofs.Common.{get_or, add-one, sym, subst, refl, arith, Option, Some, None}
 use Rattle.std.specs.Prelude.{Any, Contains, IsSome}
 use Rattle.std.proofs.lemmas.List.{get_or_default}
 use Rattle.std.proofs.lemmas.List.Elements.{All-nil, All-cons, All-head, All-tail}
@@ -26,8 +27,16 @@ record IsReduced (e : Tree) (terms s few : List Term) : Type 0 where
   holds : Holds (Contains few) e
   needed : (t : Term) → Contains terms t → Contains few t → Holds (Without few t) e → ⊥
 
-reduced : (e : Tree) (terms s : List Term) → Holds (Contains s) e → (few : List Term) × IsReduced e terms s few
-reduced e [] s holds = (s, record { subset = λ t at. at; holds = holds; needed = λ t none. absurd (omega (arith, none.1)) })
+reduced : (e : Tree) (terms s : List Term) → Holds (Contains s) e
+    → (few : List Term) × IsReduced e terms s few
+reduced e [] s holds = (
+  s,
+  record {
+    subset = λ t at. at;
+    holds = holds;
+    needed = λ t none. absurd (omega (arith, none.1));
+  },
+)
 reduced e (x ∷ xs) s holds =
     let rest = without_is_list s x in
     elim (holds_or_not e rest.0) [
@@ -50,14 +59,17 @@ reduced e (x ∷ xs) s holds =
               subset = found.1.subset;
               holds = found.1.holds;
               needed = λ t listed at less. elim (head_or_later x xs t listed) [
-                | inl is ↦ absurd (binds (holds_more (Without found.0 t) (Contains rest.0) (λ u own. (rest.1 u).1 (found.1.subset u own.0, λ same. own.1 (same ∙ is))) e less))
+                | inl is ↦ absurd (binds (holds_more (Without found.0 t) (Contains rest.0)
+                    (λ u own. (rest.1 u).1 (found.1.subset u own.0, λ same. own.1 (same ∙ is))) e
+                    less))
                 | inr later ↦ found.1.needed t later at less
               ];
             },
           )
     ]
 
-minimal_subset : (e : Tree) (s : List Term) → Holds (Contains s) e → (few : List Term) × IsTermSet few × IsMinimal few e × IsSubset few s
+minimal_subset : (e : Tree) (s : List Term) → Holds (Contains s) e
+    → (few : List Term) × IsTermSet few × IsMinimal few e × IsSubset few s
 minimal_subset e s holds =
     let found = reduced e s s holds in
     let own = as_set found.0 in (
@@ -68,12 +80,18 @@ minimal_subset e s holds =
         λ fewer proper h.
             let lacked = proper.1 in
             let at = (own.2 lacked).0 proper.2 in
-            found.1.needed lacked (found.1.subset lacked at) at (holds_more (Contains fewer) (Without found.0 lacked) (λ t has. ((own.2 t).0 (proper.0 t has), λ is. proper.3 (subst (Contains fewer) is has))) e h),
+            found.1.needed lacked (found.1.subset lacked at) at
+            (holds_more (Contains fewer) (Without found.0 lacked)
+            (λ t has. (
+              (own.2 t).0 (proper.0 t has),
+              λ is. proper.3 (subst (Contains fewer) is has),
+            )) e h),
       ),
       (λ t at. found.1.subset t ((own.2 t).0 at)),
     )
 
-contained : (e : Tree) (sets : List (List Term)) → AreAlternatives e sets → (s : List Term) → Holds (Contains s) e → Any (λ m. IsSubset m s) sets
+contained : (e : Tree) (sets : List (List Term)) → AreAlternatives e sets → (s : List Term)
+    → Holds (Contains s) e → Any (λ m. IsSubset m s) sets
 contained e sets are s holds =
     let found = minimal_subset e s holds in
     any_of (λ m. IsSubset m s) sets found.0 (are.every found.0 found.1 found.2) found.3
@@ -98,12 +116,19 @@ costs_or_not cost (t ∷ ts) =
 abbrev SomeLeast : (Term → Option ℕ) → List (List Term) → ℕ → Type 0
 SomeLeast cost sets n = (best : Option (ℕ × ℕ)) × IsLeastOf cost sets n best
 
-next_least : (cost : Term → Option ℕ) (sets : List (List Term)) (n : ℕ) (best : Option (ℕ × ℕ)) → HasCosts cost (get_or sets n []) → IsLeastOf cost sets n best → SomeLeast cost sets (n + 1)
-next_least cost sets n None costs so_far = (Some (n, set_cost cost (get_or sets n [])), least_first cost sets n (set_cost cost (get_or sets n [])) costs refl so_far)
+next_least : (cost : Term → Option ℕ) (sets : List (List Term)) (n : ℕ) (best : Option (ℕ × ℕ))
+    → HasCosts cost (get_or sets n []) → IsLeastOf cost sets n best → SomeLeast cost sets (n + 1)
+next_least cost sets n None costs so_far = (
+  Some (n, set_cost cost (get_or sets n [])),
+  least_first cost sets n (set_cost cost (get_or sets n [])) costs refl so_far,
+)
 next_least cost sets n (Some best) costs so_far =
     let price = set_cost cost (get_or sets n []) in
     elim (order price best.1) [
-      | inl less ↦ (Some (n, price), least_new cost sets n best.0 best.1 price costs refl less so_far)
+      | inl less ↦ (
+        Some (n, price),
+        least_new cost sets n best.0 best.1 price costs refl less so_far,
+      )
       | inr more ↦ (Some best, least_kept cost sets n best.0 best.1 price refl more so_far)
     ]
 
@@ -118,15 +143,24 @@ some_least cost sets (suc n) =
     ])
 
 abbrev CheapestOrNone : (Term → Option ℕ) → Tree → Type 0
-CheapestOrNone cost e = ((price : ℕ) × (set : List Term) × IsCheapest cost e price set) ⊎ HasNoCosts cost e
+CheapestOrNone cost e = ((price : ℕ) × (set : List Term) × IsCheapest cost e price set)
+    ⊎ HasNoCosts cost e
 
-cheapest_by : (cost : Term → Option ℕ) (e : Tree) (sets : List (List Term)) (best : Option (ℕ × ℕ)) → AreAlternatives e sets → IsLeastOf cost sets (length sets) best → CheapestOrNone cost e
-cheapest_by cost e sets None are least = inr (none_cheapest cost e sets are.only (contained e sets are) (length sets) (omega arith) least)
+cheapest_by : (cost : Term → Option ℕ) (e : Tree) (sets : List (List Term)) (best : Option (ℕ × ℕ))
+    → AreAlternatives e sets → IsLeastOf cost sets (length sets) best → CheapestOrNone cost e
+cheapest_by cost e sets None are least = inr (none_cheapest cost e sets are.only
+    (contained e sets are) (length sets) (omega arith) least)
 cheapest_by cost e sets (Some best) are least =
     let set = get_or sets best.0 [] in
-    inl (best.1, set, is_cheapest cost e sets are.only (contained e sets are) are.ordered (length sets) best.0 best.1 set refl (get_or_default sets best.0 [] set least.0) least)
+    inl (
+      best.1,
+      set,
+      is_cheapest cost e sets are.only (contained e sets are) are.ordered (length sets) best.0
+          best.1 set refl (get_or_default sets best.0 [] set least.0) least,
+    )
 
-pub cheapest_exists : (cost : Term → Option ℕ) (e : Tree) → ((price : ℕ) × (set : List Term) × IsCheapest cost e price set) ⊎ HasNoCosts cost e
+pub cheapest_exists : (cost : Term → Option ℕ) (e : Tree)
+    → ((price : ℕ) × (set : List Term) × IsCheapest cost e price set) ⊎ HasNoCosts cost e
 cheapest_exists cost e =
     let own = alternatives_exist e in
     let least = some_least cost own.0 (length own.0) in
@@ -138,10 +172,14 @@ same_place : (s r : List Term) → IsUpTo s r → IsUpTo r s → s ≡ r
 same_place s r up down =
     elim up [
       | inl is ↦ is
-      | inr before ↦ elim down [ inl is ↦ sym is | inr after ↦ absurd (not_both set_order set_total s r before after) ]
+      | inr before ↦ elim down [
+        | inl is ↦ sym is
+        | inr after ↦ absurd (not_both set_order set_total s r before after)
+      ]
     ]
 
-pub one_cheapest : (cost : Term → Option ℕ) (e : Tree) (p q : ℕ) (s r : List Term) → IsCheapest cost e p s → IsCheapest cost e q r → (p ≡ q) × (s ≡ r)
+pub one_cheapest : (cost : Term → Option ℕ) (e : Tree) (p q : ℕ) (s r : List Term)
+    → IsCheapest cost e p s → IsCheapest cost e q r → (p ≡ q) × (s ≡ r)
 one_cheapest cost e p q s r a b =
     elim (a.least r b.ordered b.holds b.costs) [
       | inl under ↦ absurd (elim (b.least s a.ordered a.holds a.costs) [
@@ -154,5 +192,6 @@ one_cheapest cost e p q s r a b =
       ]
     ]
 
-pub cheapest_has_costs : (cost : Term → Option ℕ) (e : Tree) (price : ℕ) (set : List Term) → IsCheapest cost e price set → HasNoCosts cost e → ⊥
+pub cheapest_has_costs : (cost : Term → Option ℕ) (e : Tree) (price : ℕ) (set : List Term)
+    → IsCheapest cost e price set → HasNoCosts cost e → ⊥
 cheapest_has_costs cost e price set is none = none set is.holds is.costs

@@ -25,14 +25,17 @@ decided_not P (inl p) = inr (λ n. n p)
 decided_not P (inr n) = inl n
 
 pub decided_le : (n m : ℕ) → Decided (n ≤ m)
-decided_le n m = elim (order m n) [ inl more ↦ inr (λ few. absurd (omega (arith, more, few))) | inr few ↦ inl few ]
+decided_le n m = elim (order m n)
+    [ inl more ↦ inr (λ few. absurd (omega (arith, more, few))) | inr few ↦ inl few ]
 
 -- the first place below a bound at which a fact holds, or none
-pub first_below : (P : ℕ → Type 0) → ((k : ℕ) → Decided (P k)) → (n : ℕ) → ((i : ℕ) × IsFirst P i) ⊎ ((k : ℕ) → k < n → P k → ⊥)
+pub first_below : (P : ℕ → Type 0) → ((k : ℕ) → Decided (P k)) → (n : ℕ)
+    → ((i : ℕ) × IsFirst P i) ⊎ ((k : ℕ) → k < n → P k → ⊥)
 first_below P known zero = inr (λ k low h. absurd (omega (arith, low)))
 first_below P known (suc n) = next (first_below P known n) (known n)
   where
-    next : ((i : ℕ) × IsFirst P i) ⊎ ((k : ℕ) → k < n → P k → ⊥) → Decided (P n) → ((i : ℕ) × IsFirst P i) ⊎ ((k : ℕ) → k < suc n → P k → ⊥)
+    next : ((i : ℕ) × IsFirst P i) ⊎ ((k : ℕ) → k < n → P k → ⊥) → Decided (P n)
+        → ((i : ℕ) × IsFirst P i) ⊎ ((k : ℕ) → k < suc n → P k → ⊥)
     next (inl found) here = inl found
     next (inr none) (inl holds) = inl (n, (holds, none))
     next (inr none) (inr fails) = inr (λ k low h. elim (order k n) [
@@ -40,15 +43,18 @@ first_below P known (suc n) = next (first_below P known n) (known n)
       | inr above ↦ let is : k ≡ n = omega (arith, low, above) in fails (subst P is h)
     ])
 
--- whether a fact holds everywhere can be decided if it can at each place, and if it holds at each place after a bound provided that it holds at the bound
-pub decided_all : (P : ℕ → Type 0) → ((k : ℕ) → Decided (P k)) → (n : ℕ) → ((k : ℕ) → n ≤ k → P n → P k) → Decided ((k : ℕ) → P k)
-decided_all P known n later = elim (first_below (λ k. P k → ⊥) (λ k. decided_not (P k) (known k)) (suc n)) [
-  | inl found ↦ inr (λ holds. found.1.0 (holds found.0))
-  | inr none ↦ inl (λ k. elim (order k n) [
-    | inl below ↦ holds none k (omega (arith, below))
-    | inr above ↦ later k above (holds none n (omega arith))
-  ])
-]
+-- whether a fact holds everywhere can be decided if it can at each place, and if it holds at each
+-- place after a bound provided that it holds at the bound
+pub decided_all : (P : ℕ → Type 0) → ((k : ℕ) → Decided (P k)) → (n : ℕ)
+    → ((k : ℕ) → n ≤ k → P n → P k) → Decided ((k : ℕ) → P k)
+decided_all P known n later = elim (first_below (λ k. P k → ⊥) (λ k. decided_not (P k) (known k))
+    (suc n)) [
+      | inl found ↦ inr (λ holds. found.1.0 (holds found.0))
+      | inr none ↦ inl (λ k. elim (order k n) [
+        | inl below ↦ holds none k (omega (arith, below))
+        | inr above ↦ later k above (holds none n (omega arith))
+      ])
+    ]
   where
     holds : ((k : ℕ) → k < suc n → (P k → ⊥) → ⊥) → (k : ℕ) → k < suc n → P k
     holds none k low = elim (known k) [ inl h ↦ h | inr fails ↦ absurd (none k low fails) ]
@@ -57,5 +63,6 @@ pub same_first : (P : ℕ → Type 0) (i j : ℕ) → IsFirst P i → IsFirst P 
 same_first P i j (here, none) (there, none') =
     elim (order i j) [
       | inl before ↦ absurd (none' i before here)
-      | inr from ↦ elim (order j i) [ inl before ↦ absurd (none j before there) | inr until ↦ omega (arith, from, until) ]
+      | inr from ↦ elim (order j i)
+          [ inl before ↦ absurd (none j before there) | inr until ↦ omega (arith, from, until) ]
     ]

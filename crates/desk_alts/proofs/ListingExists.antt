@@ -28,14 +28,19 @@ use Rattle.desk_alts.proofs.Subsets.{subsets}
 -- ---- terms
 
 -- a list as a set of terms
-pub as_set : (xs : List Term) → (s : List Term) × IsTermSet s × ((t : Term) → Contains s t ↔ Contains xs t)
+pub as_set : (xs : List Term)
+    → (s : List Term) × IsTermSet s × ((t : Term) → Contains s t ↔ Contains xs t)
 as_set = in_order term_order total-law same_rank
 
 pub terms_exist : (e : Tree) → (ts : List Term) × AreTermsOf e ts
 terms_exist e = let own = as_set (leaves e) in (own.0, record { members = own.2; ordered = own.1 })
 
 pub one_list_of_terms : (e : Tree) (a b : List Term) → AreTermsOf e a → AreTermsOf e b → a ≡ b
-one_list_of_terms e a b x y = same_sets a b x.ordered y.ordered (λ t. ((λ at. (y.members t).1 ((x.members t).0 at)), (λ at. (x.members t).1 ((y.members t).0 at))))
+one_list_of_terms e a b x y = same_sets a b x.ordered y.ordered
+    (λ t. (
+      (λ at. (y.members t).1 ((x.members t).0 at)),
+      (λ at. (x.members t).1 ((y.members t).0 at)),
+    ))
 
 -- ---- which terms a minimal set has
 
@@ -50,17 +55,23 @@ minimal_or_not : (e : Tree) (s : List Term) → Decided (IsMinimal s e)
 minimal_or_not e s =
     elim (verdict e s) [
       | inl fails ↦ inr (λ least. fails least.0)
-      | inr holds ↦ elim holds [ inl spare ↦ inr (not_minimal_if_can_go s e spare.1 spare.2.0) | inr least ↦ inl least ]
+      | inr holds ↦ elim holds [
+        | inl spare ↦ inr (not_minimal_if_can_go s e spare.1 spare.2.0)
+        | inr least ↦ inl least
+      ]
     ]
 
 -- a term that doesn't occur in the tree can go
-minimal_has_own : (e : Tree) (s : List Term) → IsMinimal s e → (t : Term) → Contains s t → Contains (leaves e) t
+minimal_has_own : (e : Tree) (s : List Term) → IsMinimal s e → (t : Term) → Contains s t
+    → Contains (leaves e) t
 minimal_has_own e s least t at =
     elim (is_listed (leaves e) t) [
       | inl own ↦ own
       | inr foreign ↦ absurd (let few = without_is_list s t in
           least.1 few.0 ((λ u h. ((few.1 u).0 h).0), t, at, (λ h. ((few.1 t).0 h).1 refl))
-          (holds_on_leaves (Contains s) (Contains few.0) e (λ u leaf has. (few.1 u).1 (has, λ is. foreign (subst (Contains (leaves e)) is leaf))) least.0))
+          (holds_on_leaves (Contains s) (Contains few.0) e
+          (λ u leaf has. (few.1 u).1 (has, λ is. foreign (subst (Contains (leaves e)) is leaf)))
+          least.0))
     ]
 
 -- ---- listings
@@ -71,7 +82,8 @@ second_ties Equal s tie = tie
 second_ties Greater s tie = absurd (let e : Greater ≡ Equal = tie in cc)
 
 sets_tie : IsAntisymmetric set_order
-sets_tie a b tie = slice_cmp-IsAntisymmetric {R = term_order} same_rank a b (second_ties (nat_cmp (length a) (length b)) (slice_cmp term_order a b) tie)
+sets_tie a b tie = slice_cmp-IsAntisymmetric {R = term_order} same_rank a b
+    (second_ties (nat_cmp (length a) (length b)) (slice_cmp term_order a b) tie)
 
 pub alternatives_exist : (e : Tree) → (sets : List (List Term)) × AreAlternatives e sets
 alternatives_exist e =
@@ -86,15 +98,25 @@ alternatives_exist e =
             let s = get_or sets.0 k [] in
             let own = (least.1 s).0 ((sets.2 s).0 (Contains-get_or sets.0 k [] within)) in
             (((each.1 s).0 own.0).0, own.1));
-        every = λ s up minimal. (sets.2 s).1 ((least.1 s).1 ((each.1 s).1 (up, λ t at. (terms.1.members t).1 (minimal_has_own e s minimal t at)), minimal));
+        every = λ s up minimal. (sets.2 s).1
+            ((least.1 s).1 (
+              (each.1 s).1 (
+                up,
+                λ t at. (terms.1.members t).1 (minimal_has_own e s minimal t at),
+              ),
+              minimal,
+            ));
         ordered = sets.1;
       },
     )
 
-pub one_listing : (e : Tree) (a b : List (List Term)) → AreAlternatives e a → AreAlternatives e b → a ≡ b
+pub one_listing : (e : Tree) (a b : List (List Term)) → AreAlternatives e a → AreAlternatives e b
+    → a ≡ b
 one_listing e a b x y =
     same_sorted set_order set_total a b x.ordered y.ordered
     (λ s. (
-      (λ at. let own = All-contains (λ r. IsTermSet r × IsMinimal r e) a s x.only at in y.every s own.0 own.1),
-      (λ at. let own = All-contains (λ r. IsTermSet r × IsMinimal r e) b s y.only at in x.every s own.0 own.1),
+      (λ at. let own = All-contains (λ r. IsTermSet r × IsMinimal r e) a s x.only at in
+          y.every s own.0 own.1),
+      (λ at. let own = All-contains (λ r. IsTermSet r × IsMinimal r e) b s y.only at in
+          x.every s own.0 own.1),
     ))

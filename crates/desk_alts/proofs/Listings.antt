@@ -7,7 +7,9 @@ use Rattle.desk_alts.specs.Sets.{AreAlternatives, HasMoreTerms, HasWideFront}
 use Rattle.desk_alts.proofs.ListingExists.{alternatives_exist}
 use Rattle.desk_alts.proofs.FrontWidths.{more_terms_or_not, wide_or_not}
 
-pub listing_exists : (e : Tree) → (IsListable e × (sets : List (List Term)) × AreAlternatives e sets) ⊎ (HasMoreTerms 128 e ⊎ ((HasMoreTerms 128 e → ⊥) × HasWideFront e))
+pub listing_exists : (e : Tree)
+    → (IsListable e × (sets : List (List Term)) × AreAlternatives e sets)
+    ⊎ (HasMoreTerms 128 e ⊎ ((HasMoreTerms 128 e → ⊥) × HasWideFront e))
 listing_exists e =
     elim (more_terms_or_not 128 e) [
       | inl many ↦ inr (inl many)
@@ -17,5 +19,7 @@ listing_exists e =
       ]
     ]
 
-pub listable_has_no_fault : (e : Tree) → IsListable e → HasMoreTerms 128 e ⊎ ((HasMoreTerms 128 e → ⊥) × HasWideFront e) → ⊥
-listable_has_no_fault e listable fault = elim fault [ inl many ↦ listable.0 many | inr wide ↦ listable.1 wide.1 ]
+pub listable_has_no_fault : (e : Tree) → IsListable e
+    → HasMoreTerms 128 e ⊎ ((HasMoreTerms 128 e → ⊥) × HasWideFront e) → ⊥
+listable_has_no_fault e listable fault = elim fault
+    [ inl many ↦ listable.0 many | inr wide ↦ listable.1 wide.1 ]

@@ -14,20 +14,28 @@ use Rattle.desk_base.proofs.SortedOnce.{head_or_later, is_head, is_later, head_f
 none_listed : {K : Type 0} (q : K) → Contains [] q → ⊥
 none_listed q at = omega (arith, at.1)
 
-module _ {K : Type 0} (R : K → K → Ordering) (total : IsTotalOrder R) (same : IsAntisymmetric R) where
+module _ {K : Type 0} (R : K → K → Ordering) (total : IsTotalOrder R)
+    (same : IsAntisymmetric R) where
   -- the items of the list and one more, in order
   abbrev Inserted : K → List K → Type 0
-  Inserted x ys = (zs : List K) × IsStrictlySortedBy R zs × ((q : K) → Contains zs q ↔ Contains (x ∷ ys) q)
+  Inserted x ys = (zs : List K) × IsStrictlySortedBy R zs
+      × ((q : K) → Contains zs q ↔ Contains (x ∷ ys) q)
 
-  below_all : (x y : K) (ys : List K) → R x y ≡ Less → IsStrictlySortedBy R (y ∷ ys) → (z : K) → Contains (y ∷ ys) z → R x z ≡ Less
+  below_all : (x y : K) (ys : List K) → R x y ≡ Less → IsStrictlySortedBy R (y ∷ ys) → (z : K)
+      → Contains (y ∷ ys) z → R x z ≡ Less
   below_all x y ys less up z at =
       elim (head_or_later y ys z at) [
         | inl is ↦ ap (R x) (sym is) ∙ less
         | inr later ↦ total.trans x y z less (head_first R total y z ys up later)
       ]
 
-  insert_by : (x y : K) (ys : List K) (r : Ordering) → R x y ≡ r → IsStrictlySortedBy R (y ∷ ys) → Inserted x ys → Inserted x (y ∷ ys)
-  insert_by x y ys Less is up rest = (x ∷ y ∷ ys, sorted_onto R x (y ∷ ys) up (below_all x y ys is up), λ q. ((λ at. at), (λ at. at)))
+  insert_by : (x y : K) (ys : List K) (r : Ordering) → R x y ≡ r → IsStrictlySortedBy R (y ∷ ys)
+      → Inserted x ys → Inserted x (y ∷ ys)
+  insert_by x y ys Less is up rest = (
+    x ∷ y ∷ ys,
+    sorted_onto R x (y ∷ ys) up (below_all x y ys is up),
+    λ q. ((λ at. at), (λ at. at)),
+  )
   insert_by x y ys Equal is up rest = (
     y ∷ ys,
     up,
@@ -55,7 +63,8 @@ module _ {K : Type 0} (R : K → K → Ordering) (total : IsTotalOrder R) (same 
         ]
       ]),
       (λ at. elim (head_or_later x (y ∷ ys) q at) [
-        | inl own ↦ is_later y rest.0 q ((rest.2 q).1 (subst (Contains (x ∷ ys)) own (is_head x ys)))
+        | inl own ↦ is_later y rest.0 q
+            ((rest.2 q).1 (subst (Contains (x ∷ ys)) own (is_head x ys)))
         | inr inside ↦ elim (head_or_later y ys q inside) [
           | inl own ↦ subst (Contains (y ∷ rest.0)) own (is_head y rest.0)
           | inr later ↦ is_later y rest.0 q ((rest.2 q).1 (is_later x ys q later))
@@ -65,19 +74,28 @@ module _ {K : Type 0} (R : K → K → Ordering) (total : IsTotalOrder R) (same 
   )
 
   inserted : (x : K) (ys : List K) → IsStrictlySortedBy R ys → Inserted x ys
-  inserted x [] up = (x ∷ [], sorted_onto R x [] up (λ q at. absurd (none_listed q at)), λ q. ((λ at. at), (λ at. at)))
+  inserted x [] up = (
+    x ∷ [],
+    sorted_onto R x [] up (λ q at. absurd (none_listed q at)),
+    λ q. ((λ at. at), (λ at. at)),
+  )
   inserted x (y ∷ ys) up = insert_by x y ys (R x y) refl up (inserted x ys (sorted_tail R y ys up))
 
-  same_head : (x : K) (xs ys : List K) → ((q : K) → Contains ys q → Contains xs q) → (q : K) → Contains (x ∷ ys) q → Contains (x ∷ xs) q
+  same_head : (x : K) (xs ys : List K) → ((q : K) → Contains ys q → Contains xs q) → (q : K)
+      → Contains (x ∷ ys) q → Contains (x ∷ xs) q
   same_head x xs ys sub q at =
-      elim (head_or_later x ys q at) [ inl own ↦ subst (Contains (x ∷ xs)) own (is_head x xs) | inr later ↦ is_later x xs q (sub q later) ]
+      elim (head_or_later x ys q at) [
+        | inl own ↦ subst (Contains (x ∷ xs)) own (is_head x xs)
+        | inr later ↦ is_later x xs q (sub q later)
+      ]
 
   nothing_in_order : IsStrictlySortedBy R []
   unfolding IsStrictlySortedBy
   nothing_in_order = tt
 
   -- the items of a list in order, each once
-  pub in_order : (xs : List K) → (ys : List K) × IsStrictlySortedBy R ys × ((q : K) → Contains ys q ↔ Contains xs q)
+  pub in_order : (xs : List K) → (ys : List K) × IsStrictlySortedBy R ys
+      × ((q : K) → Contains ys q ↔ Contains xs q)
   in_order [] = ([], nothing_in_order, λ q. ((λ at. at), (λ at. at)))
   in_order (x ∷ xs) =
       let rest = in_order xs in
@@ -91,7 +109,8 @@ module _ {K : Type 0} (R : K → K → Ordering) (total : IsTotalOrder R) (same 
       )
 
 -- the items of a list for which a fact holds
-pub having : {K : Type 0} (P : K → Type 0) → ((q : K) → Decided (P q)) → (xs : List K) → (ys : List K) × ((q : K) → Contains ys q ↔ (Contains xs q × P q))
+pub having : {K : Type 0} (P : K → Type 0) → ((q : K) → Decided (P q)) → (xs : List K)
+    → (ys : List K) × ((q : K) → Contains ys q ↔ (Contains xs q × P q))
 having P known [] = ([], λ q. ((λ at. absurd (none_listed q at)), (λ h. h.0)))
 having P known (x ∷ xs) =
     let rest = having P known xs in

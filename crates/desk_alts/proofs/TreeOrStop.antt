@@ -23,8 +23,10 @@ tree_or_stop profile text = elim (tree_of_text profile text) [
   | inr none ↦ (let stop = some_stop profile text none in inr (stop.0, stop.2, stop.1))
 ]
 
-pub stops_spell_nothing : (profile : Profile) (text : List ℕ) (f : ParseFault) (e : Tree) → 0 < fault_number f → IsStopBy SpellsTree profile text f → SpellsWithinBy profile text e → ⊥
-stops_spell_nothing profile text f e told stop within = elim (stop_spells_nothing profile text f stop) [
-  | inl memory ↦ absurd (omega (arith, told, ap fault_number memory))
-  | inr none ↦ none e within
-]
+pub stops_spell_nothing : (profile : Profile) (text : List ℕ) (f : ParseFault) (e : Tree)
+    → 0 < fault_number f → IsStopBy SpellsTree profile text f → SpellsWithinBy profile text e → ⊥
+stops_spell_nothing profile text f e told stop within = elim (stop_spells_nothing profile text f
+    stop) [
+      | inl memory ↦ absurd (omega (arith, told, ap fault_number memory))
+      | inr none ↦ none e within
+    ]

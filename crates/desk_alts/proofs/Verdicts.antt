@@ -1,4 +1,5 @@
--- The verdict of a choice of terms: whether it satisfies a tree, and whether one of its terms can go.
+-- The verdict of a choice of terms: whether it satisfies a tree, and whether one of its terms can
+-- go.
 use Rattle.std.proofs.Common.{◌≡◌, ◌⊎◌, inl, inr, ℕ, List, [], ◌∷◌, length, Option, Some, None, subst, refl, arith}
 use Rattle.std.specs.Prelude.{slice_get, Contains}
 use Rattle.desk_expr.specs.declared.term.Term.{Term}
@@ -18,7 +19,8 @@ module _ (set : Term → Type 0) (known : (t : Term) → Decided (set t)) where
 
     all_hold_or_not : (ts : Trees) → Decided (AllHold set ts)
     all_hold_or_not no_more = inl tt
-    all_hold_or_not (more t ts) = decided_both (Holds set t) (AllHold set ts) (holds_or_not t) (all_hold_or_not ts)
+    all_hold_or_not (more t ts) = decided_both (Holds set t) (AllHold set ts) (holds_or_not t)
+        (all_hold_or_not ts)
 
     some_holds_or_not : (ts : Trees) → Decided (SomeHolds set ts)
     some_holds_or_not no_more = inr (λ h. h)
@@ -32,7 +34,8 @@ module _ (set : Term → Type 0) (known : (t : Term) → Decided (set t)) where
         ]
 
 without_or_not : (chosen : List Term) (gone t : Term) → Decided (Without chosen gone t)
-without_or_not chosen gone t = decided_both (Contains chosen t) (t ≡ gone → ⊥) (is_listed chosen t) (decided_not (t ≡ gone) (same_term t gone))
+without_or_not chosen gone t = decided_both (Contains chosen t) (t ≡ gone → ⊥) (is_listed chosen t)
+    (decided_not (t ≡ gone) (same_term t gone))
 
 can_go_or_not : (chosen : List Term) (e : Tree) (i : ℕ) → Decided (CanGo chosen e i)
 can_go_or_not chosen e i = at (slice_get chosen i) refl
@@ -42,10 +45,13 @@ can_go_or_not chosen e i = at (slice_get chosen i) refl
     at (Some t) is =
         elim (holds_or_not (Without chosen t) (without_or_not chosen t) e) [
           | inl h ↦ inl (t, is, h)
-          | inr fails ↦ inr (λ (u, there, h). let same : u ≡ t = cc in fails (subst (λ v. Holds (Without chosen v) e) same h))
+          | inr fails ↦ inr (λ (u, there, h). let same : u ≡ t = cc in
+              fails (subst (λ v. Holds (Without chosen v) e) same h))
         ]
 
-pub verdict : (e : Tree) (chosen : List Term) → (Holds (Contains chosen) e → ⊥) ⊎ ((Holds (Contains chosen) e × (i : ℕ) × IsFirst (CanGo chosen e) i) ⊎ IsMinimal chosen e)
+pub verdict : (e : Tree) (chosen : List Term)
+    → (Holds (Contains chosen) e → ⊥)
+    ⊎ ((Holds (Contains chosen) e × (i : ℕ) × IsFirst (CanGo chosen e) i) ⊎ IsMinimal chosen e)
 verdict e chosen =
     elim (holds_or_not (Contains chosen) (is_listed chosen) e) [
       | inr fails ↦ inl fails
@@ -56,5 +62,7 @@ verdict e chosen =
     ]
 
 -- a choice that has a term to spare is enough
-pub enough_if_can_go : (e : Tree) (chosen : List Term) (i : ℕ) → CanGo chosen e i → Holds (Contains chosen) e
-enough_if_can_go e chosen i (t, at, h) = holds_more (Without chosen t) (Contains chosen) (λ u w. w.0) e h
+pub enough_if_can_go : (e : Tree) (chosen : List Term) (i : ℕ) → CanGo chosen e i
+    → Holds (Contains chosen) e
+enough_if_can_go e chosen i (t, at, h) = holds_more (Without chosen t) (Contains chosen)
+    (λ u w. w.0) e h

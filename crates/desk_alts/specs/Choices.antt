@@ -19,9 +19,11 @@ Chosen table m t = (k : ℕ) × (slice_get table k ≡ Some t) × HasPlace m k
 
 -- the set of places satisfies the tree, and no other subset of it does
 abbrev pub IsMinimalMask : List Term → Tree → Mask → Type 0
-IsMinimalMask table e m = Holds (Chosen table m) e × ((n : Mask) → IsSubset n m → Holds (Chosen table n) e → IsSubset m n)
+IsMinimalMask table e m = Holds (Chosen table m) e
+    × ((n : Mask) → IsSubset n m → Holds (Chosen table n) e → IsSubset m n)
 
--- the listed sets are the minimal ones: a set satisfies the tree if and only if some listed set is a subset of it, and none is a subset of another
+-- the listed sets are the minimal ones: a set satisfies the tree if and only if some listed set is
+-- a subset of it, and none is a subset of another
 pub record AreMinimal (table : List Term) (e : Tree) (xs : List Mask) : Type 0 where
   pub exact : (m : Mask) → Holds (Chosen table m) e ↔ IsAbove xs m
   pub apart : AreApart xs
@@ -34,4 +36,5 @@ pub record IsTableFor (table : List Term) (e : Tree) : Type 0 where
 
 -- the set has the terms that the set of places chooses
 abbrev pub IsChoice : List Term → Mask → List Term → Type 0
-IsChoice table m s = IsStrictlySortedBy term_order s × ((t : Term) → Contains s t ↔ Chosen table m t)
+IsChoice table m s = IsStrictlySortedBy term_order s
+    × ((t : Term) → Contains s t ↔ Chosen table m t)

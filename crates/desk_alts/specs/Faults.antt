@@ -5,7 +5,8 @@ use Rattle.desk_alts.specs.declared.fault.AltFault.{AltFault}
 use Rattle.desk_alts.specs.declared.fault.AltFault.TheVariants.{TooManyTerms, TooMany, Memory}
 use Rattle.desk_alts.specs.Sets.{HasMoreTerms, HasWideFront}
 
--- the expression can be listed: it has at most 128 distinct terms, and no front has more than 64 minimal sets
+-- the expression can be listed: it has at most 128 distinct terms, and no front has more than 64
+-- minimal sets
 abbrev pub IsListable : Tree → Type 0
 IsListable e = (HasMoreTerms listed_terms e → ⊥) × (HasWideFront e → ⊥)
 

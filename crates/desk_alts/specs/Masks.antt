@@ -11,7 +11,8 @@ IsWithin a b = (k : ℕ) → bit_at a k ≡ 1 → bit_at b k ≡ 1
 
 -- some kept mask, in two columns, has no bit outside (low, high)
 abbrev pub IsCovered : ℕ → ℕ → List ℕ → List ℕ → Type 0
-IsCovered low high lows highs = (i : ℕ) × (i < length lows) × IsWithin (slice_index lows i) low × IsWithin (slice_index highs i) high
+IsCovered low high lows highs = (i : ℕ) × (i < length lows) × IsWithin (slice_index lows i) low
+    × IsWithin (slice_index highs i) high
 
 abbrev pub IsSubset : Mask → Mask → Type 0
 IsSubset x y = IsWithin x.low y.low × IsWithin x.high y.high
@@ -40,7 +41,8 @@ Adds old new Q = (m : Mask) → IsAbove new m ↔ (IsAbove old m ⊎ Q m)
 
 -- the same for the kept masks from a place up to another
 abbrev pub IsCoveredBetween : ℕ → ℕ → List ℕ → List ℕ → ℕ → ℕ → Type 0
-IsCoveredBetween low high lows highs from to = (i : ℕ) × (from ≤ i) × (i < to) × IsWithin (slice_index lows i) low × IsWithin (slice_index highs i) high
+IsCoveredBetween low high lows highs from to = (i : ℕ) × (from ≤ i) × (i < to)
+    × IsWithin (slice_index lows i) low × IsWithin (slice_index highs i) high
 
 -- the sets of some unions
 abbrev pub union_masks : List Union → List Mask

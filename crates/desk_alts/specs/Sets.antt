@@ -28,7 +28,8 @@ pub record AreAlternatives (e : Tree) (sets : List (List Term)) : Type 0 where
 -- the tree has more than this many minimal sets
 abbrev pub HasMoreSets : ℕ → Tree → Type 0
 HasMoreSets n e =
-    (sets : List (List Term)) × All (λ s. IsTermSet s × IsMinimal s e) sets × AllPairs (λ s r. s ≡ r → ⊥) sets × (n < length sets)
+    (sets : List (List Term)) × All (λ s. IsTermSet s × IsMinimal s e) sets
+    × AllPairs (λ s r. s ≡ r → ⊥) sets × (n < length sets)
 
 -- the tree has more than this many distinct terms
 abbrev pub HasMoreTerms : ℕ → Tree → Type 0
@@ -51,7 +52,8 @@ joined node (more t (more u us)) = node (more t (more u us))
 
 -- some front of a node, which is its first parts under its operator, has more than 64 minimal sets
 abbrev pub HasWideFrontOf : (Trees → Tree) → Trees → Type 0
-HasWideFrontOf node ts = (k : ℕ) × (1 ≤ k) × (k ≤ parts_count ts) × HasMoreSets listed_sets (joined node (first_parts k ts))
+HasWideFrontOf node ts = (k : ℕ) × (1 ≤ k) × (k ≤ parts_count ts)
+    × HasMoreSets listed_sets (joined node (first_parts k ts))
 
 -- some front of some node has more than 64 minimal sets
 abbrev mutual

@@ -8,8 +8,10 @@ use Rattle.desk_snapshot.specs.Changes.{has_room, is_body, is_formed}
 use Rattle.desk_snapshot.specs.Rows.{word_named}
 use Rattle.desk_snapshot.specs.declared.rows.StoredChange.{StoredChange}
 
-pub formed : (row : StoredChange) (word : Word) → word_named row.word ≡ Some word → is_day row.day ≡ true
+pub formed : (row : StoredChange) (word : Word) → word_named row.word ≡ Some word
+    → is_day row.day ≡ true
     → is_body word row.body ≡ true → is_formed row ≡ has_room word row.step
 formed row word named day body =
-    ap (λ found. is_day row.day && option_map_or (λ word. is_body word row.body && has_room word row.step) found false) named
+    ap (λ found. is_day row.day && option_map_or
+    (λ word. is_body word row.body && has_room word row.step) found false) named
     ∙ rw (day, body) refl

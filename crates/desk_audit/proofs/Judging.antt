@@ -7,7 +7,8 @@ use Rattle.std.specs.Cmp.{signed_Decides}
 use Rattle.std.specs.Prelude.{nat_le, length, MatchBool}
 use Rattle.desk_base.proofs.Bools.{and_left, and_right, both, contrary}
 use Rattle.desk_snapshot.specs.Conditions.{AreChanges, AreNumbered, was_frozen}
-use Rattle.desk_snapshot.specs.Changes.{AreChangesOf, are_moves, go_on, is_formed, is_raising, is_waived, is_within, last_change, leaves}
+use Rattle.desk_snapshot.specs.Changes.{AreChangesOf, are_moves, go_on, is_formed, is_raising}
+use Rattle.desk_snapshot.specs.Changes.{is_waived, is_within, last_change, leaves}
 use Rattle.desk_snapshot.specs.Rows.{AreFrom, is_change_of}
 use Rattle.desk_snapshot.specs.declared.rows.StoredChange.{StoredChange}
 use Rattle.desk_snapshot.specs.declared.rows.StoredDuty.{StoredDuty}
@@ -20,17 +21,20 @@ same_number m n e = (signed_Decides m n).0 e
 number_same : (m n : ℤ) → m ≡ n → int_eq m n ≡ true
 number_same m n e = (signed_Decides m n).1 e
 
-pub from_count : (n : ℕ) (rows : List StoredDuty) → count_from n rows ≡ true → AreFrom n (map (λ row. row.number) rows)
+pub from_count : (n : ℕ) (rows : List StoredDuty) → count_from n rows ≡ true
+    → AreFrom n (map (λ row. row.number) rows)
 from_count n [] e = tt
 from_count n (row ∷ rows) e = (
   same_number row.number (pos n) (and_left (int_eq row.number (pos n)) (count_from (n + 1) rows) e),
   from_count (n + 1) rows (and_right (int_eq row.number (pos n)) (count_from (n + 1) rows) e),
 )
 
-pub to_count : (n : ℕ) (rows : List StoredDuty) → AreFrom n (map (λ row. row.number) rows) → count_from n rows ≡ true
+pub to_count : (n : ℕ) (rows : List StoredDuty) → AreFrom n (map (λ row. row.number) rows)
+    → count_from n rows ≡ true
 to_count n [] h = refl
 to_count n (row ∷ rows) h =
-    both (int_eq row.number (pos n)) (count_from (n + 1) rows) (number_same row.number (pos n) h.0) (to_count (n + 1) rows h.1)
+    both (int_eq row.number (pos n)) (count_from (n + 1) rows) (number_same row.number (pos n) h.0)
+    (to_count (n + 1) rows h.1)
 
 module _ (s : Snapshot) (state : List ℕ) where
   -- what a run of changes is after one of them
@@ -40,17 +44,27 @@ module _ (s : Snapshot) (state : List ℕ) where
     goes : go_on s before rows ≡ true
     ends : leaves state (last_change before rows) ≡ true
 
-  leads : (before : StoredChange) (n : ℕ) (rows : List StoredChange) → lead s state (Some before) n rows ≡ true
+  leads : (before : StoredChange) (n : ℕ) (rows : List StoredChange)
+      → lead s state (Some before) n rows ≡ true
       → Leads before n rows
   leads before n [] e = record { steps = tt; formed = refl; goes = refl; ends = e }
   leads before n (row ∷ rows) e =
-      let here = and_left (is_next s (Some before) n row) (lead s state (Some row) (n + 1) rows) e in
-      let more = leads row (n + 1) rows (and_right (is_next s (Some before) n row) (lead s state (Some row) (n + 1) rows) e) in
-      let rest = and_right (int_eq row.step (pos n)) (is_formed row && follows s (Some before) row) here in
+      let here = and_left (is_next s (Some before) n row) (lead s state (Some row) (n + 1) rows)
+      e in
+      let more = leads row (n + 1) rows
+      (and_right (is_next s (Some before) n row) (lead s state (Some row) (n + 1) rows) e) in
+      let rest = and_right (int_eq row.step (pos n)) (is_formed row && follows s (Some before) row)
+      here in
       record {
-        steps = (same_number row.step (pos n) (and_left (int_eq row.step (pos n)) (is_formed row && follows s (Some before) row) here), more.steps);
-        formed = both (is_formed row) (list_all is_formed rows) (and_left (is_formed row) (follows s (Some before) row) rest) more.formed;
-        goes = both (follows s (Some before) row) (go_on s row rows) (and_right (is_formed row) (follows s (Some before) row) rest) more.goes;
+        steps = (
+          same_number row.step (pos n) (and_left (int_eq row.step (pos n))
+              (is_formed row && follows s (Some before) row) here),
+          more.steps,
+        );
+        formed = both (is_formed row) (list_all is_formed rows)
+            (and_left (is_formed row) (follows s (Some before) row) rest) more.formed;
+        goes = both (follows s (Some before) row) (go_on s row rows)
+            (and_right (is_formed row) (follows s (Some before) row) rest) more.goes;
         ends = more.ends;
       }
 
@@ -58,8 +72,11 @@ module _ (s : Snapshot) (state : List ℕ) where
       → lead s state (Some before) n rows ≡ true
   led before n [] h = h.ends
   led before n (row ∷ rows) h =
-      let next = both (int_eq row.step (pos n)) (is_formed row && follows s (Some before) row) (number_same row.step (pos n) h.steps.0)
-      (both (is_formed row) (follows s (Some before) row) (and_left (is_formed row) (list_all is_formed rows) h.formed) (and_left (follows s (Some before) row) (go_on s row rows) h.goes)) in
+      let next = both (int_eq row.step (pos n)) (is_formed row && follows s (Some before) row)
+      (number_same row.step (pos n) h.steps.0)
+      (both (is_formed row) (follows s (Some before) row)
+      (and_left (is_formed row) (list_all is_formed rows) h.formed)
+      (and_left (follows s (Some before) row) (go_on s row rows) h.goes)) in
       both (is_next s (Some before) n row) (lead s state (Some row) (n + 1) rows) next
       (led row (n + 1) rows (record {
         steps = h.steps.1;
@@ -76,26 +93,39 @@ pub record AreMoves (s : Snapshot) (state : List ℕ) (rows : List StoredChange)
   pub formed : list_all is_formed rows ≡ true
   pub moves : are_moves s state rows ≡ true
 
-to_moves : (s : Snapshot) (state : List ℕ) (rows : List StoredChange) → lead s state None 1 rows ≡ true → AreMoves s state rows
+to_moves : (s : Snapshot) (state : List ℕ) (rows : List StoredChange)
+    → lead s state None 1 rows ≡ true → AreMoves s state rows
 to_moves s state [] e = cc
 to_moves s state (row ∷ rows) e =
     let here = and_left (is_next s None 1 row) (lead s state (Some row) 2 rows) e in
-    let more = leads s state row 2 rows (and_right (is_next s None 1 row) (lead s state (Some row) 2 rows) e) in
+    let more = leads s state row 2 rows
+    (and_right (is_next s None 1 row) (lead s state (Some row) 2 rows) e) in
     let rest = and_right (int_eq row.step (pos 1)) (is_formed row && is_raising row) here in
     record {
-      steps = (same_number row.step (pos 1) (and_left (int_eq row.step (pos 1)) (is_formed row && is_raising row) here), more.steps);
-      formed = both (is_formed row) (list_all is_formed rows) (and_left (is_formed row) (is_raising row) rest) more.formed;
-      moves = both (is_raising row) (go_on s row rows && leaves state (last_change row rows)) (and_right (is_formed row) (is_raising row) rest)
+      steps = (
+        same_number row.step (pos 1) (and_left (int_eq row.step (pos 1))
+            (is_formed row && is_raising row) here),
+        more.steps,
+      );
+      formed = both (is_formed row) (list_all is_formed rows)
+          (and_left (is_formed row) (is_raising row) rest) more.formed;
+      moves = both (is_raising row) (go_on s row rows && leaves state (last_change row rows))
+          (and_right (is_formed row) (is_raising row) rest)
           (both (go_on s row rows) (leaves state (last_change row rows)) more.goes more.ends);
     }
 
-from_moves : (s : Snapshot) (state : List ℕ) (rows : List StoredChange) → AreMoves s state rows → lead s state None 1 rows ≡ true
+from_moves : (s : Snapshot) (state : List ℕ) (rows : List StoredChange) → AreMoves s state rows
+    → lead s state None 1 rows ≡ true
 from_moves s state [] h = h.moves
 from_moves s state (row ∷ rows) h =
-    let later = and_right (is_raising row) (go_on s row rows && leaves state (last_change row rows)) h.moves in
-    let next = both (int_eq row.step (pos 1)) (is_formed row && is_raising row) (number_same row.step (pos 1) h.steps.0)
-    (both (is_formed row) (is_raising row) (and_left (is_formed row) (list_all is_formed rows) h.formed)
-    (and_left (is_raising row) (go_on s row rows && leaves state (last_change row rows)) h.moves)) in
+    let later = and_right (is_raising row) (go_on s row rows && leaves state (last_change row rows))
+    h.moves in
+    let next = both (int_eq row.step (pos 1)) (is_formed row && is_raising row)
+    (number_same row.step (pos 1) h.steps.0)
+    (both (is_formed row) (is_raising row)
+    (and_left (is_formed row) (list_all is_formed rows) h.formed)
+    (and_left (is_raising row) (go_on s row rows && leaves state (last_change row rows))
+    h.moves)) in
     both (is_next s None 1 row) (lead s state (Some row) 2 rows) next
     (led s state row 2 rows (record {
       steps = h.steps.1;
@@ -111,7 +141,8 @@ pub each_led : (s : Snapshot) (duties : List StoredDuty) → list_all (leads_to 
     → AllByRecursion (AreChangesOf s) duties
 each_led s [] e = tt
 each_led s (duty ∷ duties) e =
-    let these = to_moves s duty.state (changes_of s duty) (and_left (leads_to s duty) (list_all (leads_to s) duties) e) in (
+    let these = to_moves s duty.state (changes_of s duty)
+    (and_left (leads_to s duty) (list_all (leads_to s) duties) e) in (
       record { steps = these.steps; formed = these.formed; moves = these.moves },
       each_led s duties (and_right (leads_to s duty) (list_all (leads_to s) duties) e),
     )
@@ -121,17 +152,28 @@ pub led_each : (s : Snapshot) (duties : List StoredDuty) → AllByRecursion (Are
 led_each s [] h = refl
 led_each s (duty ∷ duties) h =
     both (leads_to s duty) (list_all (leads_to s) duties)
-    (from_moves s duty.state (changes_of s duty) (record { steps = h.0.steps; formed = h.0.formed; moves = h.0.moves }))
+    (from_moves s duty.state (changes_of s duty)
+    (record { steps = h.0.steps; formed = h.0.formed; moves = h.0.moves }))
     (led_each s duties h.1)
 
 pub numbered : (s : Snapshot) (b : Bool) → b ≡ list_all (λ row. was_frozen s row.release) s.duty
     → count_from 1 s.duty ≡ true → nat_le (length s.duty) 100000 ≡ true
     → MatchBool b (AreNumbered s) (AreNumbered s → ⊥)
-numbered s true e count few = record { numbered = from_count 1 s.duty count; few = few; frozen = sym e }
-numbered s false e count few = λ h. contrary (list_all (λ row. was_frozen s row.release) s.duty) h.frozen (sym e)
+numbered s true e count few = record {
+  numbered = from_count 1 s.duty count;
+  few = few;
+  frozen = sym e;
+}
+numbered s false e count few = λ h. contrary (list_all (λ row. was_frozen s row.release) s.duty)
+    h.frozen (sym e)
 
-pub changed : (s : Snapshot) (b : Bool) → b ≡ list_all (is_waived s) s.waiver → list_all (leads_to s) s.duty ≡ true
+pub changed : (s : Snapshot) (b : Bool) → b ≡ list_all (is_waived s) s.waiver
+    → list_all (leads_to s) s.duty ≡ true
     → list_all (λ row. is_within (length s.duty) row.duty) s.changes ≡ true
     → MatchBool b (AreChanges s) (AreChanges s → ⊥)
-changed s true e each all = record { of_each = each_led s s.duty each; of_duties = all; waivers = sym e }
+changed s true e each all = record {
+  of_each = each_led s s.duty each;
+  of_duties = all;
+  waivers = sym e;
+}
 changed s false e each all = λ h. contrary (list_all (is_waived s) s.waiver) h.waivers (sym e)

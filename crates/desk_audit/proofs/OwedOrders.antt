@@ -1,12 +1,14 @@
 -- What duties are owed for: in one order, and equally often.
-use Rattle.std.proofs.Common.{◌≡◌, ℕ, suc, ◌<◌, Bool, true, false, List, [], ◌∷◌, map, length, refl, sym, ap, ◌∙◌, arith, subst, Ordering, Less, Equal, Greater}
+use Rattle.std.proofs.Common.{◌≡◌, ℕ, suc, ◌<◌, Bool, true, false, List, [], ◌∷◌, map, length, refl}
+use Rattle.std.proofs.Common.{sym, ap, ◌∙◌, arith, subst, Ordering, Less, Equal, Greater}
 use Rattle.std.specs.Prelude.{ℤ, not, ◌&&◌, IsPermutation, MatchBool}
 use Rattle.std.specs.Cmp.{signed_Decides}
 use Rattle.std.specs.Cmp.Lexicographic.{slice_cmp}
 use Rattle.std.specs.List.Sorted.{IsSorted}
 use Rattle.std.specs.Ordering.{nat_cmp, int_cmp, is_eq, is_lt, ordering_then}
 use Rattle.std.proofs.lemmas.Cmp.{tied_itself}
-use Rattle.std.proofs.lemmas.List.Sorted.{IsPermutation-map, IsPermutation-trans, IsPermutation-sym, length_permutation, ranks_by}
+use Rattle.std.proofs.lemmas.List.Sorted.{IsPermutation-map, IsPermutation-trans, IsPermutation-sym}
+use Rattle.std.proofs.lemmas.List.Sorted.{length_permutation, ranks_by}
 use Rattle.std.proofs.lemmas.Map.Text.{is_eq-slice_cmp}
 use Rattle.desk_base.proofs.Bools.{and_left, and_right, both, contrary}
 use Rattle.desk_base.proofs.Texts.{texts_equal}
@@ -48,13 +50,23 @@ same_owed x y e =
     let e3 : terms ≡ Equal = then_right (text x.package_id y.package_id) terms e2 in
     let e4 : codes ≡ Equal = then_right (text x.term y.term) codes e3 in
     let e5 : rules ≡ Equal = then_right (text x.code y.code) rules e4 in
-    let release = same_text x.release y.release (then_left (text x.release y.release) documents e) in
-    let document = same_number x.document y.document (then_left (int_cmp x.document y.document) packages e1) in
-    let package_id = same_text x.package_id y.package_id (then_left (text x.package_id y.package_id) terms e2) in
+    let release = same_text x.release y.release
+    (then_left (text x.release y.release) documents e) in
+    let document = same_number x.document y.document
+    (then_left (int_cmp x.document y.document) packages e1) in
+    let package_id = same_text x.package_id y.package_id
+    (then_left (text x.package_id y.package_id) terms e2) in
     let term = same_text x.term y.term (then_left (text x.term y.term) codes e3) in
     let code = same_text x.code y.code (then_left (text x.code y.code) rules e4) in
     let rule = same_text x.rule y.rule e5 in
-    λ i. record { release = release i; document = document i; package_id = package_id i; term = term i; code = code i; rule = rule i }
+    λ i. record {
+      release = release i;
+      document = document i;
+      package_id = package_id i;
+      term = term i;
+      code = code i;
+      rule = rule i;
+    }
 
 -- items that are equal at each place are the same
 
@@ -65,8 +77,10 @@ alike_same (x ∷ xs) [] e = cc
 alike_same (x ∷ xs) (y ∷ ys) e =
     let here =
     same_owed (owed_in x) (owed_in y)
-    (equal (owed_order (owed_in x) (owed_in y)) (and_left (is_eq (owed_order (owed_in x) (owed_in y))) (are_alike xs ys) e)) in
-    let more = alike_same xs ys (and_right (is_eq (owed_order (owed_in x) (owed_in y))) (are_alike xs ys) e) in
+    (equal (owed_order (owed_in x) (owed_in y))
+    (and_left (is_eq (owed_order (owed_in x) (owed_in y))) (are_alike xs ys) e)) in
+    let more = alike_same xs ys (and_right (is_eq (owed_order (owed_in x) (owed_in y)))
+    (are_alike xs ys) e) in
     λ i. here i ∷ more i
   where
     equal : (o : Ordering) → is_eq o ≡ true → o ≡ Equal
@@ -82,7 +96,8 @@ same_alike (x ∷ xs) (y ∷ ys) e =
     let here : owed_in x ≡ owed_in y = cc in
     let more : map owed_in xs ≡ map owed_in ys = cc in
     both (is_eq (owed_order (owed_in x) (owed_in y))) (are_alike xs ys)
-    (ap (λ z. is_eq (owed_order z (owed_in y))) here ∙ ap is_eq (tied_itself owed_total (owed_in y)))
+    (ap (λ z. is_eq (owed_order z (owed_in y))) here
+    ∙ ap is_eq (tied_itself owed_total (owed_in y)))
     (same_alike xs ys more)
 
 no_more : (b : Bool) → (b && false) ≡ false
@@ -101,43 +116,54 @@ uneven (x ∷ xs) (y ∷ ys) h =
 -- a sorted list of what is owed is in order
 
 over-mapped : (x : OwedFor) (xs : List OwedFor)
-    → over (λ x y. is_lt (owed_order (owed_in x) (owed_in y))) x xs ≡ over (below_by owed_order) (owed_in x) (map owed_in xs)
+    → over (λ x y. is_lt (owed_order (owed_in x) (owed_in y))) x xs
+    ≡ over (below_by owed_order) (owed_in x) (map owed_in xs)
 over-mapped x [] = refl
-over-mapped x (y ∷ ys) = ap (λ b. not (is_lt (owed_order (owed_in y) (owed_in x))) && b) (over-mapped x ys)
+over-mapped x (y ∷ ys) = ap (λ b. not (is_lt (owed_order (owed_in y) (owed_in x))) && b)
+    (over-mapped x ys)
 
 ascends-mapped : (xs : List OwedFor)
-    → ascends (λ x y. is_lt (owed_order (owed_in x) (owed_in y))) xs ≡ ascends (below_by owed_order) (map owed_in xs)
+    → ascends (λ x y. is_lt (owed_order (owed_in x) (owed_in y))) xs
+    ≡ ascends (below_by owed_order) (map owed_in xs)
 ascends-mapped [] = refl
 ascends-mapped (x ∷ xs) = λ i. over-mapped x xs i && ascends-mapped xs i
 
 pub owed_ascends : (xs : List OwedFor) → IsSorted (λ x y. owed_order (owed_in x) (owed_in y)) xs
     → ascends (below_by owed_order) (map owed_in xs) ≡ true
 owed_ascends xs sorted = sym (ascends-mapped xs)
-    ∙ ascends-sorted (λ x y. is_lt (owed_order (owed_in x) (owed_in y))) (ranks_by owed_total owed_in) xs sorted
+    ∙ ascends-sorted (λ x y. is_lt (owed_order (owed_in x) (owed_in y)))
+    (ranks_by owed_total owed_in) xs sorted
 
 module _ (owed told : List Owed) (xs xs′ ys ys′ : List OwedFor)
-    (are : map owed_in xs ≡ owed) (them : map owed_in ys ≡ told) (left : IsPermutation xs xs′) (right : IsPermutation ys ys′) where
+    (are : map owed_in xs ≡ owed) (them : map owed_in ys ≡ told) (left : IsPermutation xs xs′)
+    (right : IsPermutation ys ys′) where
   there : IsPermutation owed (map owed_in xs′)
   there = subst (λ l. IsPermutation l (map owed_in xs′)) are (IsPermutation-map owed_in xs xs′ left)
 
   here : IsPermutation told (map owed_in ys′)
-  here = subst (λ l. IsPermutation l (map owed_in ys′)) them (IsPermutation-map owed_in ys ys′ right)
+  here = subst (λ l. IsPermutation l (map owed_in ys′)) them
+      (IsPermutation-map owed_in ys ys′ right)
 
-  pub judged : IsSorted (λ x y. owed_order (owed_in x) (owed_in y)) xs′ → IsSorted (λ x y. owed_order (owed_in x) (owed_in y)) ys′
-      → (b : Bool) → b ≡ are_alike xs′ ys′ → MatchBool b (IsPermutation owed told) (IsPermutation owed told → ⊥)
+  pub judged : IsSorted (λ x y. owed_order (owed_in x) (owed_in y)) xs′
+      → IsSorted (λ x y. owed_order (owed_in x) (owed_in y)) ys′
+      → (b : Bool) → b ≡ are_alike xs′ ys′
+      → MatchBool b (IsPermutation owed told) (IsPermutation owed told → ⊥)
   judged up down true e =
       let same = alike_same xs′ ys′ (sym e) in
       IsPermutation-trans owed (map owed_in xs′) told there
       (subst (λ l. IsPermutation l told) (sym same) (IsPermutation-sym told (map owed_in ys′) here))
   judged up down false e = λ same.
       let between =
-      IsPermutation-trans (map owed_in xs′) owed (map owed_in ys′) (IsPermutation-sym owed (map owed_in xs′) there)
+      IsPermutation-trans (map owed_in xs′) owed (map owed_in ys′)
+      (IsPermutation-sym owed (map owed_in xs′) there)
       (IsPermutation-trans owed told (map owed_in ys′) same here) in
       contrary (are_alike xs′ ys′)
-      (same_alike xs′ ys′ (sorted_once owed_order owed_total same_owed (map owed_in xs′) (map owed_in ys′)
+      (same_alike xs′ ys′ (sorted_once owed_order owed_total same_owed (map owed_in xs′)
+      (map owed_in ys′)
       (owed_ascends xs′ up) (owed_ascends ys′ down) between))
       (sym e)
 
 -- more is owed than there are duties
-pub too_many : {A : Type 0} (owed told : List A) (n : ℕ) → n < length owed → n ≡ length told → IsPermutation owed told → ⊥
+pub too_many : {A : Type 0} (owed told : List A) (n : ℕ) → n < length owed → n ≡ length told
+    → IsPermutation owed told → ⊥
 too_many owed told n more is same = omega (arith, length_permutation owed told same)

@@ -1,5 +1,7 @@
 -- Rules in the order of their spellings; the first of each is the first in the table.
-use Rattle.std.proofs.Common.{◌≡◌, ℕ, Bool, true, false, cond, List, [], ◌∷◌, map, filter, slice_get, Option, Some, None, refl, sym, ap, ◌∙◌, Ordering, Less, Equal, Greater}
+use Rattle.std.proofs.Common.{◌≡◌, ℕ, Bool, true, false, cond, List, [], ◌∷◌, map, filter}
+use Rattle.std.proofs.Common.{slice_get, Option, Some, None, refl, sym, ap, ◌∙◌, Ordering, Less}
+use Rattle.std.proofs.Common.{Equal, Greater}
 use Rattle.std.specs.Prelude.{ℤ, find, not, ◌&&◌, ◌||◌, IsPermutation}
 use Rattle.std.specs.List.{list_any}
 use Rattle.std.specs.List.Sorted.{IsStableBy, ties}
@@ -11,14 +13,16 @@ use Rattle.std.proofs.lemmas.List.Sorted.{list_any-IsPermutation}
 use Rattle.desk_model.specs.Keys.{below_by}
 use Rattle.desk_snapshot.specs.Rows.{is_rule_spelled}
 use Rattle.desk_snapshot.specs.declared.rows.StoredRule.{StoredRule}
-use Rattle.desk_audit.specs.Spelled.{FindsAs, is_spelled, spelled_meets, spelled_order, spelled_total, spelling, spelling_cmp, spelling_total}
+use Rattle.desk_audit.specs.Spelled.{FindsAs, is_spelled, spelled_meets, spelled_order}
+use Rattle.desk_audit.specs.Spelled.{spelled_total, spelling, spelling_cmp, spelling_total}
 use Rattle.desk_audit.specs.declared.rules.RuleAt.{RuleAt}
 
 first_kept : {A : Type 0} (p : A → Bool) (xs : List A) → find p xs ≡ slice_get (filter p xs) 0
 first_kept p [] = refl
 first_kept {A} p (x ∷ xs) = go (p x) refl (first_kept p xs)
   where
-    go : (b : Bool) → p x ≡ b → find p xs ≡ slice_get (filter p xs) 0 → find p (x ∷ xs) ≡ slice_get (filter p (x ∷ xs)) 0
+    go : (b : Bool) → p x ≡ b → find p xs ≡ slice_get (filter p xs) 0
+        → find p (x ∷ xs) ≡ slice_get (filter p (x ∷ xs)) 0
     go true e more = rw e refl
     go false e more = rw e more
 
@@ -31,7 +35,8 @@ found_passes : {A : Type 0} (p : A → Bool) (xs : List A) (x : A) → find p xs
 found_passes p [] x e = cc
 found_passes {A} p (y ∷ ys) x e = go (p y) refl (λ f. found_passes p ys x f) e
   where
-    go : (b : Bool) → p y ≡ b → (find p ys ≡ Some x → p x ≡ true) → cond b (Some y) (find p ys) ≡ Some x → p x ≡ true
+    go : (b : Bool) → p y ≡ b → (find p ys ≡ Some x → p x ≡ true)
+        → cond b (Some y) (find p ys) ≡ Some x → p x ≡ true
     go true f more e = let one : y ≡ x = cc in ap p (sym one) ∙ f
     go false f more e = more e
 
@@ -39,7 +44,8 @@ none_passes : {A : Type 0} (p : A → Bool) (xs : List A) → find p xs ≡ None
 none_passes p [] e = refl
 none_passes {A} p (y ∷ ys) e = go (p y) (λ f. none_passes p ys f) e
   where
-    go : (b : Bool) → (find p ys ≡ None → list_any p ys ≡ false) → cond b (Some y) (find p ys) ≡ None
+    go : (b : Bool) → (find p ys ≡ None → list_any p ys ≡ false)
+        → cond b (Some y) (find p ys) ≡ None
         → (b || list_any p ys) ≡ false
     go true more e = cc
     go false more e = more e
@@ -62,16 +68,20 @@ module _ {A : Type 0} (order : A → A → Ordering) (total : IsTotalOrder order
   tied Greater p e = rw e refl
 
   kept : (x : A) → at x ≡ true → (xs : List A) → filter at xs ≡ filter (ties (below_by order) x) xs
-  kept x e xs = filter_agree at (ties (below_by order) x) (λ y. alike x y e ∙ tied (order x y) (order y x) (total.antisymm y x)) xs
+  kept x e xs = filter_agree at (ties (below_by order) x)
+      (λ y. alike x y e ∙ tied (order x y) (order y x) (total.antisymm y x)) xs
 
-  pub first_stays : (xs ys : List A) → IsPermutation xs ys → IsStableBy (below_by order) xs ys → find at ys ≡ find at xs
+  pub first_stays : (xs ys : List A) → IsPermutation xs ys → IsStableBy (below_by order) xs ys
+      → find at ys ≡ find at xs
   first_stays xs ys same stable = go (find at xs) refl
     where
       go : (o : Option A) → find at xs ≡ o → find at ys ≡ o
-      go None e = none_found at ys (sym (list_any-IsPermutation at xs ys same) ∙ none_passes at xs e)
+      go None e = none_found at ys (sym (list_any-IsPermutation at xs ys same)
+          ∙ none_passes at xs e)
       go (Some x) e =
           let here = found_passes at xs x e in
-          first_kept at ys ∙ ap (λ l. slice_get l 0) (kept x here ys ∙ stable x ∙ sym (kept x here xs))
+          first_kept at ys ∙ ap (λ l. slice_get l 0)
+          (kept x here ys ∙ stable x ∙ sym (kept x here xs))
           ∙ sym (first_kept at xs) ∙ e
 
 is_eq-turned : (o : Ordering) → is_eq (ordering_reverse o) ≡ is_eq o
@@ -79,32 +89,38 @@ is_eq-turned Less = refl
 is_eq-turned Equal = refl
 is_eq-turned Greater = refl
 
-spelled_alike : (revision : ℤ) (form spelled : List ℕ) (x y : RuleAt) → is_spelled revision form spelled x ≡ true
+spelled_alike : (revision : ℤ) (form spelled : List ℕ) (x y : RuleAt)
+    → is_spelled revision form spelled x ≡ true
     → is_spelled revision form spelled y ≡ is_eq (spelled_order x y)
 spelled_alike revision form spelled x y e =
     let key : ℤ × List ℕ × List ℕ = (revision, form, spelled) in
     let here : spelling_cmp (spelling x) key ≡ Equal =
     equal_of (spelling_cmp (spelling x) key) (sym (spelled_meets revision form spelled x) ∙ e) in
     spelled_meets revision form spelled y
-    ∙ (ap is_eq (spelling_total.antisymm (spelling y) key) ∙ is_eq-turned (spelling_cmp key (spelling y)))
+    ∙ (ap is_eq (spelling_total.antisymm (spelling y) key)
+    ∙ is_eq-turned (spelling_cmp key (spelling y)))
     ∙ sym (ap is_eq (spelling_total.congr (spelling x) key (spelling y) here))
 
 abbrev ruled : RuleAt → StoredRule
 ruled at = at.rule.now
 
-find-rule : (p : StoredRule → Bool) (xs : List RuleAt) → option_map ruled (find (λ at. p (ruled at)) xs) ≡ find p (map ruled xs)
+find-rule : (p : StoredRule → Bool) (xs : List RuleAt)
+    → option_map ruled (find (λ at. p (ruled at)) xs) ≡ find p (map ruled xs)
 find-rule p [] = refl
 find-rule p (x ∷ xs) = go (p (ruled x)) (find-rule p xs)
   where
     go : (b : Bool) → option_map ruled (find (λ at. p (ruled at)) xs) ≡ find p (map ruled xs)
-        → option_map ruled (cond b (Some x) (find (λ at. p (ruled at)) xs)) ≡ cond b (Some (ruled x)) (find p (map ruled xs))
+        → option_map ruled (cond b (Some x) (find (λ at. p (ruled at)) xs))
+        ≡ cond b (Some (ruled x)) (find p (map ruled xs))
     go true more = refl
     go false more = more
 
-pub rules_found : (rules : List StoredRule) (xs ys : List RuleAt) → map (λ at. at.rule.now) xs ≡ rules → IsPermutation xs ys
+pub rules_found : (rules : List StoredRule) (xs ys : List RuleAt)
+    → map (λ at. at.rule.now) xs ≡ rules → IsPermutation xs ys
     → IsStableBy (below_by spelled_order) xs ys → FindsAs ys rules
 rules_found rules xs ys are same stable revision form spelled =
     let at = is_spelled revision form spelled in
-    ap (option_map ruled) (first_stays spelled_order spelled_total at (spelled_alike revision form spelled) xs ys same stable)
+    ap (option_map ruled) (first_stays spelled_order spelled_total at
+    (spelled_alike revision form spelled) xs ys same stable)
     ∙ find-rule (is_rule_spelled revision form spelled) xs
     ∙ ap (find (is_rule_spelled revision form spelled)) are

@@ -36,7 +36,8 @@ by_text f = on f (slice_cmp nat_cmp)
 
 abbrev pub owed_order : Owed → Owed → Ordering
 owed_order =
-    then_cmp (by_text (λ x. x.release)) (then_cmp (on (λ x. x.document) int_cmp) (then_cmp (by_text (λ x. x.package_id))
+    then_cmp (by_text (λ x. x.release))
+    (then_cmp (on (λ x. x.document) int_cmp) (then_cmp (by_text (λ x. x.package_id))
     (then_cmp (by_text (λ x. x.term)) (then_cmp (by_text (λ x. x.code)) (by_text (λ x. x.rule))))))
 
 -- two lists have equal items at each place
@@ -50,6 +51,8 @@ by_text_total f = on_total f nat_list_cmp_total
 
 pub owed_total : IsTotalOrder owed_order
 owed_total =
-    then_total (by_text_total (λ x. x.release)) (then_total (on_total (λ x. x.document) int_cmp_total)
+    then_total (by_text_total (λ x. x.release))
+    (then_total (on_total (λ x. x.document) int_cmp_total)
     (then_total (by_text_total (λ x. x.package_id))
-    (then_total (by_text_total (λ x. x.term)) (then_total (by_text_total (λ x. x.code)) (by_text_total (λ x. x.rule))))))
+    (then_total (by_text_total (λ x. x.term))
+    (then_total (by_text_total (λ x. x.code)) (by_text_total (λ x. x.rule))))))

@@ -19,7 +19,8 @@ spelling at = (at.rule.now.revision, at.rule.now.form, at.rule.now.spelled)
 
 abbrev pub spelling_cmp : ℤ × List ℕ × List ℕ → ℤ × List ℕ × List ℕ → Ordering
 spelling_cmp =
-    then_cmp (on (λ p. p.0) int_cmp) (then_cmp (on (λ p. p.1) (slice_cmp nat_cmp)) (on (λ p. p.2) (slice_cmp nat_cmp)))
+    then_cmp (on (λ p. p.0) int_cmp)
+    (then_cmp (on (λ p. p.1) (slice_cmp nat_cmp)) (on (λ p. p.2) (slice_cmp nat_cmp)))
 
 pub spelling_total : IsTotalOrder spelling_cmp
 spelling_total =
@@ -35,7 +36,9 @@ spelled_total = on_total spelling spelling_total
 -- on which side of a revision, a form and a spelling a rule is
 abbrev pub spelled_side : ℤ → List ℕ → List ℕ → RuleAt → Ordering
 spelled_side revision form spelled at =
-    ordering_then (int_cmp at.rule.now.revision revision) (ordering_then (slice_cmp nat_cmp at.rule.now.form form) (slice_cmp nat_cmp at.rule.now.spelled spelled))
+    ordering_then (int_cmp at.rule.now.revision revision)
+    (ordering_then (slice_cmp nat_cmp at.rule.now.form form)
+    (slice_cmp nat_cmp at.rule.now.spelled spelled))
 
 abbrev pub is_spelled : ℤ → List ℕ → List ℕ → RuleAt → Bool
 is_spelled revision form spelled at = is_rule_spelled revision form spelled at.rule.now
@@ -44,11 +47,14 @@ is_spelled revision form spelled at = is_rule_spelled revision form spelled at.r
 abbrev pub FindsAs : List RuleAt → List StoredRule → Type 0
 FindsAs sorted rules =
     (revision : ℤ) (form spelled : List ℕ)
-    → option_map (λ at. at.rule.now) (find (is_spelled revision form spelled) sorted) ≡ find (is_rule_spelled revision form spelled) rules
+    → option_map (λ at. at.rule.now) (find (is_spelled revision form spelled) sorted)
+    ≡ find (is_rule_spelled revision form spelled) rules
 
-pub spelled_splits : (revision : ℤ) (form spelled : List ℕ) → IsSideOf spelled_order (spelled_side revision form spelled)
+pub spelled_splits : (revision : ℤ) (form spelled : List ℕ)
+    → IsSideOf spelled_order (spelled_side revision form spelled)
 spelled_splits revision form spelled =
-    side_by spelled_order spelling spelling_cmp spelling_total (λ x y e. e) (revision, form, spelled)
+    side_by spelled_order spelling spelling_cmp spelling_total (λ x y e. e)
+    (revision, form, spelled)
 
 pub spelled_meets : (revision : ℤ) (form spelled : List ℕ) (at : RuleAt)
     → is_spelled revision form spelled at ≡ is_eq (spelled_side revision form spelled at)
@@ -57,5 +63,6 @@ spelled_meets revision form spelled at =
     then_meets (int_cmp row.revision revision)
     (ordering_then (slice_cmp nat_cmp row.form form) (slice_cmp nat_cmp row.spelled spelled))
     (int_eq row.revision revision) (bytes_eq row.form form && bytes_eq row.spelled spelled) refl
-    (then_meets (slice_cmp nat_cmp row.form form) (slice_cmp nat_cmp row.spelled spelled) (bytes_eq row.form form) (bytes_eq row.spelled spelled)
+    (then_meets (slice_cmp nat_cmp row.form form) (slice_cmp nat_cmp row.spelled spelled)
+    (bytes_eq row.form form) (bytes_eq row.spelled spelled)
     (texts_meet row.form form) (texts_meet row.spelled spelled))

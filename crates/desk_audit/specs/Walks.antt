@@ -25,4 +25,5 @@ is_next s before step row = int_eq row.step (pos step) && (is_formed row && foll
 -- changes from a step on, after another; the last of all leaves the duty in this state
 abbrev pub lead : Snapshot → List ℕ → Option StoredChange → ℕ → List StoredChange → Bool
 lead s state before step [] = option_map_or (leaves state) before false
-lead s state before step (row ∷ rows) = is_next s before step row && lead s state (Some row) (step + 1) rows
+lead s state before step (row ∷ rows) = is_next s before step row
+    && lead s state (Some row) (step + 1) rows

@@ -12,12 +12,16 @@ use Rattle.desk_audit_texts.specs.InForce.{IsRead}
 
 module _ {E : Type 0} (is_of : Profile → List ℕ → E → Type 0) (w : Readings) where
   -- an expression was read from a conclusion
-  pub read_of : (conclusion : Option Conclusion) (expression : E) → IsRead is_of w conclusion (Some expression)
+  pub read_of : (conclusion : Option Conclusion) (expression : E)
+      → IsRead is_of w conclusion (Some expression)
       → (c : Conclusion) × (conclusion ≡ Some c) × is_of c.profile c.text expression
   read_of (Some c) expression is = (c, refl, is)
   read_of None expression is = elim is [ ]
 
 -- a package ships under terms if they are a minimal set for its conclusion
-pub ships_as : (w : Readings) (s : Snapshot) (terms : List (List ℕ)) (p : StoredPackage) (conclusion : Conclusion) → int_eq p.shipped (pos 1) ≡ true → conclusion_at w s p ≡ Some conclusion
+pub ships_as : (w : Readings) (s : Snapshot) (terms : List (List ℕ)) (p : StoredPackage)
+    (conclusion : Conclusion) → int_eq p.shipped (pos 1) ≡ true
+    → conclusion_at w s p ≡ Some conclusion
     → are_minimal w terms conclusion ≡ ships_under w s terms p
-ships_as w s terms p conclusion ships is = λ i. (sym ships i) && option_map_or (are_minimal w terms) (sym is i) false
+ships_as w s terms p conclusion ships is = λ i. (sym ships i)
+    && option_map_or (are_minimal w terms) (sym is i) false

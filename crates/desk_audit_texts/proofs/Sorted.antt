@@ -9,8 +9,10 @@ use Rattle.desk_model.specs.Keys.{below_by}
 use Rattle.desk_sorted.proofs.Sorting as sorting
 
 -- there is only one order in which numbers are sorted
-pub sorted_once : (a b : List ℤ) → IsSorted int_cmp a → IsSorted int_cmp b → IsPermutation a b → a ≡ b
+pub sorted_once : (a b : List ℤ) → IsSorted int_cmp a → IsSorted int_cmp b → IsPermutation a b
+    → a ≡ b
 sorted_once a b up up' same =
     let order = ranks_by int_cmp_total (λ (x : ℤ). x) in
     sorting.sorted_once int_cmp int_cmp_total int_cmp-IsAntisymmetric a b
-    (sorting.ascends-sorted (below_by int_cmp) order a up) (sorting.ascends-sorted (below_by int_cmp) order b up') same
+    (sorting.ascends-sorted (below_by int_cmp) order a up)
+    (sorting.ascends-sorted (below_by int_cmp) order b up') same

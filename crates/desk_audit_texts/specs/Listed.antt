@@ -1,4 +1,5 @@
--- The parts of the conditions of documents for which no document is read, and what is required of each document.
+-- The parts of the conditions of documents for which no document is read, and what is required of
+-- each document.
 use Rattle.std.specs.Prelude.{◌≡◌, true, false, map, Option, Some, None}
 use Rattle.std.specs.List.{list_all}
 use Rattle.desk_model.specs.Readings.{Readings}

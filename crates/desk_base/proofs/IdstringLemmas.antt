@@ -9,4 +9,6 @@ use Rattle.desk_base.specs.Idstring.{is_idstring_byte, is_idstring, IsIdstring}
 
 pub is_idstring-Decides : (text : List ℕ) → Decides (is_idstring text) (IsIdstring text)
 is_idstring-Decides text =
-    Decides-and (nat_lt 0 (length text)) (list_all is_idstring_byte text) (Decides-ltb 0 (length text)) (AllPass-from_list_all is_idstring_byte text, list_all-from_AllPass is_idstring_byte text)
+    Decides-and (nat_lt 0 (length text)) (list_all is_idstring_byte text)
+    (Decides-ltb 0 (length text))
+    (AllPass-from_list_all is_idstring_byte text, list_all-from_AllPass is_idstring_byte text)

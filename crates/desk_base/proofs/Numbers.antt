@@ -15,7 +15,8 @@ pub not_less : (a b : ℕ) → b ≤ a → nat_lt a b ≡ false
 not_less a b le = grind (arith, nat_tests)
 
 pub three : (m n : ℕ) → (m < n) ⊎ ((n < m) ⊎ (m ≡ n))
-three m n = ⊎_elim (λ lt. inl lt) (λ le. ⊎_elim (λ lt. inr (inl lt)) (λ ge. inr (inr (omega arith))) (order n m)) (order m n)
+three m n = ⊎_elim (λ lt. inl lt)
+    (λ le. ⊎_elim (λ lt. inr (inl lt)) (λ ge. inr (inr (omega arith))) (order n m)) (order m n)
 
 pub head_not : (c d : ℕ) (a : List ℕ) → All (λ b. b ≢ c) (d ∷ a) → d ≢ c
 head_not c d a h = All-get_or (λ b. b ≢ c) (d ∷ a) 0 0 (omega arith) h

@@ -28,7 +28,8 @@ pub piece_at : (bytes : List ℕ) (start : ℕ) (ends : List ℕ) (place : ℕ) 
     (get_or ends place 0)
 piece_at bytes start [] place d inside = absurd (omega arith)
 piece_at bytes start (end ∷ ends) zero d inside = refl
-piece_at bytes start (end ∷ ends) (suc place) d inside = piece_at bytes end ends place d (omega arith)
+piece_at bytes start (end ∷ ends) (suc place) d inside = piece_at bytes end ends place d
+    (omega arith)
 
 pub record IsCut (bytes : List ℕ) (start end : ℕ) : Type 0 where
   pub in_order : start ≤ end

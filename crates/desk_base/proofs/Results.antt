@@ -12,6 +12,7 @@ pub onto-nil : {A F : Type 0} (r : Result (List A) F) → onto [] r ≡ r
 onto-nil (Ok xs) = refl
 onto-nil (Err fault) = refl
 
-pub onto-followed : {A F : Type 0} (done : List A) (x : A) (r : Result (List A) F) → onto done (followed (Ok x) r) ≡ onto (done ++ x ∷ []) r
+pub onto-followed : {A F : Type 0} (done : List A) (x : A) (r : Result (List A) F)
+    → onto done (followed (Ok x) r) ≡ onto (done ++ x ∷ []) r
 onto-followed done x (Ok xs) = ap Ok (sym (append_assoc done (x ∷ []) xs))
 onto-followed done x (Err fault) = refl

@@ -5,11 +5,17 @@ use Rattle.std.specs.Str.{bytes_eq}
 use Rattle.std.proofs.lemmas.Slice.Eq.{bytes_eq-Decides}
 
 -- a test of two texts says whether they are the same
-pub tells : (a b : List ℕ) (r : Bool) → bytes_eq a b ≡ r → ((bytes_eq a b ≡ true) × (a ≡ b)) ⊎ ((bytes_eq a b ≡ false) × (a ≢ b))
+pub tells : (a b : List ℕ) (r : Bool) → bytes_eq a b ≡ r
+    → ((bytes_eq a b ≡ true) × (a ≡ b)) ⊎ ((bytes_eq a b ≡ false) × (a ≢ b))
 tells a b true e = inl (e, (bytes_eq-Decides a b).0 e)
-tells a b false e = inr (e, λ same. let yes : bytes_eq a b ≡ true = (bytes_eq-Decides a b).1 same in cc)
+tells a b false e = inr (
+  e,
+  λ same. let yes : bytes_eq a b ≡ true = (bytes_eq-Decides a b).1 same in
+      cc,
+)
 
-pub text_tells : (a b : List ℕ) → ((bytes_eq a b ≡ true) × (a ≡ b)) ⊎ ((bytes_eq a b ≡ false) × (a ≢ b))
+pub text_tells : (a b : List ℕ)
+    → ((bytes_eq a b ≡ true) × (a ≡ b)) ⊎ ((bytes_eq a b ≡ false) × (a ≢ b))
 text_tells a b = tells a b (bytes_eq a b) refl
 
 pub texts_equal : (a b : List ℕ) → bytes_eq a b ≡ true → a ≡ b

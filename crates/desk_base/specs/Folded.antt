@@ -1,4 +1,5 @@
--- A text with ASCII capitals in lower case: this is how licence and exception ids are compared (SPDX 2.3, Annex D.2).
+-- A text with ASCII capitals in lower case: this is how licence and exception ids are compared
+-- (SPDX 2.3, Annex D.2).
 use Rattle.std.specs.Prelude.{ℕ, List, map}
 use Rattle.std.specs.Char.{to_ascii_lowercase}
 

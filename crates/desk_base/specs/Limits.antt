@@ -25,7 +25,8 @@ document_elements = 10000
 abbrev pub listed_terms : ℕ
 listed_terms = 128
 
--- how many minimal sets the first parts of a node may have in an expression whose minimal sets are listed
+-- how many minimal sets the first parts of a node may have in an expression whose minimal sets are
+-- listed
 abbrev pub listed_sets : ℕ
 listed_sets = 64
 

@@ -9,7 +9,8 @@ end_bytes Lf = 10 ∷ []
 end_bytes CrLf = 13 ∷ 10 ∷ []
 end_bytes Nothing = []
 
--- a text that an LF ends doesn't end with CR itself, and only a last text that isn't empty has no end
+-- a text that an LF ends doesn't end with CR itself, and only a last text that isn't empty has no
+-- end
 abbrev pub Ends : List ℕ → LineEnd → List ℕ → Type 0
 Ends text Lf rest = slice_index text (length text - 1) ≢ 13
 Ends text CrLf rest = Unit {0}
@@ -30,11 +31,13 @@ pub record LineText : Type 0 where
 abbrev pub line_text : Line → LineText
 line_text l = record { number = l.number; text = l.text.now; end = l.end }
 
--- the bytes are these lines, each the first line of what the lines before it leave, numbered from this number
+-- the bytes are these lines, each the first line of what the lines before it leave, numbered from
+-- this number
 abbrev pub CutsInto : ℕ → List ℕ → List LineText → Type 0
 CutsInto number bytes [] = bytes ≡ []
 CutsInto number bytes (l ∷ ls) =
-    (rest : List ℕ) × (l.number ≡ number) × IsLine bytes l.text l.end rest × CutsInto (number + 1) rest ls
+    (rest : List ℕ) × (l.number ≡ number) × IsLine bytes l.text l.end rest
+    × CutsInto (number + 1) rest ls
 
 abbrev pub AreLines : ℕ → List ℕ → List Line → Type 0
 AreLines number bytes lines = CutsInto number bytes (map line_text lines)

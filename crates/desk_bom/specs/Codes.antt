@@ -1,5 +1,7 @@
 -- Package verification codes (SPDX 2.3, clause 7.9).
-use Rattle.std.specs.Prelude.{◌≡◌, ◌≢◌, ℕ, not, ◌-◌, ◌==◌, ◌&&◌, ◌||◌, nat_eq, nat_le, Bool, false, List, [], ◌∷◌, length, take, drop, map, Option, Some, None, if◌then◌else◌, codes, slice_get, Vec}
+use Rattle.std.specs.Prelude.{◌≡◌, ◌≢◌, ℕ, not, ◌-◌, ◌==◌, ◌&&◌, ◌||◌, nat_eq, nat_le, Bool, false}
+use Rattle.std.specs.Prelude.{List, [], ◌∷◌, length, take, drop, map, Option, Some, None}
+use Rattle.std.specs.Prelude.{if◌then◌else◌, codes, slice_get, Vec}
 use Rattle.std.specs.List.{concat, list_all, list_any, starts_with, ends_with, slice_split, filter_map}
 use Rattle.std.specs.Option.{is_some}
 use Rattle.std.specs.List.Sorted.{IsPermutation, IsSorted}
@@ -22,7 +24,8 @@ use Rattle.desk_bom.specs.Contents.{AreFilesOf}
 use Rattle.desk_bom.specs.Places.{place_of}
 use Rattle.desk_base.specs.Borrowed.{texts}
 
--- the code of digests: each as 40 hexadecimal digits in lower case, sorted, joined; the SHA1 of that text, in the same form
+-- the code of digests: each as 40 hexadecimal digits in lower case, sorted, joined; the SHA1 of
+-- that text, in the same form
 pub record IsCode (digests : List (List ℕ)) (code : List ℕ) : Type 0 where
   pub texts : List (List ℕ)
   pub same : IsPermutation (map encode_lower digests) texts
@@ -43,7 +46,8 @@ is_list text = starts_with nat_eq text (codes "(") && ends_with nat_eq (drop 1 t
 
 -- 40 hexadecimal digits, followed by nothing or by a list
 abbrev pub is_code : List ℕ → Bool
-is_code value = nat_le 40 (length value) && list_all is_hex (code_digits value) && (length value == 40 || is_list (code_list value))
+is_code value = nat_le 40 (length value) && list_all is_hex (code_digits value)
+    && (length value == 40 || is_list (code_list value))
 
 -- without what precedes the names
 abbrev pub names_in : List ℕ → List ℕ
@@ -63,7 +67,8 @@ inner_of text = take (length (drop 1 text) - 1) (drop 1 text)
 
 -- the files that a code excludes
 abbrev pub excluded_by : List ℕ → List (List ℕ)
-excluded_by value = if length value == 40 then [] else names_of (names_in (inner_of (code_list value)))
+excluded_by value = if length value == 40 then []
+    else names_of (names_in (inner_of (code_list value)))
 
 -- the same, from what was read of it
 abbrev pub excluded_names : Option (List ℕ) → List (List ℕ)
@@ -87,27 +92,35 @@ both _ _ = None
 -- the digests of the files that aren't excluded, if each has one
 abbrev pub digests_of : List (List ℕ) → List FileText → Option (List (List ℕ))
 digests_of names [] = Some []
-digests_of names (f ∷ fs) = if is_excluded names f then digests_of names fs else both (digest_spelled f.sha1) (digests_of names fs)
+digests_of names (f ∷ fs) = if is_excluded names f then digests_of names fs
+    else both (digest_spelled f.sha1) (digests_of names fs)
 
 -- FilesAnalyzed is false (clause 7.8), ignoring case
 abbrev pub is_unanalyzed : Option (List ℕ) → Bool
 is_unanalyzed None = false
 is_unanalyzed (Some flag) = bytes_eq (folded flag) (codes "false")
 
--- the digests that a code covers, if FilesAnalyzed isn't false, the code is one, and each file that it doesn't exclude has a digest
+-- the digests that a code covers, if FilesAnalyzed isn't false, the code is one, and each file that
+-- it doesn't exclude has a digest
 abbrev pub checked_digests : Option (List ℕ) → List ℕ → List FileText → Option (List (List ℕ))
-checked_digests flag value fs = if is_unanalyzed flag || not (is_code value) then None else digests_of (excluded_by value) fs
+checked_digests flag value fs = if is_unanalyzed flag || not (is_code value) then None
+    else digests_of (excluded_by value) fs
 
 -- what the code of a package says about its files
 abbrev pub IsStateOf : PackageText → List FileText → CodeState → Type 0
 IsStateOf p fs states.Absent = p.verification_code ≡ None
-IsStateOf p fs states.Unchecked = (value : List ℕ) × (p.verification_code ≡ Some value) × (checked_digests p.files_analyzed value fs ≡ None)
+IsStateOf p fs states.Unchecked = (value : List ℕ) × (p.verification_code ≡ Some value)
+    × (checked_digests p.files_analyzed value fs ≡ None)
 IsStateOf p fs states.Agrees =
     (value : List ℕ) × (digests : List (List ℕ)) × (code : List ℕ)
-    × (p.verification_code ≡ Some value) × (checked_digests p.files_analyzed value fs ≡ Some digests) × IsCode digests code × (folded (code_digits value) ≡ code)
+    × (p.verification_code ≡ Some value)
+    × (checked_digests p.files_analyzed value fs ≡ Some digests) × IsCode digests code
+    × (folded (code_digits value) ≡ code)
 IsStateOf p fs states.Differs =
     (value : List ℕ) × (digests : List (List ℕ)) × (code : List ℕ)
-    × (p.verification_code ≡ Some value) × (checked_digests p.files_analyzed value fs ≡ Some digests) × IsCode digests code × (folded (code_digits value) ≢ code)
+    × (p.verification_code ≡ Some value)
+    × (checked_digests p.files_analyzed value fs ≡ Some digests) × IsCode digests code
+    × (folded (code_digits value) ≢ code)
 
 -- the same for the files that a package has
 abbrev pub IsStateAt : DocumentText → ℕ → PackageText → CodeState → Type 0

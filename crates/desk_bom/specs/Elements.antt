@@ -1,4 +1,5 @@
--- The elements of a document (SPDX 2.3, clauses 6 to 9), each identified by its place: the document itself, the packages, the files, the snippets.
+-- The elements of a document (SPDX 2.3, clauses 6 to 9), each identified by its place: the document
+-- itself, the packages, the files, the snippets.
 use Rattle.std.specs.Prelude.{ℕ, List, ◌∷◌, ◌++◌, map, Option, codes}
 use Rattle.desk_bom.specs.declared.elements.Elements.{Elements}
 use Rattle.desk_bom.specs.Places.{place_of}

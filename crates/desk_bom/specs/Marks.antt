@@ -11,7 +11,8 @@ pub record IsClosedFrom (start : ℕ → Bool) (arrows : List Arrow) (set : ℕ 
 -- the least of them: it is contained in every one
 pub record IsLeastFrom (start : ℕ → Bool) (arrows : List Arrow) (set : ℕ → Bool) : Type 0 where
   pub closed : IsClosedFrom start arrows set
-  pub least : (other : ℕ → Bool) → IsClosedFrom start arrows other → (a : ℕ) → set a ≡ true → other a ≡ true
+  pub least : (other : ℕ → Bool) → IsClosedFrom start arrows other → (a : ℕ) → set a ≡ true
+      → other a ≡ true
 
 -- the set of the places in a list
 abbrev pub among : List ℕ → ℕ → Bool

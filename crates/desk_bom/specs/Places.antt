@@ -1,5 +1,6 @@
 -- The places of identifiers among others.
-use Rattle.std.specs.Prelude.{◌≡◌, ℕ, ◌+◌, ◌-◌, ◌%◌, nat_lt, nat_le, ◌&&◌, Bool, length, take, drop, List, [], ◌∷◌, map, Option, Some, None, if◌then◌else◌, slice_index_or}
+use Rattle.std.specs.Prelude.{◌≡◌, ℕ, ◌+◌, ◌-◌, ◌%◌, nat_lt, nat_le, ◌&&◌, Bool, length, take, drop}
+use Rattle.std.specs.Prelude.{List, [], ◌∷◌, map, Option, Some, None, if◌then◌else◌, slice_index_or}
 use Rattle.std.specs.Int.{w64, from_le_bytes}
 use Rattle.std.specs.Ordering.{nat_cmp}
 use Rattle.std.specs.Cmp.Lexicographic.{slice_cmp}
@@ -46,7 +47,8 @@ stands_at ids place id = nat_lt place (length ids) && bytes_eq (slice_index_or i
 
 -- where a look-up finds an identifier: at the place that its slot has, or else in a map
 abbrev pub found : List (List ℕ) → List ℕ → BTreeMap (Bor (List ℕ)) ℕ → List ℕ → Option ℕ
-found ids slots tree id = if stands_at ids (held_for slots id) id then Some (held_for slots id) else place_in tree id
+found ids slots tree id = if stands_at ids (held_for slots id) id then Some (held_for slots id)
+    else place_in tree id
 
 -- the first `count` identifiers are found at their first places, and no others
 abbrev pub Finds : ℕ → List (List ℕ) → List ℕ → BTreeMap (Bor (List ℕ)) ℕ → Type 0

@@ -1,5 +1,8 @@
--- The packages that a document ships. The types of relationships are those of SPDX 2.3, clause 11.1; which of them ship is this project's own rule.
-use Rattle.std.specs.Prelude.{◌≡◌, ℕ, ◌+◌, ◌==◌, ◌&&◌, ◌||◌, not, nat_le, Bool, true, false, List, [], length, filter, map, Option, Some, None, codes, if◌then◌else◌, slice_index_or}
+-- The packages that a document ships. The types of relationships are those of SPDX 2.3, clause
+-- 11.1; which of them ship is this project's own rule.
+use Rattle.std.specs.Prelude.{◌≡◌, ℕ, ◌+◌, ◌==◌, ◌&&◌, ◌||◌, not, nat_le, Bool, true, false, List}
+use Rattle.std.specs.Prelude.{[], length, filter, map, Option, Some, None, codes, if◌then◌else◌}
+use Rattle.std.specs.Prelude.{slice_index_or}
 use Rattle.std.specs.List.{list_any, filter_map, range_with_len}
 use Rattle.std.specs.List.Sorted.{IsPermutation, IsSorted}
 use Rattle.std.specs.Ordering.{nat_cmp}
@@ -13,10 +16,12 @@ use Rattle.desk_tagvalue.specs.Parts.{DocumentText, EdgeText}
 -- what the left element describes, contains, depends on or links ships with it
 abbrev pub ships_right : List ℕ → Bool
 ships_right kind =
-    bytes_eq kind (codes "DESCRIBES") || bytes_eq kind (codes "CONTAINS") || bytes_eq kind (codes "DEPENDS_ON")
+    bytes_eq kind (codes "DESCRIBES") || bytes_eq kind (codes "CONTAINS")
+    || bytes_eq kind (codes "DEPENDS_ON")
     || bytes_eq kind (codes "STATIC_LINK") || bytes_eq kind (codes "DYNAMIC_LINK")
 
--- the left element ships with the right one, which it is described by, contained by or a dependency of
+-- the left element ships with the right one, which it is described by, contained by or a dependency
+-- of
 abbrev pub ships_left : List ℕ → Bool
 ships_left kind =
     bytes_eq kind (codes "DESCRIBED_BY") || bytes_eq kind (codes "CONTAINED_BY")
@@ -61,7 +66,8 @@ pub record AreShipped (d : DocumentText) (places : List ℕ) : Type 0 where
   -- the packages in it, each once
   pub each : IsPermutation (filter (λ k. set (k + 1)) (range_with_len 0 (length d.packages))) places
   -- by their identifiers
-  pub ordered : IsSorted (λ j k. slice_cmp nat_cmp (slice_index_or (package_ids d) j []) (slice_index_or (package_ids d) k [])) places
+  pub ordered : IsSorted (λ j k. slice_cmp nat_cmp (slice_index_or (package_ids d) j [])
+      (slice_index_or (package_ids d) k [])) places
 
 -- for each package, in the order of the document, whether it ships
 pub record AreShippingMarks (d : DocumentText) (marks : List Bool) : Type 0 where

@@ -7,7 +7,8 @@ pub record AreTargets (arrows : List Arrow) (place : ℕ) (targets : List Arrow)
   pub all : (x : Arrow) → Contains arrows x → x.from ≡ place → Contains targets x
   pub only : (x : Arrow) → Contains targets x → Contains arrows x × (x.from ≡ place)
 
--- an arrow comes before another: it starts at no higher place, and if both start at the same one, it leads to a lower one
+-- an arrow comes before another: it starts at no higher place, and if both start at the same one,
+-- it leads to a lower one
 abbrev pub IsBefore : Arrow → Arrow → Type 0
 IsBefore x y = (x.from ≤ y.from) × (x.from ≡ y.from → x.to < y.to)
 

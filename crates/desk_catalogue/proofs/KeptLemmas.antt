@@ -1,5 +1,7 @@
 -- Texts and rules in their places.
-use Rattle.std.proofs.Common.{◌≡◌, ◌∙◌, inl, inr, ℕ, Bool, true, false, cond, List, [], ◌∷◌, ◌++◌, map, Option, Some, sym, ap, refl, Ordering, Less, Equal, Greater, nat_cmp, is_eq, subst}
+use Rattle.std.proofs.Common.{◌≡◌, ◌∙◌, inl, inr, ℕ, Bool, true, false, cond, List, [], ◌∷◌, ◌++◌}
+use Rattle.std.proofs.Common.{map, Option, Some, sym, ap, refl, Ordering, Less, Equal, Greater}
+use Rattle.std.proofs.Common.{nat_cmp, is_eq, subst}
 use Rattle.std.specs.Prelude.{◌&&◌, ◌||◌, not, is_some}
 use Rattle.std.specs.Ordering.{is_lt, on, then_cmp, match_ordering, ordering_then}
 use Rattle.std.specs.Str.{bytes_eq}
@@ -31,22 +33,27 @@ put_texts-none [] = refl
 put_texts-none (x ∷ xs) = ap (put_new x) (put_texts-none xs)
 
 -- the last of some borrowed texts is added first
-pub put_texts-last : (xs : List (Bor (List ℕ))) (x : Bor (List ℕ)) (sorted : List (List ℕ)) → put_texts (texts (xs ++ x ∷ [])) sorted ≡ put_texts (texts xs) (put_new x.now sorted)
+pub put_texts-last : (xs : List (Bor (List ℕ))) (x : Bor (List ℕ)) (sorted : List (List ℕ))
+    → put_texts (texts (xs ++ x ∷ [])) sorted ≡ put_texts (texts xs) (put_new x.now sorted)
 put_texts-last [] x sorted = refl
 put_texts-last (y ∷ ys) x sorted = ap (put_new y.now) (put_texts-last ys x sorted)
 
-by_order : (o : Ordering) (b : Bool) (x y z : List (Bor (List ℕ))) → is_eq o ≡ b → texts (match_ordering o x y z) ≡ cond (is_lt o) (texts x) (cond b (texts y) (texts z))
+by_order : (o : Ordering) (b : Bool) (x y z : List (Bor (List ℕ))) → is_eq o ≡ b
+    → texts (match_ordering o x y z) ≡ cond (is_lt o) (texts x) (cond b (texts y) (texts z))
 by_order Less b x y z is = refl
 by_order Equal true x y z is = refl
 by_order Equal false x y z is = absurd cc
 by_order Greater true x y z is = absurd cc
 by_order Greater false x y z is = refl
 
-pub texts-insert_key : (ks : List (Bor (List ℕ))) (k : Bor (List ℕ)) → texts (insert_key borrowed_cmp ks k) ≡ put_new k.now (texts ks)
+pub texts-insert_key : (ks : List (Bor (List ℕ))) (k : Bor (List ℕ))
+    → texts (insert_key borrowed_cmp ks k) ≡ put_new k.now (texts ks)
 texts-insert_key [] k = refl
 texts-insert_key (x ∷ xs) k =
-    by_order (slice_cmp nat_cmp k.now x.now) (bytes_eq k.now x.now) (k ∷ x ∷ xs) (x ∷ xs) (x ∷ insert_key borrowed_cmp xs k) (is_eq-slice_cmp k.now x.now)
-    ∙ ap (λ l. cond (text_below k.now x.now) (k.now ∷ x.now ∷ texts xs) (cond (bytes_eq k.now x.now) (x.now ∷ texts xs) (x.now ∷ l))) (texts-insert_key xs k)
+    by_order (slice_cmp nat_cmp k.now x.now) (bytes_eq k.now x.now) (k ∷ x ∷ xs) (x ∷ xs)
+    (x ∷ insert_key borrowed_cmp xs k) (is_eq-slice_cmp k.now x.now)
+    ∙ ap (λ l. cond (text_below k.now x.now) (k.now ∷ x.now ∷ texts xs)
+    (cond (bytes_eq k.now x.now) (x.now ∷ texts xs) (x.now ∷ l))) (texts-insert_key xs k)
 
 -- ---- rules
 
@@ -68,17 +75,25 @@ same_subject a b is =
 abbrev rules_of_entries : List (Subject × Said) → List Rule
 rules_of_entries es = map rule_of_entry es
 
-by_rule_order : (o : Ordering) (x y z : List (Subject × Said)) (y' : List Rule) → (o ≡ Equal → rules_of_entries y ≡ y') → rules_of_entries (match_ordering o x y z) ≡ match_ordering o (rules_of_entries x) y' (rules_of_entries z)
+by_rule_order : (o : Ordering) (x y z : List (Subject × Said)) (y' : List Rule)
+    → (o ≡ Equal → rules_of_entries y ≡ y')
+    → rules_of_entries (match_ordering o x y z)
+    ≡ match_ordering o (rules_of_entries x) y' (rules_of_entries z)
 by_rule_order Less x y z y' is = refl
 by_rule_order Equal x y z y' is = is refl
 by_rule_order Greater x y z y' is = refl
 
-pub rules-insert_entry : (es : List (Subject × Said)) (k : Subject) (v : Said) → map rule_of_entry (insert_entry subject_cmp es k v) ≡ put_rule (rule_of_entry (k, v)) (map rule_of_entry es)
+pub rules-insert_entry : (es : List (Subject × Said)) (k : Subject) (v : Said)
+    → map rule_of_entry (insert_entry subject_cmp es k v)
+    ≡ put_rule (rule_of_entry (k, v)) (map rule_of_entry es)
 rules-insert_entry [] k v = refl
 rules-insert_entry (e ∷ es) k v =
-    by_rule_order (subject_cmp k e.0) ((k, v) ∷ e ∷ es) ((e.0, v) ∷ es) (e ∷ insert_entry subject_cmp es k v) (rule_of_entry (k, v) ∷ rules_of_entries es)
+    by_rule_order (subject_cmp k e.0) ((k, v) ∷ e ∷ es) ((e.0, v) ∷ es)
+    (e ∷ insert_entry subject_cmp es k v) (rule_of_entry (k, v) ∷ rules_of_entries es)
     (λ is. ap (λ s. rule_of_entry (s, v) ∷ rules_of_entries es) (sym (same_subject k e.0 is)))
-    ∙ ap (λ l. match_ordering (subject_cmp k e.0) (rule_of_entry (k, v) ∷ rule_of_entry e ∷ rules_of_entries es) (rule_of_entry (k, v) ∷ rules_of_entries es) (rule_of_entry e ∷ l)) (rules-insert_entry es k v)
+    ∙ ap (λ l. match_ordering (subject_cmp k e.0)
+    (rule_of_entry (k, v) ∷ rule_of_entry e ∷ rules_of_entries es)
+    (rule_of_entry (k, v) ∷ rules_of_entries es) (rule_of_entry e ∷ l)) (rules-insert_entry es k v)
 
 -- ---- what is there already
 
@@ -95,17 +110,24 @@ either_equal Less p = refl
 either_equal Equal p = refl
 either_equal Greater p = refl
 
-at_subject : (k : Subject) (r : Subject × Said) → is_eq (subject_cmp k r.0) ≡ is_rule k.term k.form (rule_of_entry r)
+at_subject : (k : Subject) (r : Subject × Said)
+    → is_eq (subject_cmp k r.0) ≡ is_rule k.term k.form (rule_of_entry r)
 at_subject k r =
-    let terms : is_eq (slice_cmp nat_cmp k.term r.0.term) ≡ bytes_eq r.0.term k.term = is_eq-slice_cmp k.term r.0.term ∙ flipped k.term r.0.term in
-    let forms : is_eq (slice_cmp nat_cmp k.form r.0.form) ≡ bytes_eq r.0.form k.form = is_eq-slice_cmp k.form r.0.form ∙ flipped k.form r.0.form in
-    either_equal (slice_cmp nat_cmp k.term r.0.term) (slice_cmp nat_cmp k.form r.0.form) ∙ (λ i. terms i && forms i)
+    let terms : is_eq (slice_cmp nat_cmp k.term r.0.term) ≡ bytes_eq r.0.term k.term =
+    is_eq-slice_cmp k.term r.0.term ∙ flipped k.term r.0.term in
+    let forms : is_eq (slice_cmp nat_cmp k.form r.0.form) ≡ bytes_eq r.0.form k.form =
+    is_eq-slice_cmp k.form r.0.form ∙ flipped k.form r.0.form in
+    either_equal (slice_cmp nat_cmp k.term r.0.term) (slice_cmp nat_cmp k.form r.0.form)
+    ∙ (λ i. terms i && forms i)
 
-some_or : {X : Type 0} (b : Bool) (x : X) (o : Option X) → is_some (cond b (Some x) o) ≡ (b || is_some o)
+some_or : {X : Type 0} (b : Bool) (x : X) (o : Option X)
+    → is_some (cond b (Some x) o) ≡ (b || is_some o)
 some_or true x o = refl
 some_or false x o = refl
 
-has_entry : (es : List (Subject × Said)) (k : Subject) (v : Said) → is_some (lookup (is_at (subject_cmp k)) es) ≡ has_rule (map rule_of_entry es) (rule_of_entry (k, v))
+has_entry : (es : List (Subject × Said)) (k : Subject) (v : Said)
+    → is_some (lookup (is_at (subject_cmp k)) es)
+    ≡ has_rule (map rule_of_entry es) (rule_of_entry (k, v))
 has_entry [] k v = refl
 has_entry (e ∷ es) k v =
     some_or (is_at (subject_cmp k) e.0) e.1 (lookup (is_at (subject_cmp k)) es)
@@ -118,5 +140,8 @@ turned false true is = refl
 turned false false is = is
 
 -- none was there before
-pub was_new : (es : List (Subject × Said)) (k : Subject) (v : Said) (before : Option Said) (new : Bool) → before ≡ lookup (is_at (subject_cmp k)) es → is_some before ≡ not new → new ≡ not (has_rule (map rule_of_entry es) (rule_of_entry (k, v)))
-was_new es k v before new is told = turned (is_some before) new told ∙ ap (λ o. not (is_some o)) is ∙ ap not (has_entry es k v)
+pub was_new : (es : List (Subject × Said)) (k : Subject) (v : Said) (before : Option Said)
+    (new : Bool) → before ≡ lookup (is_at (subject_cmp k)) es → is_some before ≡ not new
+    → new ≡ not (has_rule (map rule_of_entry es) (rule_of_entry (k, v)))
+was_new es k v before new is told = turned (is_some before) new told ∙ ap (λ o. not (is_some o)) is
+    ∙ ap not (has_entry es k v)

@@ -12,61 +12,89 @@ use Rattle.desk_model.specs.declared.refusal.CataloguePart.TheVariants as part
 use Rattle.desk_catalogue.specs.declared.catalogue.Catalogue.{Catalogue}
 use Rattle.desk_catalogue.specs.declared.catalogue.LicenceText.{LicenceText}
 use Rattle.desk_catalogue.specs.Terms.{licence_of}
-use Rattle.desk_catalogue.specs.Reading.{Read, each, with_form, is_form_count, forms_listed, forms_of, duties_of, rules_of, licence_texts_of, RuleTexts, rule_written, rule_of, rule_at, catalogue_of_table}
+use Rattle.desk_catalogue.specs.Reading.{Read, each, with_form, is_form_count, forms_listed}
+use Rattle.desk_catalogue.specs.Reading.{forms_of, duties_of, rules_of, licence_texts_of, RuleTexts}
+use Rattle.desk_catalogue.specs.Reading.{rule_written, rule_of, rule_at, catalogue_of_table}
 use Rattle.desk_catalogue.specs.Shown.{Gives}
 use Rattle.desk_catalogue.proofs.EntryLemmas.{count-items_view}
 use Rattle.desk_base.specs.Results.{then_read}
 
 -- ---- along an equation
 
-pub if_ok_along : {A E : Type 0} (r : Result A E) (x y : A) → x ≡ y → IfOk r (λ a. a ≡ x) → IfOk r (λ a. a ≡ y)
+pub if_ok_along : {A E : Type 0} (r : Result A E) (x y : A) → x ≡ y → IfOk r (λ a. a ≡ x)
+    → IfOk r (λ a. a ≡ y)
 if_ok_along (Ok a) x y e h = h ∙ e
 if_ok_along (Err f) x y e h = h
 
-pub gives_along : {A B E : Type 0} (r : Result (Result A CatalogueFault) E) (x y : Read B) (show : A → B) → x ≡ y → IfOk r (Gives x show) → IfOk r (Gives y show)
+pub gives_along : {A B E : Type 0} (r : Result (Result A CatalogueFault) E) (x y : Read B)
+    (show : A → B) → x ≡ y → IfOk r (Gives x show) → IfOk r (Gives y show)
 gives_along r x y show e h = subst (λ z. IfOk r (Gives z show)) e h
 
 -- ---- how many forms there are
 
-pub forms_counted : (vs : List Value) (b : Bool) → is_form_count (length vs) ≡ b → cond b (each with_form [] 0 (items_view vs)) (Err (BadKind part.Forms 0)) ≡ forms_listed (Some (items_view vs))
+pub forms_counted : (vs : List Value) (b : Bool) → is_form_count (length vs) ≡ b
+    → cond b (each with_form [] 0 (items_view vs)) (Err (BadKind part.Forms 0))
+    ≡ forms_listed (Some (items_view vs))
 forms_counted vs b is =
-    sym (ap (λ n. cond (is_form_count n) (each with_form [] 0 (items_view vs)) (Err (BadKind part.Forms 0))) (count-items_view vs)
+    sym (ap (λ n. cond (is_form_count n) (each with_form [] 0 (items_view vs))
+    (Err (BadKind part.Forms 0))) (count-items_view vs)
     ∙ ap (λ c. cond c (each with_form [] 0 (items_view vs)) (Err (BadKind part.Forms 0))) is)
 
 -- ---- a rule
 
-pub rule_found : (terms : List ℕ → Option (List ℕ)) (forms duties : List (List ℕ)) (index : ℕ) (d : Data) (texts : RuleTexts) (term : List ℕ) → rule_written index d ≡ Ok texts → Some term ≡ licence_of terms texts.term
+pub rule_found : (terms : List ℕ → Option (List ℕ)) (forms duties : List (List ℕ)) (index : ℕ)
+    (d : Data) (texts : RuleTexts) (term : List ℕ) → rule_written index d ≡ Ok texts
+    → Some term ≡ licence_of terms texts.term
     → rule_of forms duties index texts term ≡ rule_at terms forms duties index d
 rule_found terms forms duties index d texts term written is =
-    sym (ap (λ r. then_read r (λ ts. then_read (ok_or (licence_of terms ts.term) (BadTerm part.Rule index)) (rule_of forms duties index ts))) written
-    ∙ ap (λ o. then_read (ok_or o (BadTerm part.Rule index)) (rule_of forms duties index texts)) (sym is))
+    sym (ap (λ r. then_read r (λ ts. then_read
+    (ok_or (licence_of terms ts.term) (BadTerm part.Rule index)) (rule_of forms duties index ts)))
+    written
+    ∙ ap (λ o. then_read (ok_or o (BadTerm part.Rule index)) (rule_of forms duties index texts))
+    (sym is))
 
 -- ---- the whole
 
 abbrev whole : List (List ℕ) → List Rule → List LicenceText → Catalogue
 whole forms rules texts = record { forms = forms; rules = rules; texts = texts }
 
-module _ (terms : List ℕ → Option (List ℕ)) (ms : Members) (forms duties : List (List ℕ)) (has_forms : forms_of (get_member (codes "forms") ms) ≡ Ok forms) (has_duties : duties_of (get_member (codes "duty") ms) ≡ Ok duties) where
+module _ (terms : List ℕ → Option (List ℕ)) (ms : Members) (forms duties : List (List ℕ))
+    (has_forms : forms_of (get_member (codes "forms") ms) ≡ Ok forms)
+    (has_duties : duties_of (get_member (codes "duty") ms) ≡ Ok duties) where
   abbrev rules : Read (List Rule)
   rules = rules_of terms forms duties (get_member (codes "rule") ms)
 
   abbrev texts : Read (List LicenceText)
   texts = licence_texts_of (get_member (codes "text") ms)
 
-  by_rules : catalogue_of_table terms ms ≡ then_read rules (λ rs. then_read texts (λ ts. Ok (whole forms rs ts)))
+  by_rules : catalogue_of_table terms ms
+      ≡ then_read rules (λ rs. then_read texts (λ ts. Ok (whole forms rs ts)))
   by_rules =
-      ap (λ r. then_read r (λ fs. then_read (duties_of (get_member (codes "duty") ms)) (λ ds. then_read (rules_of terms fs ds (get_member (codes "rule") ms)) (λ rs. then_read texts (λ ts. Ok (whole fs rs ts)))))) has_forms
-      ∙ ap (λ r. then_read r (λ ds. then_read (rules_of terms forms ds (get_member (codes "rule") ms)) (λ rs. then_read texts (λ ts. Ok (whole forms rs ts))))) has_duties
+      ap (λ r. then_read r (λ fs. then_read (duties_of (get_member (codes "duty") ms))
+      (λ ds. then_read (rules_of terms fs ds (get_member (codes "rule") ms))
+      (λ rs. then_read texts (λ ts. Ok (whole fs rs ts)))))) has_forms
+      ∙ ap (λ r. then_read r (λ ds. then_read
+      (rules_of terms forms ds (get_member (codes "rule") ms))
+      (λ rs. then_read texts (λ ts. Ok (whole forms rs ts))))) has_duties
 
-  pub rules_fail : (fault : CatalogueFault) → rules_of terms forms duties (get_member (codes "rule") ms) ≡ Err fault → Err fault ≡ catalogue_of_table terms ms
-  rules_fail fault is = sym (by_rules ∙ ap (λ r. then_read r (λ rs. then_read texts (λ ts. Ok (whole forms rs ts)))) is)
+  pub rules_fail : (fault : CatalogueFault)
+      → rules_of terms forms duties (get_member (codes "rule") ms) ≡ Err fault
+      → Err fault ≡ catalogue_of_table terms ms
+  rules_fail fault is = sym (by_rules
+      ∙ ap (λ r. then_read r (λ rs. then_read texts (λ ts. Ok (whole forms rs ts)))) is)
 
-  module _ (rs : List Rule) (has_rules : rules_of terms forms duties (get_member (codes "rule") ms) ≡ Ok rs) where
+  module _ (rs : List Rule) (has_rules : rules_of terms forms duties (get_member (codes "rule") ms)
+      ≡ Ok rs) where
     by_texts : catalogue_of_table terms ms ≡ then_read texts (λ ts. Ok (whole forms rs ts))
-    by_texts = by_rules ∙ ap (λ r. then_read r (λ rs. then_read texts (λ ts. Ok (whole forms rs ts)))) has_rules
+    by_texts = by_rules ∙ ap (λ r. then_read r
+        (λ rs. then_read texts (λ ts. Ok (whole forms rs ts)))) has_rules
 
-    pub texts_fail : (fault : CatalogueFault) → licence_texts_of (get_member (codes "text") ms) ≡ Err fault → Err fault ≡ catalogue_of_table terms ms
+    pub texts_fail : (fault : CatalogueFault)
+        → licence_texts_of (get_member (codes "text") ms) ≡ Err fault
+        → Err fault ≡ catalogue_of_table terms ms
     texts_fail fault is = sym (by_texts ∙ ap (λ r. then_read r (λ ts. Ok (whole forms rs ts))) is)
 
-    pub catalogue_found : (ts : List LicenceText) → licence_texts_of (get_member (codes "text") ms) ≡ Ok ts → Ok (whole forms rs ts) ≡ catalogue_of_table terms ms
+    pub catalogue_found : (ts : List LicenceText)
+        → licence_texts_of (get_member (codes "text") ms) ≡ Ok ts
+        → Ok (whole forms rs ts) ≡ catalogue_of_table terms ms
     catalogue_found ts is = sym (by_texts ∙ ap (λ r. then_read r (λ ts. Ok (whole forms rs ts))) is)

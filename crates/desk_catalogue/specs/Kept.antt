@@ -16,13 +16,15 @@ stand_once texts = length (sorted_set texts) == length texts
 -- a rule at its place in sorted rules
 abbrev pub put_rule : Rule → List Rule → List Rule
 put_rule rule [] = rule ∷ []
-put_rule rule (r ∷ rs) = match_ordering (rule_order rule r) (rule ∷ r ∷ rs) (rule ∷ rs) (r ∷ put_rule rule rs)
+put_rule rule (r ∷ rs) = match_ordering (rule_order rule r) (rule ∷ r ∷ rs) (rule ∷ rs)
+    (r ∷ put_rule rule rs)
 
 -- one of the rules is for the same term and form
 abbrev pub has_rule : List Rule → Rule → Bool
 has_rule rules rule = list_any (is_rule rule.term rule.form) rules
 
--- the text is that of a licence or an exception, whose ids are compared without regard to case (SPDX 2.3, Annex D.2)
+-- the text is that of a licence or an exception, whose ids are compared without regard to case
+-- (SPDX 2.3, Annex D.2)
 abbrev pub is_text_of : List ℕ → LicenceText → Bool
 is_text_of id text = bytes_eq (folded text.licence) (folded id)
 

@@ -1,6 +1,8 @@
--- The catalogue that a text is, or its first fault: `forms`, then the duty tables, the rule tables and the text tables, each table as a whole before the next
--- one: first an absent key, then a value of another kind, then what it names, then what occurs twice.
-use Rattle.std.specs.Prelude.{ℕ, ◌+◌, ◌&&◌, not, nat_lt, nat_le, Bool, List, [], ◌∷◌, ◌++◌, length, codes, Option, Some, None, Result, Ok, Err, if◌then◌else◌}
+-- The catalogue that a text is, or its first fault: `forms`, then the duty tables, the rule tables
+-- and the text tables, each table as a whole before the next one: first an absent key, then a value
+-- of another kind, then what it names, then what occurs twice.
+use Rattle.std.specs.Prelude.{ℕ, ◌+◌, ◌&&◌, not, nat_lt, nat_le, Bool, List, [], ◌∷◌, ◌++◌, length}
+use Rattle.std.specs.Prelude.{codes, Option, Some, None, Result, Ok, Err, if◌then◌else◌}
 use Rattle.std.specs.Option.{ok_or}
 use Rattle.std.specs.List.{list_all, list_any}
 use Rattle.toml.specs.Data.{Data, as_str, as_array, as_table, get_member, Items, no_items, item, Members}
@@ -10,7 +12,10 @@ use Rattle.desk_model.specs.declared.reading.Rule.{Rule}
 use Rattle.desk_model.specs.declared.refusal.CataloguePart.{CataloguePart}
 use Rattle.desk_model.specs.declared.refusal.CataloguePart.TheVariants as part
 use Rattle.desk_model.specs.declared.refusal.CatalogueFault.{CatalogueFault}
-use Rattle.desk_model.specs.declared.refusal.CatalogueFault.TheVariants.{NotToml, Missing, BadKind, BadTerm, UnknownForm, UnknownDuty, Twice, TooLarge}
+use Rattle.desk_model.specs.declared.refusal.CatalogueFault.TheVariants.{NotToml, Missing, BadKind}
+use Rattle.desk_model.specs.declared.refusal.CatalogueFault.TheVariants.{BadTerm, UnknownForm}
+use Rattle.desk_model.specs.declared.refusal.CatalogueFault.TheVariants.{UnknownDuty, Twice}
+use Rattle.desk_model.specs.declared.refusal.CatalogueFault.TheVariants.{TooLarge}
 use Rattle.desk_catalogue.specs.declared.catalogue.Catalogue.{Catalogue}
 use Rattle.desk_catalogue.specs.declared.catalogue.LicenceText.{LicenceText}
 use Rattle.desk_base.specs.Limits as limit
@@ -28,7 +33,8 @@ Read A = Result A CatalogueFault
 -- each value in turn, with its index, is added to what those before it gave; or the first fault
 abbrev pub each : {S : Type 0} → (S → ℕ → Data → Read S) → S → ℕ → Items → Read S
 each put state index no_items = Ok state
-each put state index (item d ds) = then_read (put state index d) (λ next. each put next (index + 1) ds)
+each put state index (item d ds) = then_read (put state index d)
+    (λ next. each put next (index + 1) ds)
 
 abbrev pub count : Items → ℕ
 count no_items = 0
@@ -53,12 +59,14 @@ is_form_count n = nat_le 1 n && nat_le n limit.forms
 
 abbrev pub forms_listed : Option Items → Read (List (List ℕ))
 forms_listed None = Err (BadKind part.Forms 0)
-forms_listed (Some ds) = if is_form_count (count ds) then each with_form [] 0 ds else Err (BadKind part.Forms 0)
+forms_listed (Some ds) = if is_form_count (count ds) then each with_form [] 0 ds
+    else Err (BadKind part.Forms 0)
 
 -- the forms, if none is among those before it
 abbrev pub forms_once : List (List ℕ) → ℕ → List (List ℕ) → Read (List (List ℕ))
 forms_once before index [] = Ok before
-forms_once before index (form ∷ forms) = if is_among before form then Err (Twice part.Forms index) else forms_once (before ++ form ∷ []) (index + 1) forms
+forms_once before index (form ∷ forms) = if is_among before form then Err (Twice part.Forms index)
+    else forms_once (before ++ form ∷ []) (index + 1) forms
 
 abbrev pub forms_of : Option Data → Read (List (List ℕ))
 forms_of None = Err (Missing part.Forms 0)
@@ -82,7 +90,8 @@ duty_at index d = then_read (ok_or (as_table d) (BadKind part.Duty index))
 
 -- the codes so far, sorted, with one more
 abbrev pub with_code : List (List ℕ) → ℕ → List ℕ → Read (List (List ℕ))
-with_code codes_before index code = if is_among codes_before code then Err (Twice part.Duty index) else Ok (put_new code codes_before)
+with_code codes_before index code = if is_among codes_before code then Err (Twice part.Duty index)
+    else Ok (put_new code codes_before)
 
 abbrev pub with_duty : List (List ℕ) → ℕ → Data → Read (List (List ℕ))
 with_duty codes_before index d = then_read (duty_at index d) (with_code codes_before index)
@@ -98,21 +107,25 @@ pub record RuleTexts : Type 0 where
   pub form : List ℕ
   pub duties : List (List ℕ)
 
-abbrev pub rule_texts : ℕ → Option (List ℕ) → Option (List ℕ) → Option (List (List ℕ)) → Read RuleTexts
-rule_texts index (Some term) (Some form) (Some duties) = Ok (record { term = term; form = form; duties = duties })
+abbrev pub rule_texts : ℕ → Option (List ℕ) → Option (List ℕ) → Option (List (List ℕ))
+    → Read RuleTexts
+rule_texts index (Some term) (Some form) (Some duties) = Ok
+    (record { term = term; form = form; duties = duties })
 rule_texts index (Some term) (Some form) None = Err (BadKind part.Rule index)
 rule_texts index (Some term) None duties = Err (BadKind part.Rule index)
 rule_texts index None form duties = Err (BadKind part.Rule index)
 
 abbrev pub rule_values : ℕ → Option Data → Option Data → Option Data → Read RuleTexts
-rule_values index (Some term) (Some form) (Some duties) = rule_texts index (as_str term) (as_str form) (texts_of duties)
+rule_values index (Some term) (Some form) (Some duties) = rule_texts index (as_str term)
+    (as_str form) (texts_of duties)
 rule_values index (Some term) (Some form) None = Err (Missing part.Rule index)
 rule_values index (Some term) None duties = Err (Missing part.Rule index)
 rule_values index None form duties = Err (Missing part.Rule index)
 
 abbrev pub rule_written : ℕ → Data → Read RuleTexts
 rule_written index d = then_read (ok_or (as_table d) (BadKind part.Rule index))
-    (λ ms. rule_values index (get_member (codes "term") ms) (get_member (codes "form") ms) (get_member (codes "duties") ms))
+    (λ ms. rule_values index (get_member (codes "term") ms) (get_member (codes "form") ms)
+    (get_member (codes "duties") ms))
 
 -- the rule for a term, if its form and its codes are those of the catalogue
 abbrev pub rule_of : List (List ℕ) → List (List ℕ) → ℕ → RuleTexts → List ℕ → Read Rule
@@ -120,10 +133,16 @@ rule_of forms duties index texts term =
     if not (is_among forms texts.form) then Err (UnknownForm part.Rule index)
     else (if not (list_all (is_among duties) texts.duties) then Err (UnknownDuty part.Rule index)
     else (if not (stand_once texts.duties) then Err (Twice part.Rule index)
-    else Ok (record { term = term; form = texts.form; spelled = texts.term; codes = sorted_set texts.duties })))
+    else Ok (record {
+      term = term;
+      form = texts.form;
+      spelled = texts.term;
+      codes = sorted_set texts.duties;
+    })))
 
 -- the rule of a table, given what texts of terms say, the forms and the codes of duties
-abbrev pub rule_at : (List ℕ → Option (List ℕ)) → List (List ℕ) → List (List ℕ) → ℕ → Data → Read Rule
+abbrev pub rule_at : (List ℕ → Option (List ℕ)) → List (List ℕ) → List (List ℕ) → ℕ → Data
+    → Read Rule
 rule_at terms forms duties index d =
     then_read (rule_written index d) (λ texts.
     then_read (ok_or (licence_of terms texts.term) (BadTerm part.Rule index))
@@ -131,18 +150,24 @@ rule_at terms forms duties index d =
 
 -- the rules so far, sorted, with one more
 abbrev pub with_one : List Rule → ℕ → Rule → Read (List Rule)
-with_one rules index rule = if has_rule rules rule then Err (Twice part.Rule index) else Ok (put_rule rule rules)
+with_one rules index rule = if has_rule rules rule then Err (Twice part.Rule index)
+    else Ok (put_rule rule rules)
 
-abbrev pub with_rule : (List ℕ → Option (List ℕ)) → List (List ℕ) → List (List ℕ) → List Rule → ℕ → Data → Read (List Rule)
-with_rule terms forms duties rules index d = then_read (rule_at terms forms duties index d) (with_one rules index)
+abbrev pub with_rule : (List ℕ → Option (List ℕ)) → List (List ℕ) → List (List ℕ) → List Rule → ℕ
+    → Data → Read (List Rule)
+with_rule terms forms duties rules index d = then_read (rule_at terms forms duties index d)
+    (with_one rules index)
 
-abbrev pub rules_of : (List ℕ → Option (List ℕ)) → List (List ℕ) → List (List ℕ) → Option Data → Read (List Rule)
-rules_of terms forms duties rules = then_read (tables_of part.Rule rules) (each (with_rule terms forms duties) [] 0)
+abbrev pub rules_of : (List ℕ → Option (List ℕ)) → List (List ℕ) → List (List ℕ) → Option Data
+    → Read (List Rule)
+rules_of terms forms duties rules = then_read (tables_of part.Rule rules)
+    (each (with_rule terms forms duties) [] 0)
 
 -- ---- texts of licences and exceptions
 
 abbrev pub text_of : ℕ → List ℕ → List ℕ → Read LicenceText
-text_of index licence body = if is_text_id licence then Ok (record { licence = licence; body = body }) else Err (BadTerm part.Text index)
+text_of index licence body = if is_text_id licence
+    then Ok (record { licence = licence; body = body }) else Err (BadTerm part.Text index)
 
 abbrev pub text_of_values : ℕ → Option (List ℕ) → Option (List ℕ) → Read LicenceText
 text_of_values index (Some licence) (Some body) = text_of index licence body
@@ -160,7 +185,8 @@ text_at index d = then_read (ok_or (as_table d) (BadKind part.Text index))
 
 -- the texts so far, with one more
 abbrev pub with_one_text : List LicenceText → ℕ → LicenceText → Read (List LicenceText)
-with_one_text texts index text = if list_any (is_text_of text.licence) texts then Err (Twice part.Text index) else Ok (texts ++ text ∷ [])
+with_one_text texts index text = if list_any (is_text_of text.licence) texts
+    then Err (Twice part.Text index) else Ok (texts ++ text ∷ [])
 
 abbrev pub with_text : List LicenceText → ℕ → Data → Read (List LicenceText)
 with_text texts index d = then_read (text_at index d) (with_one_text texts index)

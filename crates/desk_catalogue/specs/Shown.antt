@@ -25,7 +25,11 @@ Gives read show (Ok x) = read ≡ Ok (show x)
 Gives read show (Err fault) = read ≡ Err fault
 
 abbrev pub rule_texts_in : Written → RuleTexts
-rule_texts_in rule = record { term = rule.term.now; form = rule.form.now; duties = texts_in rule.duties }
+rule_texts_in rule = record {
+  term = rule.term.now;
+  form = rule.form.now;
+  duties = texts_in rule.duties;
+}
 
 -- the texts of a set
 abbrev pub codes_in : BTreeSet (Bor (List ℕ)) → List (List ℕ)
@@ -33,14 +37,20 @@ codes_in set = texts set.keys
 
 -- the rules in a map from what they are for
 abbrev pub rule_of_entry : Subject × Said → Rule
-rule_of_entry e = record { term = e.0.term; form = e.0.form; spelled = e.1.spelled; codes = e.1.codes }
+rule_of_entry e = record {
+  term = e.0.term;
+  form = e.0.form;
+  spelled = e.1.spelled;
+  codes = e.1.codes;
+}
 
 abbrev pub rules_in : BTreeMap Subject Said → List Rule
 rules_in rules = map rule_of_entry rules.entries
 
 -- the set has the ids of these texts, in lower case
 abbrev pub HasIds : List LicenceText → BTreeSet (List ℕ) → Type 0
-HasIds texts seen = (id : List ℕ) → contains_by (slice_cmp nat_cmp (folded id)) seen ≡ list_any (is_text_of id) texts
+HasIds texts seen = (id : List ℕ)
+    → contains_by (slice_cmp nat_cmp (folded id)) seen ≡ list_any (is_text_of id) texts
 
 -- a text is read like this, or there was no memory
 abbrev pub IsRead : {A : Type 0} → Read A → Result A CatFault → Type 0

@@ -14,7 +14,8 @@ IsTermOf text None = (t : Term) → SpellsTermWithin text t → ⊥
 abbrev pub ReadsTerms : (List ℕ → Option (List ℕ)) → Type 0
 ReadsTerms terms = (text : List ℕ) → IsTermOf text (terms text)
 
--- a printed term that isn't a reference: licence ids are printed in lower case, so only a reference begins like one
+-- a printed term that isn't a reference: licence ids are printed in lower case, so only a reference
+-- begins like one
 abbrev pub if_licence : List ℕ → Option (List ℕ)
 if_licence printed = if begins_like_reference printed then None else Some printed
 

@@ -9,7 +9,10 @@ use Rattle.desk_history.specs.FromTables.{answer_from, change_for}
 use Rattle.desk_access.specs.Seen.{Seen, Decides}
 
 module _ {Left : Type 0} where
-  -- A command is answered as the tables say and, if it is recorded, they become the tables with its change.
-  abbrev pub CarriesOutFrom : (Left → Tables → Type 0) → Readings → Command → Seen Left → Seen Left → Result Answer Fault → Type 0
+  -- A command is answered as the tables say and, if it is recorded, they become the tables with its
+  -- change.
+  abbrev pub CarriesOutFrom : (Left → Tables → Type 0) → Readings → Command → Seen Left → Seen Left
+      → Result Answer Fault → Type 0
   CarriesOutFrom stands w c =
-      Decides stands (λ _. Unit {0}) (λ t. t) (λ t. applied (change_for w t c) t) (λ t. answer_from w t c)
+      Decides stands (λ _. Unit {0}) (λ t. t) (λ t. applied (change_for w t c) t)
+      (λ t. answer_from w t c)

@@ -4,7 +4,9 @@ use Rattle.std.specs.List.{flat_map}
 use Rattle.std.specs.Str.{bytes_eq}
 use Rattle.desk_explain.specs.declared.entry.Entry.{Entry}
 use Rattle.desk_explain.specs.declared.entry.Kind.{Kind}
-use Rattle.desk_explain.specs.declared.entry.Kind.TheVariants.{Refusal, DocumentFault, ExpressionFault, OtherFault, Finding, CatalogueFault, Condition, Problem}
+use Rattle.desk_explain.specs.declared.entry.Kind.TheVariants.{Refusal, DocumentFault}
+use Rattle.desk_explain.specs.declared.entry.Kind.TheVariants.{ExpressionFault, OtherFault, Finding}
+use Rattle.desk_explain.specs.declared.entry.Kind.TheVariants.{CatalogueFault, Condition, Problem}
 use denote.Ref.{Bor}
 
 -- ---- the entries
@@ -15,7 +17,8 @@ is_named name entry = bytes_eq name entry.name.now
 
 -- what each table says of a name, one table after another
 abbrev pub entries_named : List ℕ → List (Bor (List Entry)) → List Entry
-entries_named name tables = flat_map (λ (table : Bor (List Entry)). filter (is_named name) table.now) tables
+entries_named name tables = flat_map
+    (λ (table : Bor (List Entry)). filter (is_named name) table.now) tables
 
 -- ---- their text
 
@@ -25,12 +28,17 @@ numbered before number after = before ++ (decimal number ++ after)
 
 -- what a name stands for
 abbrev pub kind_text : Kind → List ℕ
-kind_text (Refusal number requests) = numbered (codes "refusal ") number (codes " (" ++ (requests.now ++ codes ")"))
-kind_text (DocumentFault number) = numbered (codes "fault ") number (codes " of a document (BadDocument)")
-kind_text (ExpressionFault number) = numbered (codes "fault ") number (codes " of an expression (BadExpression)")
+kind_text (Refusal number requests) = numbered (codes "refusal ") number
+    (codes " (" ++ (requests.now ++ codes ")"))
+kind_text (DocumentFault number) = numbered (codes "fault ") number
+    (codes " of a document (BadDocument)")
+kind_text (ExpressionFault number) = numbered (codes "fault ") number
+    (codes " of an expression (BadExpression)")
 kind_text (OtherFault place) = codes "fault (" ++ (place.now ++ codes ")")
-kind_text (Finding number clauses) = numbered (codes "finding ") number (codes " (SPDX 2.3: " ++ (clauses.now ++ codes ")"))
-kind_text (CatalogueFault number) = numbered (codes "fault ") number (codes " of a catalogue (BadCatalogue)")
+kind_text (Finding number clauses) = numbered (codes "finding ") number
+    (codes " (SPDX 2.3: " ++ (clauses.now ++ codes ")"))
+kind_text (CatalogueFault number) = numbered (codes "fault ") number
+    (codes " of a catalogue (BadCatalogue)")
 kind_text (Condition number) = numbered (codes "condition ") number (codes " of an audit")
 kind_text Problem = codes "problem of a source tree"
 
@@ -63,5 +71,6 @@ line label None = []
 line label (Some words) = label_line label words.now
 
 abbrev pub block : Entry → List ℕ
-block entry = heading entry ++ line (meaning_label entry.kind) entry.meaning ++ line (cause_label entry.kind) entry.cause
+block entry = heading entry ++ line (meaning_label entry.kind) entry.meaning
+    ++ line (cause_label entry.kind) entry.cause
     ++ label_line (codes "Page") (page entry.kind)

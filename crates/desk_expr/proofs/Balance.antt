@@ -1,12 +1,16 @@
 -- A spelled list has no bad token, and closes each parenthesis that it opens.
-use Rattle.std.proofs.Common.{◌≡◌, ℕ, zero, suc, ◌+◌, ◌-◌, ◌<◌, ◌≤◌, List, [], ◌∷◌, ◌++◌, length, refl, arith, length-append, length-take}
+use Rattle.std.proofs.Common.{◌≡◌, ℕ, zero, suc, ◌+◌, ◌-◌, ◌<◌, ◌≤◌, List, [], ◌∷◌, ◌++◌, length}
+use Rattle.std.proofs.Common.{refl, arith, length-append, length-take}
 use Rattle.std.specs.Prelude.{fold}
 use Rattle.desk_expr.specs.declared.token.Kind.{Kind}
-use Rattle.desk_expr.specs.declared.token.Kind.TheVariants.{Opening, Closing, And, Or, With, Licence, LicenceOrLater, Reference, Bad}
+use Rattle.desk_expr.specs.declared.token.Kind.TheVariants.{Opening, Closing, And, Or, With}
+use Rattle.desk_expr.specs.declared.token.Kind.TheVariants.{Licence, LicenceOrLater, Reference, Bad}
 use Rattle.desk_expr.specs.declared.term.Term.{Term}
 use Rattle.desk_expr.specs.Tree.{Tree}
 use Rattle.desk_expr.specs.Tokens.{Lexeme}
-use Rattle.desk_expr.specs.Grammar.{Symbol, opening, closing, and_word, or_word, bad, SpellsTerm, bare, excepted, Operand, a_term, a_group, AndList, one_operand, and_more, OrList, one_list, or_more, SpellsTree}
+use Rattle.desk_expr.specs.Grammar.{Symbol, opening, closing, and_word, or_word, bad, SpellsTerm}
+use Rattle.desk_expr.specs.Grammar.{bare, excepted, Operand, a_term, a_group, AndList, one_operand}
+use Rattle.desk_expr.specs.Grammar.{and_more, OrList, one_list, or_more, SpellsTree}
 use Rattle.desk_expr.specs.Spelling.{symbol_of, symbols, open_after, still_open, closings}
 
 -- how many parentheses a symbol opens or closes, and whether it is bad
@@ -39,9 +43,16 @@ even_term : {ss : List Symbol} {t : Term} → SpellsTerm ss t → Even ss
 even_term (bare t o) = record { closed = refl; good = refl }
 even_term (excepted t u o x) = record { closed = refl; good = refl }
 
-even_join : (s : Symbol) (xs ys : List Symbol) → opens s ≡ closes s → bads s ≡ 0 → Even xs → Even ys → Even (xs ++ s ∷ ys)
+even_join : (s : Symbol) (xs ys : List Symbol) → opens s ≡ closes s → bads s ≡ 0 → Even xs → Even ys
+    → Even (xs ++ s ∷ ys)
 even_join s xs ys even_here good_here h k = record {
-  closed = omega (arith, total-append opens xs (s ∷ ys), total-append closes xs (s ∷ ys), h.closed, k.closed);
+  closed = omega (
+    arith,
+    total-append opens xs (s ∷ ys),
+    total-append closes xs (s ∷ ys),
+    h.closed,
+    k.closed,
+  );
   good = omega (arith, total-append bads xs (s ∷ ys), h.good, k.good);
 }
 
@@ -51,13 +62,19 @@ mutual
   even_operand (a_group ss es h) =
       let inner = even_or h in
       record {
-        closed = omega (arith, total-append opens ss (closing ∷ []), total-append closes ss (closing ∷ []), inner.closed);
+        closed = omega (
+          arith,
+          total-append opens ss (closing ∷ []),
+          total-append closes ss (closing ∷ []),
+          inner.closed,
+        );
         good = omega (arith, total-append bads ss (closing ∷ []), inner.good);
       }
 
   even_and : {ss : List Symbol} {es : List Tree} → AndList ss es → Even ss
   even_and (one_operand ss e h) = even_operand h
-  even_and (and_more ss us e es h k) = even_join and_word ss us refl refl (even_operand h) (even_and k)
+  even_and (and_more ss us e es h k) = even_join and_word ss us refl refl (even_operand h)
+      (even_and k)
 
   pub even_or : {ss : List Symbol} {es : List Tree} → OrList ss es → Even ss
   even_or (one_list ss es h) = even_and h
@@ -70,7 +87,9 @@ no_bad front behind e h =
     absurd (omega (arith, even.good, total-append bads front (bad ∷ behind)))
 
 -- the number of open parentheses is at least that of those opened less those closed
-open_one : (k : Kind) (w : List ℕ) (start end : ℕ) (places : List ℕ) → let t : Lexeme = record { text = w; start = start; end = end; kind = k } in opens (symbol_of t) + length places ≤ closes (symbol_of t) + length (open_after places t)
+open_one : (k : Kind) (w : List ℕ) (start end : ℕ) (places : List ℕ)
+    → let t : Lexeme = record { text = w; start = start; end = end; kind = k } in
+    opens (symbol_of t) + length places ≤ closes (symbol_of t) + length (open_after places t)
 open_one Opening w start end places = omega (arith, length-append places (start ∷ []))
 open_one Closing w start end places = omega (arith, length-take (length places - 1) places)
 open_one And w start end places = omega arith
@@ -81,7 +100,9 @@ open_one LicenceOrLater w start end places = omega arith
 open_one Reference w start end places = omega arith
 open_one Bad w start end places = omega arith
 
-opened : (ts : List Lexeme) (places : List ℕ) → total opens (symbols ts) + length places ≤ total closes (symbols ts) + length (fold open_after places ts)
+opened : (ts : List Lexeme) (places : List ℕ)
+    → total opens (symbols ts) + length places
+    ≤ total closes (symbols ts) + length (fold open_after places ts)
 opened [] places = omega arith
 opened (t ∷ ts) places =
     let here = open_one t.kind t.text t.start t.end places in
@@ -96,10 +117,19 @@ closings_opens zero = refl
 closings_opens (suc n) = omega (arith, closings_opens n)
 
 -- if closing parentheses complete a list, at least as many are open
-pub completed_open : (ts : List Lexeme) (n : ℕ) (e : Tree) → SpellsTree (symbols ts ++ closings n) e → n ≤ length (still_open ts)
+pub completed_open : (ts : List Lexeme) (n : ℕ) (e : Tree) → SpellsTree (symbols ts ++ closings n) e
+    → n ≤ length (still_open ts)
 completed_open ts n e h =
     let even = even_or h.1 in
-    omega (arith, even.closed, total-append opens (symbols ts) (closings n), total-append closes (symbols ts) (closings n), closings_total n, closings_opens n, opened ts [])
+    omega (
+      arith,
+      even.closed,
+      total-append opens (symbols ts) (closings n),
+      total-append closes (symbols ts) (closings n),
+      closings_total n,
+      closings_opens n,
+      opened ts [],
+    )
 
 -- ---- no empty list is spelled
 

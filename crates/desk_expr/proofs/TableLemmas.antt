@@ -1,5 +1,6 @@
 -- What a binary search in a strictly sorted list of terms finds.
-use Rattle.std.proofs.Common.{◌≡◌, ◌∙◌, ⊎_elim, ℕ, ◌+◌, true, List, length, get_or, sym, ap, subst, refl, arith, rules, Option, Some, Result, Ok, Err}
+use Rattle.std.proofs.Common.{◌≡◌, ◌∙◌, ⊎_elim, ℕ, ◌+◌, true, List, length, get_or, sym, ap, subst}
+use Rattle.std.proofs.Common.{refl, arith, rules, Option, Some, Result, Ok, Err}
 use Rattle.std.specs.Prelude.{slice_get, Contains, IfSome, IfNone}
 use Rattle.std.specs.Result.{result_ok}
 use Rattle.std.specs.Ordering.{is_lt, is_eq, ordering_reverse}
@@ -32,26 +33,39 @@ ranks_with_itself t = own_rank (term_order t t) (total-law.antisymm t t)
 
 sorted : (xs : List Term) → IsStrictlySortedBy term_order xs → IsSorted term_order xs
 sorted xs up k d from to =
-    let less : term_order (get_or xs k d) (get_or xs (k + 1) d) ≡ Less = Less-from_sorted term_order xs k (k + 1) d up (omega arith) to in
+    let less : term_order (get_or xs k d) (get_or xs (k + 1) d) ≡ Less =
+    Less-from_sorted term_order xs k (k + 1) d up (omega arith) to in
     ap is_lt (total-law.antisymm (get_or xs (k + 1) d) (get_or xs k d) ∙ ap ordering_reverse less)
 
 -- a term that is between the lower and the higher terms isn't listed
-none_between : (xs : List Term) (t : Term) (i : ℕ) → IsPartitionPoint (λ y. term_order y t ≡ Less) (λ y. term_order y t ≡ Greater) xs i → Contains xs t → ⊥
+none_between : (xs : List Term) (t : Term) (i : ℕ)
+    → IsPartitionPoint (λ y. term_order y t ≡ Less) (λ y. term_order y t ≡ Greater) xs i
+    → Contains xs t → ⊥
 none_between xs t i parts at =
-    let tie : term_order (get_or xs at.0 t) t ≡ Equal = ap (λ y. term_order y t) at.2 ∙ ranks_with_itself t in
+    let tie : term_order (get_or xs at.0 t) t ≡ Equal = ap (λ y. term_order y t) at.2
+    ∙ ranks_with_itself t in
     ⊎_elim
-    (λ below. let less : term_order (get_or xs at.0 t) t ≡ Less = parts.0 at.0 t (omega arith) below in cc)
-    (λ above. let greater : term_order (get_or xs at.0 t) t ≡ Greater = parts.1 at.0 t above at.1 in cc)
+    (λ below. let less : term_order (get_or xs at.0 t) t ≡ Less =
+    parts.0 at.0 t (omega arith) below in cc)
+    (λ above. let greater : term_order (get_or xs at.0 t) t ≡ Greater = parts.1 at.0 t above at.1 in
+    cc)
     (order at.0 i)
 
-pub place_found : (xs : List Term) (t : Term) (r : Result ℕ ℕ) (o : Option ℕ) → o ≡ result_ok r → IsSearchInRange r (length xs) → IsBinarySearchResult (λ y. term_order y t) xs r → IfSome o (λ k. slice_get xs k ≡ Some t)
+pub place_found : (xs : List Term) (t : Term) (r : Result ℕ ℕ) (o : Option ℕ) → o ≡ result_ok r
+    → IsSearchInRange r (length xs) → IsBinarySearchResult (λ y. term_order y t) xs r
+    → IfSome o (λ k. slice_get xs k ≡ Some t)
 place_found xs t (Ok k) o is within found =
     subst (λ (p : Option ℕ). IfSome p (λ k. slice_get xs k ≡ Some t)) (sym is)
     (slice_get_read xs (length xs) k t refl within (sym (same_rank (get_or xs k t) t (found t))))
-place_found xs t (Err k) o is within found = subst (λ (p : Option ℕ). IfSome p (λ k. slice_get xs k ≡ Some t)) (sym is) tt
+place_found xs t (Err k) o is within found = subst (λ (p : Option ℕ). IfSome p
+    (λ k. slice_get xs k ≡ Some t)) (sym is) tt
 
-pub place_none : (xs : List Term) (t : Term) (r : Result ℕ ℕ) (o : Option ℕ) → IsStrictlySortedBy term_order xs → o ≡ result_ok r → IsBinarySearchResult (λ y. term_order y t) xs r → IfNone o (Contains xs t → ⊥)
-place_none xs t (Ok k) o up is found = subst (λ (p : Option ℕ). IfNone p (Contains xs t → ⊥)) (sym is) tt
+pub place_none : (xs : List Term) (t : Term) (r : Result ℕ ℕ) (o : Option ℕ)
+    → IsStrictlySortedBy term_order xs → o ≡ result_ok r
+    → IsBinarySearchResult (λ y. term_order y t) xs r → IfNone o (Contains xs t → ⊥)
+place_none xs t (Ok k) o up is found = subst (λ (p : Option ℕ). IfNone p (Contains xs t → ⊥))
+    (sym is) tt
 place_none xs t (Err k) o up is found =
     subst (λ (p : Option ℕ). IfNone p (Contains xs t → ⊥)) (sym is)
-    (λ at. none_between xs t k (found (searchable_from_sorted total-law (λ y. y) xs t (sorted xs up))) at)
+    (λ at. none_between xs t k (found
+    (searchable_from_sorted total-law (λ y. y) xs t (sorted xs up))) at)

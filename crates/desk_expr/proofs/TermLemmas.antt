@@ -1,12 +1,16 @@
 -- One term: the steps of its reader, and a whole text.
-use Rattle.std.proofs.Common.{◌≡◌, ◌↔◌, ◌∙◌, ◌⊎◌, inl, inr, ℕ, zero, suc, ◌+◌, ◌-◌, ◌≤◌, Bool, true, false, List, [], ◌∷◌, ◌++◌, length, take, sym, subst, ap, refl, arith, Option, Some, None, Result, Ok, Err, length-append, length-take}
+use Rattle.std.proofs.Common.{◌≡◌, ◌↔◌, ◌∙◌, ◌⊎◌, inl, inr, ℕ, zero, suc, ◌+◌, ◌-◌, ◌≤◌, Bool, true}
+use Rattle.std.proofs.Common.{false, List, [], ◌∷◌, ◌++◌, length, take, sym, subst, ap, refl, arith}
+use Rattle.std.proofs.Common.{Option, Some, None, Result, Ok, Err, length-append, length-take}
 use Rattle.std.specs.Prelude.{map, fold, IfOk, IfErr, alloc_error, ◌≢◌, ◌&&◌, not, if◌then◌else◌}
 use Rattle.std.proofs.lemmas.List.{append-nil, length-map}
 use Rattle.desk_base.specs.declared.profile.Profile.{Profile}
 use Rattle.desk_base.specs.Limits as limit
 use Rattle.desk_expr.specs.declared.cut.TokenCuts.{TokenCuts}
 use Rattle.desk_expr.specs.declared.fault.ParseFault.{ParseFault}
-use Rattle.desk_expr.specs.declared.fault.ParseFault.TheVariants.{Empty, BadToken, Unexpected, Unclosed, TooDeep, TooLong, TooManyTerms, Memory}
+use Rattle.desk_expr.specs.declared.fault.ParseFault.TheVariants.{Empty, BadToken, Unexpected}
+use Rattle.desk_expr.specs.declared.fault.ParseFault.TheVariants.{Unclosed, TooDeep, TooLong}
+use Rattle.desk_expr.specs.declared.fault.ParseFault.TheVariants.{TooManyTerms, Memory}
 use Rattle.desk_expr.specs.declared.term.Term.{Term}
 use Rattle.desk_expr.specs.declared.term_reader.TermState.{TermState}
 use Rattle.desk_expr.specs.declared.term_reader.TermState.TheVariants as state
@@ -20,7 +24,10 @@ use Rattle.desk_expr.specs.Words.{with_exception}
 use Rattle.desk_expr.specs.Tokens.{Lexeme, lexeme, AreTokensBy}
 use Rattle.desk_expr.specs.Given.{TokenGiven}
 use Rattle.desk_expr.specs.Grammar.{Symbol, with_word, word, bad, SpellsTerm, bare, excepted}
-use Rattle.desk_expr.specs.Spelling.{symbol, symbol_of, symbols, open_after, is_word, is_with, operand_words_after, closings, AllFronts, Begins, Stands, Reason, StopsAtToken, StopsAtEnd, IsStopBy, SpellsTermAloneBy, SpellsTermWithinBy}
+use Rattle.desk_expr.specs.Spelling.{symbol, symbol_of, symbols, open_after, is_word, is_with}
+use Rattle.desk_expr.specs.Spelling.{operand_words_after, closings, AllFronts, Begins, Stands}
+use Rattle.desk_expr.specs.Spelling.{Reason, StopsAtToken, StopsAtEnd, IsStopBy, SpellsTermAloneBy}
+use Rattle.desk_expr.specs.Spelling.{SpellsTermWithinBy}
 use Rattle.desk_expr.specs.TermReading.{TermRest, HasBegun, TermSteps, TermStops, TermEnds, TermFalls}
 use Rattle.desk_expr.proofs.Lexing.{tokens_exist, same_tokens}
 use Rattle.desk_expr.proofs.ProgressLemmas.{symbols_push, fronts_push}
@@ -28,11 +35,15 @@ use Rattle.desk_expr.proofs.ParseLemmas.{SoFar, faults_spell, stop_spells, symbo
 
 -- ---- steps
 
-pub term_inv : (r : List Symbol) (t : Term) → SpellsTerm r t → ((o : Option (List ℕ)) × (r ≡ word t o ∷ [])) ⊎ ((v u : Term) × (o : Option (List ℕ)) × (x : List ℕ) × (r ≡ word v o ∷ with_word ∷ word u (Some x) ∷ []) × (with_exception v x ≡ t))
+pub term_inv : (r : List Symbol) (t : Term) → SpellsTerm r t
+    → ((o : Option (List ℕ)) × (r ≡ word t o ∷ []))
+    ⊎ ((v u : Term) × (o : Option (List ℕ)) × (x : List ℕ)
+    × (r ≡ word v o ∷ with_word ∷ word u (Some x) ∷ []) × (with_exception v x ≡ t))
 term_inv r t (bare _ o) = inl (o, refl)
 term_inv r t (excepted v u o x) = inr (v, u, o, x, refl, refl)
 
-pub start_word : (s : Symbol) (v : Term) (o : Option (List ℕ)) → s ≡ word v o → TermSteps state.Start s (state.Word v)
+pub start_word : (s : Symbol) (v : Term) (o : Option (List ℕ)) → s ≡ word v o
+    → TermSteps state.Start s (state.Word v)
 start_word s v o is = (
   tt,
   λ r t. (
@@ -44,20 +55,27 @@ start_word s v o is = (
           inr (u, x, tail, subst (λ (y : Term). with_exception y x ≡ t) head same)
     ]),
     (λ h. elim h [
-      | inl (none, same) ↦ subst (λ q. SpellsTerm (s ∷ q) t) (sym none) (subst (λ q. SpellsTerm (q ∷ []) t) (sym is) (subst (λ y. SpellsTerm (word v o ∷ []) y) same (bare v o)))
-      | inr (u, x, tail, same) ↦ subst (λ q. SpellsTerm (s ∷ q) t) (sym tail) (subst (λ q. SpellsTerm (q ∷ with_word ∷ word u (Some x) ∷ []) t) (sym is) (subst (λ y. SpellsTerm (word v o ∷ with_word ∷ word u (Some x) ∷ []) y) same (excepted v u o x)))
+      | inl (none, same) ↦ subst (λ q. SpellsTerm (s ∷ q) t) (sym none)
+          (subst (λ q. SpellsTerm (q ∷ []) t) (sym is)
+          (subst (λ y. SpellsTerm (word v o ∷ []) y) same (bare v o)))
+      | inr (u, x, tail, same) ↦ subst (λ q. SpellsTerm (s ∷ q) t) (sym tail)
+          (subst (λ q. SpellsTerm (q ∷ with_word ∷ word u (Some x) ∷ []) t) (sym is)
+          (subst (λ y. SpellsTerm (word v o ∷ with_word ∷ word u (Some x) ∷ []) y) same
+          (excepted v u o x)))
     ]),
   ),
 )
 
-pub start_other : (s : Symbol) → ((v : Term) (o : Option (List ℕ)) → s ≡ word v o → ⊥) → (r : List Symbol) (t : Term) → TermRest state.Start (s ∷ r) t → ⊥
+pub start_other : (s : Symbol) → ((v : Term) (o : Option (List ℕ)) → s ≡ word v o → ⊥)
+    → (r : List Symbol) (t : Term) → TermRest state.Start (s ∷ r) t → ⊥
 start_other s none r t h =
     elim (term_inv (s ∷ r) t h) [
       | inl (o, e) ↦ none t o (cc)
       | inr (v, u, o, x, e, same) ↦ none v o (cc)
     ]
 
-pub word_with : (s : Symbol) (v : Term) → s ≡ with_word → TermSteps (state.Word v) s (state.Exception v)
+pub word_with : (s : Symbol) (v : Term) → s ≡ with_word
+    → TermSteps (state.Word v) s (state.Exception v)
 word_with s v is = (
   tt,
   λ r t. (
@@ -69,11 +87,14 @@ word_with s v is = (
   ),
 )
 
-pub word_other : (s : Symbol) (v : Term) → s ≢ with_word → (r : List Symbol) (t : Term) → TermRest (state.Word v) (s ∷ r) t → ⊥
+pub word_other : (s : Symbol) (v : Term) → s ≢ with_word → (r : List Symbol) (t : Term)
+    → TermRest (state.Word v) (s ∷ r) t → ⊥
 word_other s v other r t (inl (none, same)) = cc
 word_other s v other r t (inr (u, x, e, same)) = other (cc)
 
-pub exception_word : (s : Symbol) (v : Term) (u : Term) (x : List ℕ) (new : Term) → s ≡ word u (Some x) → new ≡ with_exception v x → TermSteps (state.Exception v) s (state.Done new)
+pub exception_word : (s : Symbol) (v : Term) (u : Term) (x : List ℕ) (new : Term)
+    → s ≡ word u (Some x) → new ≡ with_exception v x
+    → TermSteps (state.Exception v) s (state.Done new)
 exception_word s v u x new is new_is = (
   tt,
   λ r t. (
@@ -85,21 +106,26 @@ exception_word s v u x new is new_is = (
   ),
 )
 
-pub exception_other : (s : Symbol) (v : Term) → ((u : Term) (x : List ℕ) → s ≡ word u (Some x) → ⊥) → (r : List Symbol) (t : Term) → TermRest (state.Exception v) (s ∷ r) t → ⊥
+pub exception_other : (s : Symbol) (v : Term) → ((u : Term) (x : List ℕ) → s ≡ word u (Some x) → ⊥)
+    → (r : List Symbol) (t : Term) → TermRest (state.Exception v) (s ∷ r) t → ⊥
 exception_other s v none r t (u, x, e, same) = none u x (cc)
 
-pub done_other : (s : Symbol) (v : Term) (r : List Symbol) (t : Term) → TermRest (state.Done v) (s ∷ r) t → ⊥
+pub done_other : (s : Symbol) (v : Term) (r : List Symbol) (t : Term)
+    → TermRest (state.Done v) (s ∷ r) t → ⊥
 done_other s v r t (none, same) = cc
 
 -- ---- short lists
 
-opened_few : (places : List ℕ) (ts : List Lexeme) → length (fold open_after places ts) ≤ length places + length ts
+opened_few : (places : List ℕ) (ts : List Lexeme)
+    → length (fold open_after places ts) ≤ length places + length ts
 opened_few places [] = omega arith
 opened_few places (t ∷ ts) =
     let here = open_one t.kind t.text t.start t.end places in
     omega (arith, here, opened_few (open_after places t) ts)
   where
-    open_one : (k : Kind) (w : List ℕ) (start end : ℕ) (places : List ℕ) → length (open_after places (record { text = w; start = start; end = end; kind = k })) ≤ length places + 1
+    open_one : (k : Kind) (w : List ℕ) (start end : ℕ) (places : List ℕ)
+        → length (open_after places (record { text = w; start = start; end = end; kind = k }))
+        ≤ length places + 1
     open_one kind.Opening w start end places = omega (arith, length-append places (start ∷ []))
     open_one kind.Closing w start end places = omega (arith, length-take (length places - 1) places)
     open_one _ w start end places = omega arith
@@ -117,10 +143,12 @@ term_short ss t (bare v o) = omega arith
 term_short ss t (excepted v u o x) = omega arith
 
 -- a front of a term is within the limits
-pub short_stands : (front : List Lexeme) → Begins SpellsTerm (symbols front) → Stands SpellsTerm front
+pub short_stands : (front : List Lexeme) → Begins SpellsTerm (symbols front)
+    → Stands SpellsTerm front
 short_stands front b =
     let few = term_short (symbols front ++ b.0) b.1 b.2 in
-    let size : length front ≤ 3 = omega (arith, few, length-append (symbols front) b.0, length-map front symbol_of) in
+    let size : length front ≤ 3 =
+    omega (arith, few, length-append (symbols front) b.0, length-map front symbol_of) in
     record {
       begins = b;
       depth = omega (arith, size, opened_few [] front);
@@ -135,7 +163,8 @@ some_term = record { key = 97 ∷ []; plus = false; exception = None }
 lives : (m : TermState) → (r : List Symbol) × (t : Term) × TermRest m r t
 lives state.Start = (word some_term None ∷ [], some_term, bare some_term None)
 lives (state.Word v) = ([], v, inl (refl, refl))
-lives (state.Exception v) = let x : List ℕ = 97 ∷ [] in (word some_term (Some x) ∷ [], with_exception v x, (some_term, x, refl, refl))
+lives (state.Exception v) = let x : List ℕ = 97 ∷ [] in
+    (word some_term (Some x) ∷ [], with_exception v x, (some_term, x, refl, refl))
 lives (state.Done v) = ([], v, (refl, refl))
 
 abbrev pub IsStart : TermState → Type 0
@@ -150,7 +179,9 @@ pub record TermRead (front : List Lexeme) (m : TermState) : Type 0 where
   pub start : IsStart m → front ≡ []
   pub stands : AllFronts (Stands SpellsTerm) front
 
-begins : (front : List Lexeme) (m : TermState) → ((r : List Symbol) (t : Term) → SpellsTerm (symbols front ++ r) t ↔ TermRest m r t) → Begins SpellsTerm (symbols front)
+begins : (front : List Lexeme) (m : TermState)
+    → ((r : List Symbol) (t : Term) → SpellsTerm (symbols front ++ r) t ↔ TermRest m r t)
+    → Begins SpellsTerm (symbols front)
 begins front m rest = let k = lives m in (k.0, k.1, (rest k.0 k.1).1 k.2)
 
 take_nothing : (n : ℕ) → take {A = Lexeme} n [] ≡ []
@@ -159,11 +190,13 @@ take_nothing (suc n) = refl
 
 pub nothing_read : TermRead [] state.Start
 nothing_read =
-    let rest : (r : List Symbol) (t : Term) → SpellsTerm ([] ++ r) t ↔ TermRest state.Start r t = λ r t. ((λ h. h), (λ h. h)) in
+    let rest : (r : List Symbol) (t : Term) → SpellsTerm ([] ++ r) t ↔ TermRest state.Start r t =
+    λ r t. ((λ h. h), (λ h. h)) in
     record {
       rest = rest;
       start = λ h. refl;
-      stands = λ n. subst (Stands SpellsTerm) (sym (take_nothing n)) (short_stands [] (begins [] state.Start rest));
+      stands = λ n. subst (Stands SpellsTerm) (sym (take_nothing n))
+          (short_stands [] (begins [] state.Start rest));
     }
 
 not_start : (n : TermState) → HasBegun n → IsStart n → ⊥
@@ -175,26 +208,32 @@ not_start (state.Done v) h k = k
 module _ (front : List Lexeme) (t : Lexeme) (m : TermState) (read : TermRead front m) where
   pub one_read : (n : TermState) → TermSteps m (symbol_of t) n → TermRead (front ++ t ∷ []) n
   one_read n steps =
-      let rest : (r : List Symbol) (v : Term) → SpellsTerm (symbols (front ++ t ∷ []) ++ r) v ↔ TermRest n r v =
+      let rest : (r : List Symbol) (v : Term) → SpellsTerm (symbols (front ++ t ∷ [])
+      ++ r) v ↔ TermRest n r v =
       λ r v. (
-        (λ h. (steps.1 r v).0 ((read.rest (symbol_of t ∷ r) v).0 (subst (λ l. SpellsTerm l v) (symbols_push front t r) h))),
-        (λ h. subst (λ l. SpellsTerm l v) (sym (symbols_push front t r)) ((read.rest (symbol_of t ∷ r) v).1 ((steps.1 r v).1 h))),
+        (λ h. (steps.1 r v).0 ((read.rest (symbol_of t ∷ r) v).0
+            (subst (λ l. SpellsTerm l v) (symbols_push front t r) h))),
+        (λ h. subst (λ l. SpellsTerm l v) (sym (symbols_push front t r))
+            ((read.rest (symbol_of t ∷ r) v).1 ((steps.1 r v).1 h))),
       ) in
       record {
         rest = rest;
         start = λ h. absurd (not_start n steps.0 h);
-        stands = fronts_push (Stands SpellsTerm) front t read.stands (short_stands (front ++ t ∷ []) (begins (front ++ t ∷ []) n rest));
+        stands = fronts_push (Stands SpellsTerm) front t read.stands
+            (short_stands (front ++ t ∷ []) (begins (front ++ t ∷ []) n rest));
       }
 
   -- why a token can't be there, apart from lack of memory
   abbrev pub TermStopsAfter : ParseFault → Type 0
   TermStopsAfter f = (f ≡ Memory alloc_error) ⊎ Reason SpellsTerm front t f
 
-  pub stopped : t.kind ≢ kind.Bad → (h : Halt) → TermStops m (symbol_of t) h → TermStopsAfter (fault_at h t.start)
+  pub stopped : t.kind ≢ kind.Bad → (h : Halt) → TermStops m (symbol_of t) h
+      → TermStopsAfter (fault_at h t.start)
   stopped good halt.Unexpected h =
       inr (
         good,
-        λ b. h b.0 b.1 ((read.rest (symbol_of t ∷ b.0) b.1).0 (subst (λ l. SpellsTerm l b.1) (symbols_push front t b.0) b.2)),
+        λ b. h b.0 b.1 ((read.rest (symbol_of t ∷ b.0) b.1).0
+            (subst (λ l. SpellsTerm l b.1) (symbols_push front t b.0) b.2)),
         refl,
       )
   stopped good halt.Unclosed h = absurd h
@@ -202,11 +241,15 @@ module _ (front : List Lexeme) (t : Lexeme) (m : TermState) (read : TermRead fro
 
 -- ---- a whole text
 
-only_memory : (profile : Profile) (text : List ℕ) (f : ParseFault) → f ≡ Memory alloc_error → IsStopBy SpellsTerm profile text f
+only_memory : (profile : Profile) (text : List ℕ) (f : ParseFault) → f ≡ Memory alloc_error
+    → IsStopBy SpellsTerm profile text f
 only_memory profile text f is = subst (IsStopBy SpellsTerm profile text) (sym is) tt
 
-module _ (profile : Profile) (text : List ℕ) (yielded : List Token) (t : Token) (cuts new : TokenCuts) where
-  at_token : (f : ParseFault) → length text ≤ limit.expression_bytes → StopsAtToken SpellsTerm profile text f → Reason SpellsTerm (map lexeme yielded) (lexeme t) f → IsStopBy SpellsTerm profile text f
+module _ (profile : Profile) (text : List ℕ) (yielded : List Token) (t : Token)
+    (cuts new : TokenCuts) where
+  at_token : (f : ParseFault) → length text ≤ limit.expression_bytes
+      → StopsAtToken SpellsTerm profile text f → Reason SpellsTerm (map lexeme yielded) (lexeme t) f
+      → IsStopBy SpellsTerm profile text f
   at_token (Empty p) short at reason = absurd reason
   at_token (BadToken p) short at reason = (short, at)
   at_token (Unexpected p) short at reason = (short, inl at)
@@ -216,20 +259,34 @@ module _ (profile : Profile) (text : List ℕ) (yielded : List Token) (t : Token
   at_token (TooManyTerms p) short at reason = (short, at)
   at_token (Memory e) short at reason = tt
 
-  pub stop_at_token : (f : ParseFault) → length text ≤ limit.expression_bytes → SoFar profile text yielded cuts → TokenGiven cuts (Some t) new → AllFronts (Stands SpellsTerm) (map lexeme yielded) → (f ≡ Memory alloc_error) ⊎ Reason SpellsTerm (map lexeme yielded) (lexeme t) f → IsStopBy SpellsTerm profile text f
+  pub stop_at_token : (f : ParseFault) → length text ≤ limit.expression_bytes
+      → SoFar profile text yielded cuts → TokenGiven cuts (Some t) new
+      → AllFronts (Stands SpellsTerm) (map lexeme yielded)
+      → (f ≡ Memory alloc_error) ⊎ Reason SpellsTerm (map lexeme yielded) (lexeme t) f
+      → IsStopBy SpellsTerm profile text f
   stop_at_token f short so_far given stands (inl is) = only_memory profile text f is
   stop_at_token f short so_far given stands (inr reason) =
       let behind = tokens_exist cuts.profile t.end new.rest.now in
-      at_token f short (map lexeme yielded, lexeme t, behind.0, so_far (lexeme t ∷ behind.0) (new.rest.now, given.0, behind.1), stands, reason) reason
+      at_token f short (
+        map lexeme yielded,
+        lexeme t,
+        behind.0,
+        so_far (lexeme t ∷ behind.0) (new.rest.now, given.0, behind.1),
+        stands,
+        reason,
+      ) reason
 
 -- an exception doesn't come first
-no_exception_first : (v : Term) → ((r : List Symbol) (t : Term) → TermRest (state.Exception v) r t → SpellsTerm r t) → ⊥
+no_exception_first : (v : Term)
+    → ((r : List Symbol) (t : Term) → TermRest (state.Exception v) r t → SpellsTerm r t) → ⊥
 no_exception_first v all =
     let x : List ℕ = 97 ∷ [] in
     let t : Term = with_exception v x in
-    let h : SpellsTerm (word some_term (Some x) ∷ []) t = all (word some_term (Some x) ∷ []) t (some_term, x, refl, refl) in
+    let h : SpellsTerm (word some_term (Some x) ∷ []) t =
+    all (word some_term (Some x) ∷ []) t (some_term, x, refl, refl) in
     elim (term_inv (word some_term (Some x) ∷ []) t h) [
-      | inl (o, e) ↦ let same : some_term ≡ t = cc in let none : None ≡ Some x = ap (λ (y : Term). y.exception) same in absurd (cc)
+      | inl (o, e) ↦ let same : some_term ≡ t = cc in
+          let none : None ≡ Some x = ap (λ (y : Term). y.exception) same in absurd (cc)
       | inr (w, u, o, y, e, same) ↦ absurd (cc)
     ]
 
@@ -238,30 +295,52 @@ exception_open v zero t (u, x, e, same) = cc
 exception_open v (suc n) t (u, x, e, same) = cc
 
 pub word_ends : (v : Term) → TermEnds (state.Word v) v
-word_ends v t = ((λ h. elim h [ inl a ↦ a.1 | inr (u, x, e, same) ↦ absurd (cc) ]), (λ h. inl (refl, h)))
+word_ends v t = (
+  (λ h. elim h [ inl a ↦ a.1 | inr (u, x, e, same) ↦ absurd (cc) ]),
+  (λ h. inl (refl, h)),
+)
 
 pub done_ends : (v : Term) → TermEnds (state.Done v) v
 done_ends v t = ((λ h. h.1), (λ h. (refl, h)))
 
-module _ (profile : Profile) (text : List ℕ) (ts : List Lexeme) (m : TermState) (short : length text ≤ limit.expression_bytes) (are : AreTokensBy profile 0 text ts) (read : TermRead ts m) where
-  pub spelled_at_end : (r : Result Term ParseFault) → IfOk r (TermEnds m) → IfOk r (SpellsTermWithinBy profile text)
-  spelled_at_end (Ok t) h =
-      (short, (ts, are, subst (λ l. SpellsTerm l t) (append-nil (symbols ts)) ((read.rest [] t).1 ((h t).1 refl))))
+module _ (profile : Profile) (text : List ℕ) (ts : List Lexeme) (m : TermState)
+    (short : length text ≤ limit.expression_bytes) (are : AreTokensBy profile 0 text ts)
+    (read : TermRead ts m) where
+  pub spelled_at_end : (r : Result Term ParseFault) → IfOk r (TermEnds m)
+      → IfOk r (SpellsTermWithinBy profile text)
+  spelled_at_end (Ok t) h = (
+    short,
+    (
+      ts,
+      are,
+      subst (λ l. SpellsTerm l t) (append-nil (symbols ts)) ((read.rest [] t).1 ((h t).1 refl)),
+    ),
+  )
   spelled_at_end (Err f) h = h
 
-  falls : (m : TermState) → TermRead ts m → (f : ParseFault) → TermFalls m (length text) f → IsStopBy SpellsTerm profile text f
+  falls : (m : TermState) → TermRead ts m → (f : ParseFault) → TermFalls m (length text) f
+      → IsStopBy SpellsTerm profile text f
   falls state.Start read f is =
-      subst (IsStopBy SpellsTerm profile text) (sym is) (short, subst (AreTokensBy profile 0 text) (read.start tt) are, refl)
+      subst (IsStopBy SpellsTerm profile text) (sym is)
+      (short, subst (AreTokensBy profile 0 text) (read.start tt) are, refl)
   falls (state.Word v) read f is = absurd is
   falls (state.Done v) read f is = absurd is
   falls (state.Exception v) read f is =
       subst (IsStopBy SpellsTerm profile text) (sym is) (short, inr (at_end ts are read))
     where
-      at_end : (us : List Lexeme) → AreTokensBy profile 0 text us → TermRead us (state.Exception v) → StopsAtEnd SpellsTerm profile text (Unexpected (length text))
+      at_end : (us : List Lexeme) → AreTokensBy profile 0 text us → TermRead us (state.Exception v)
+          → StopsAtEnd SpellsTerm profile text (Unexpected (length text))
       at_end [] are read = absurd (no_exception_first v (λ r t. (read.rest r t).1))
-      at_end (t ∷ us) are read = (t, us, are, read.stands, ((λ (n, u, h). exception_open v n u ((read.rest (closings n) u).0 h)), refl))
+      at_end (t ∷ us) are read = (
+        t,
+        us,
+        are,
+        read.stands,
+        ((λ (n, u, h). exception_open v n u ((read.rest (closings n) u).0 h)), refl),
+      )
 
-  pub stopped_at_end : (r : Result Term ParseFault) → IfErr r (TermFalls m (length text)) → IfErr r (IsStopBy SpellsTerm profile text)
+  pub stopped_at_end : (r : Result Term ParseFault) → IfErr r (TermFalls m (length text))
+      → IfErr r (IsStopBy SpellsTerm profile text)
   stopped_at_end (Ok t) h = h
   stopped_at_end (Err f) h = falls m read f h
 
@@ -270,7 +349,11 @@ module _ (profile : Profile) (text : List ℕ) (ts : List Lexeme) (m : TermState
 one_term : (r : List Symbol) (a b : Term) → SpellsTerm r a → SpellsTerm r b → a ≡ b
 one_term r a b h k =
     elim (term_inv r a h) [
-      | inl (o, e) ↦ elim (term_inv r b k) [ inl (p, f) ↦ let same = sym e ∙ f in cc | inr (v, u, p, x, f, is) ↦ let same = sym e ∙ f in absurd (cc) ]
+      | inl (o, e) ↦ elim (term_inv r b k) [
+        | inl (p, f) ↦ let same = sym e ∙ f in cc
+        | inr (v, u, p, x, f, is) ↦ let same = sym e
+            ∙ f in absurd (cc)
+      ]
       | inr (v, u, o, x, e, is) ↦ elim (term_inv r b k) [
         | inl (p, f) ↦ let same = sym e ∙ f in absurd (cc)
         | inr (w, z, p, y, f, is') ↦
@@ -281,49 +364,76 @@ one_term r a b h k =
       ]
     ]
 
-pub spells_term_once : (profile : Profile) (text : List ℕ) (a b : Term) → SpellsTermAloneBy profile text a → SpellsTermAloneBy profile text b → a ≡ b
+pub spells_term_once : (profile : Profile) (text : List ℕ) (a b : Term)
+    → SpellsTermAloneBy profile text a → SpellsTermAloneBy profile text b → a ≡ b
 spells_term_once profile text a b (ts, are, h) (us, are', k) =
     let same : us ≡ ts = same_tokens profile 0 text us ts are' are in
     one_term (symbols ts) a b h (subst (λ l. SpellsTerm (symbols l) b) same k)
 
 -- ---- a text that stops spells no term
 
-pub good_term : (ss : List Symbol) (t : Term) → SpellsTerm ss t → (front behind : List Symbol) → ss ≡ front ++ bad ∷ behind → ⊥
-good_term ss t h [] behind is = elim (term_inv ss t h) [ inl (o, e) ↦ let same = sym e ∙ is in cc | inr (v, u, o, x, e, k) ↦ let same = sym e ∙ is in cc ]
-good_term ss t h (a ∷ []) behind is = elim (term_inv ss t h) [ inl (o, e) ↦ let same = sym e ∙ is in cc | inr (v, u, o, x, e, k) ↦ let same = sym e ∙ is in cc ]
-good_term ss t h (a ∷ b ∷ []) behind is = elim (term_inv ss t h) [ inl (o, e) ↦ let same = sym e ∙ is in cc | inr (v, u, o, x, e, k) ↦ let same = sym e ∙ is in cc ]
+pub good_term : (ss : List Symbol) (t : Term) → SpellsTerm ss t → (front behind : List Symbol)
+    → ss ≡ front ++ bad ∷ behind → ⊥
+good_term ss t h [] behind is = elim (term_inv ss t h) [
+  | inl (o, e) ↦ let same = sym e ∙ is in cc
+  | inr (v, u, o, x, e, k) ↦ let same = sym e ∙ is in
+      cc
+]
+good_term ss t h (a ∷ []) behind is = elim (term_inv ss t h) [
+  | inl (o, e) ↦ let same = sym e ∙ is in cc
+  | inr (v, u, o, x, e, k) ↦ let same = sym e ∙ is in
+      cc
+]
+good_term ss t h (a ∷ b ∷ []) behind is = elim (term_inv ss t h) [
+  | inl (o, e) ↦ let same = sym e ∙ is in cc
+  | inr (v, u, o, x, e, k) ↦ let same = sym e ∙ is in
+      cc
+]
 good_term ss t h (a ∷ b ∷ c ∷ front) behind is =
     let few = term_short ss t h in
     absurd (omega (arith, few, ap length is, length-append front (bad ∷ behind)))
 
-no_reason : (profile : Profile) (text : List ℕ) (f : ParseFault) (e : Term) → StopsAtToken SpellsTerm profile text f → SpellsTermWithinBy profile text e → ⊥
+no_reason : (profile : Profile) (text : List ℕ) (f : ParseFault) (e : Term)
+    → StopsAtToken SpellsTerm profile text f → SpellsTermWithinBy profile text e → ⊥
 no_reason profile text f e (front, t, behind, are, stands, reason) (short, (us, are', h)) =
-    let same : us ≡ front ++ t ∷ behind = same_tokens profile 0 text us (front ++ t ∷ behind) are' are in
+    let same : us ≡ front ++ t ∷ behind =
+    same_tokens profile 0 text us (front ++ t ∷ behind) are' are in
     none f reason (subst (λ l. SpellsTerm (symbols l) e) same h)
   where
-    none : (f : ParseFault) → Reason SpellsTerm front t f → SpellsTerm (symbols (front ++ t ∷ behind)) e → ⊥
+    none : (f : ParseFault) → Reason SpellsTerm front t f
+        → SpellsTerm (symbols (front ++ t ∷ behind)) e → ⊥
     none (Empty p) reason h = reason
     none (BadToken p) reason h =
         let is : symbol_of t ≡ bad = ap (λ k. symbol k t.text) reason.0 in
-        good_term (symbols (front ++ t ∷ behind)) e h (symbols front) (symbols behind) (symbols_behind front t behind ∙ ap (λ s. symbols front ++ s ∷ symbols behind) is)
-    none (Unexpected p) reason h = reason.1 (symbols behind, e, subst (λ l. SpellsTerm l e) (symbols_split front t behind) h)
+        good_term (symbols (front ++ t ∷ behind)) e h (symbols front) (symbols behind)
+        (symbols_behind front t behind ∙ ap (λ s. symbols front ++ s ∷ symbols behind) is)
+    none (Unexpected p) reason h = reason.1
+        (symbols behind, e, subst (λ l. SpellsTerm l e) (symbols_split front t behind) h)
     none (Unclosed p) reason h = reason
     none (TooDeep p) reason h =
-        let stand = short_stands (front ++ t ∷ []) reason.0 in let few = stand.depth in absurd (omega (arith, few, reason.1))
+        let stand = short_stands (front ++ t ∷ []) reason.0 in let few = stand.depth in
+        absurd (omega (arith, few, reason.1))
     none (TooLong p) reason h = reason
     none (TooManyTerms p) reason h =
-        let stand = short_stands (front ++ t ∷ []) reason.0 in let few = stand.terms in absurd (omega (arith, few, reason.2))
+        let stand = short_stands (front ++ t ∷ []) reason.0 in let few = stand.terms in
+        absurd (omega (arith, few, reason.2))
     none (Memory m) reason h = reason
 
 words : (e : Term) → SpellsTerm [] e → ⊥
 words e h = elim (term_inv [] e h) [ inl (o, is) ↦ cc | inr (v, u, o, x, is, k) ↦ cc ]
 
-pub stop_spells_no_term : (profile : Profile) (text : List ℕ) (f : ParseFault) → IsStopBy SpellsTerm profile text f → (f ≡ Memory alloc_error) ⊎ ((e : Term) → SpellsTermWithinBy profile text e → ⊥)
+pub stop_spells_no_term : (profile : Profile) (text : List ℕ) (f : ParseFault)
+    → IsStopBy SpellsTerm profile text f
+    → (f ≡ Memory alloc_error) ⊎ ((e : Term) → SpellsTermWithinBy profile text e → ⊥)
 stop_spells_no_term profile text =
-    stop_spells SpellsTerm (SpellsTermWithinBy profile text) profile text (λ e h. (h.0, h.1.0, h.1.1, h.1.2)) words
+    stop_spells SpellsTerm (SpellsTermWithinBy profile text) profile text
+    (λ e h. (h.0, h.1.0, h.1.1, h.1.2)) words
     (no_reason profile text)
 
-pub faults_spell_no_term : (profile : Profile) (text : List ℕ) (r : Result Term ParseFault) → IfErr r (IsStopBy SpellsTerm profile text) → IfErr r (λ f. (f ≡ Memory alloc_error) ⊎ ((e : Term) → SpellsTermWithinBy profile text e → ⊥))
+pub faults_spell_no_term : (profile : Profile) (text : List ℕ) (r : Result Term ParseFault)
+    → IfErr r (IsStopBy SpellsTerm profile text)
+    → IfErr r (λ f. (f ≡ Memory alloc_error) ⊎ ((e : Term) → SpellsTermWithinBy profile text e → ⊥))
 faults_spell_no_term profile text =
-    faults_spell SpellsTerm (SpellsTermWithinBy profile text) profile text (λ e h. (h.0, h.1.0, h.1.1, h.1.2)) words
+    faults_spell SpellsTerm (SpellsTermWithinBy profile text) profile text
+    (λ e h. (h.0, h.1.0, h.1.1, h.1.2)) words
     (no_reason profile text)

@@ -1,5 +1,6 @@
 -- What the kind of a token says about its bytes, and that words are well-formed terms.
-use Rattle.std.proofs.Common.{◌≡◌, ◌∙◌, ℕ, List, [], ◌∷◌, length, Bool, true, false, refl, sym, subst, ap, arith, add-zero, Some, None, drop, get_or, codes, nat_eq}
+use Rattle.std.proofs.Common.{◌≡◌, ◌∙◌, ℕ, List, [], ◌∷◌, length, Bool, true, false, refl, sym}
+use Rattle.std.proofs.Common.{subst, ap, arith, add-zero, Some, None, drop, get_or, codes, nat_eq}
 use Rattle.std.specs.Prelude.{nat_lt, ◌&&◌, ◌||◌, not, if◌then◌else◌, ◌-◌}
 use Rattle.std.specs.Char.{to_ascii_lowercase}
 use Rattle.std.specs.List.{list_all, ends_with}
@@ -12,8 +13,11 @@ use Rattle.desk_base.specs.Idstring.{is_idstring_byte, is_idstring}
 use Rattle.desk_base.specs.Folded.{folded}
 use Rattle.desk_base.specs.declared.profile.Profile.{Profile}
 use Rattle.desk_expr.specs.declared.token.Kind.{Kind}
-use Rattle.desk_expr.specs.declared.token.Kind.TheVariants.{Opening, Closing, And, Or, With, Licence, LicenceOrLater, Reference, Bad}
-use Rattle.desk_expr.specs.Words.{is_reference, begins_like_reference, is_licence_or_later, without_last, is_operator, kind_by, IsWordOf, is_folded_id, is_exception, is_term}
+use Rattle.desk_expr.specs.declared.token.Kind.TheVariants.{Opening, Closing, And, Or, With}
+use Rattle.desk_expr.specs.declared.token.Kind.TheVariants.{Licence, LicenceOrLater, Reference, Bad}
+use Rattle.desk_expr.specs.Words.{is_reference, begins_like_reference, is_licence_or_later}
+use Rattle.desk_expr.specs.Words.{without_last, is_operator, kind_by, IsWordOf, is_folded_id}
+use Rattle.desk_expr.specs.Words.{is_exception, is_term}
 use Rattle.desk_expr.specs.declared.term.Term.{Term}
 
 -- ---- kinds
@@ -26,7 +30,10 @@ Passes Reference f i l = f ≡ true
 Passes _ f i l = Unit {0}
 
 passed : (o c a r w b f i l : Bool) →
-    Passes (if o then Opening else (if c then Closing else (if a then And else (if r then Or else (if w then With else (if b then (if f then Reference else Bad) else (if i then Licence else (if l then LicenceOrLater else Bad)))))))) f i l
+    Passes (if o then Opening else (if c then Closing
+    else (if a then And else (if r then Or
+    else (if w then With else (if b then (if f then Reference else Bad)
+    else (if i then Licence else (if l then LicenceOrLater else Bad)))))))) f i l
 passed true c a r w b f i l = tt
 passed false true a r w b f i l = tt
 passed false false true r w b f i l = tt
@@ -38,11 +45,15 @@ passed false false false false false false f true l = refl
 passed false false false false false false f false true = refl
 passed false false false false false false f false false = tt
 
-by_kind : (profile : Profile) (k : Kind) (w : List ℕ) → k ≡ kind_by profile w → Passes k (is_reference w) (is_idstring w) (is_licence_or_later w)
+by_kind : (profile : Profile) (k : Kind) (w : List ℕ) → k ≡ kind_by profile w
+    → Passes k (is_reference w) (is_idstring w) (is_licence_or_later w)
 by_kind profile k w h =
     subst (λ (k : Kind). Passes k (is_reference w) (is_idstring w) (is_licence_or_later w)) (sym h)
-    (passed (bytes_eq w (codes "(")) (bytes_eq w (codes ")")) (is_operator profile (codes "AND") (codes "and") w) (is_operator profile (codes "OR") (codes "or") w)
-    (is_operator profile (codes "WITH") (codes "with") w) (begins_like_reference w) (is_reference w) (is_idstring w) (is_licence_or_later w))
+    (passed (bytes_eq w (codes "(")) (bytes_eq w (codes ")"))
+    (is_operator profile (codes "AND") (codes "and") w)
+    (is_operator profile (codes "OR") (codes "or") w)
+    (is_operator profile (codes "WITH") (codes "with") w) (begins_like_reference w) (is_reference w)
+    (is_idstring w) (is_licence_or_later w))
 
 -- a token that is a word is such a word, by each profile
 pub word_of : (profile : Profile) (k : Kind) (w : List ℕ) → k ≡ kind_by profile w → IsWordOf k w
@@ -58,7 +69,8 @@ word_of profile Bad w h = tt
 
 -- ---- folded ids
 
-lowercase_byte : (b : ℕ) → is_idstring_byte b ≡ true → is_idstring_byte (to_ascii_lowercase b) ≡ true
+lowercase_byte : (b : ℕ) → is_idstring_byte b ≡ true
+    → is_idstring_byte (to_ascii_lowercase b) ≡ true
 lowercase_byte b h = grind (arith, nat_tests)
 
 pub and_true : (x y : Bool) → (x && y) ≡ true → (x ≡ true) × (y ≡ true)
@@ -69,16 +81,19 @@ and_true false y h = absurd (cc)
 pub both_true : (x y : Bool) → x ≡ true → y ≡ true → (x && y) ≡ true
 both_true x y h k = (λ i. h i && k i)
 
-folded_bytes : (w : List ℕ) → list_all is_idstring_byte w ≡ true → list_all is_idstring_byte (folded w) ≡ true
+folded_bytes : (w : List ℕ) → list_all is_idstring_byte w ≡ true
+    → list_all is_idstring_byte (folded w) ≡ true
 folded_bytes [] h = refl
 folded_bytes (b ∷ bs) h =
     let parts = and_true (is_idstring_byte b) (list_all is_idstring_byte bs) h in
-    both_true (is_idstring_byte (to_ascii_lowercase b)) (list_all is_idstring_byte (folded bs)) (lowercase_byte b parts.0) (folded_bytes bs parts.1)
+    both_true (is_idstring_byte (to_ascii_lowercase b)) (list_all is_idstring_byte (folded bs))
+    (lowercase_byte b parts.0) (folded_bytes bs parts.1)
 
 folded_idstring : (w : List ℕ) → is_idstring w ≡ true → is_idstring (folded w) ≡ true
 folded_idstring w h =
     let parts = and_true (nat_lt 0 (length w)) (list_all is_idstring_byte w) h in
-    both_true (nat_lt 0 (length (folded w))) (list_all is_idstring_byte (folded w)) (rw length-map parts.0) (folded_bytes w parts.1)
+    both_true (nat_lt 0 (length (folded w))) (list_all is_idstring_byte (folded w))
+    (rw length-map parts.0) (folded_bytes w parts.1)
 
 pub folded_twice : (w : List ℕ) → folded (folded w) ≡ folded w
 folded_twice [] = refl
@@ -87,7 +102,8 @@ folded_twice (b ∷ bs) = (λ i. lowercase-lowercase b i ∷ folded_twice bs i)
 -- a folded idstring is a folded id
 pub folded_id : (w : List ℕ) → is_idstring w ≡ true → is_folded_id (folded w) ≡ true
 folded_id w h =
-    both_true (is_idstring (folded w)) (bytes_eq (folded (folded w)) (folded w)) (folded_idstring w h) ((bytes_eq-Decides (folded (folded w)) (folded w)).1 (folded_twice w))
+    both_true (is_idstring (folded w)) (bytes_eq (folded (folded w)) (folded w))
+    (folded_idstring w h) ((bytes_eq-Decides (folded (folded w)) (folded w)).1 (folded_twice w))
 
 -- ---- well-formed terms
 
@@ -98,28 +114,44 @@ or_right : (x y : Bool) → y ≡ true → (x || y) ≡ true
 or_right true y h = refl
 or_right false y h = h
 
-pub licence_is_term : (w k : List ℕ) → k ≡ folded w → is_idstring w ≡ true → is_term (record { key = k; plus = false; exception = None }) ≡ true
+pub licence_is_term : (w k : List ℕ) → k ≡ folded w → is_idstring w ≡ true
+    → is_term (record { key = k; plus = false; exception = None }) ≡ true
 licence_is_term w k is h =
-    rw is (both_true (is_folded_id (folded w) || (is_reference (folded w) && true)) true (or_left (is_folded_id (folded w)) (is_reference (folded w) && true) (folded_id w h)) refl)
+    rw is (both_true (is_folded_id (folded w) || (is_reference (folded w) && true)) true
+    (or_left (is_folded_id (folded w)) (is_reference (folded w) && true) (folded_id w h)) refl)
 
-pub or_later_is_term : (w k : List ℕ) → k ≡ folded (without_last w) → is_licence_or_later w ≡ true → is_term (record { key = k; plus = true; exception = None }) ≡ true
+pub or_later_is_term : (w k : List ℕ) → k ≡ folded (without_last w) → is_licence_or_later w ≡ true
+    → is_term (record { key = k; plus = true; exception = None }) ≡ true
 or_later_is_term w k is h =
-    let id : is_idstring (without_last w) ≡ true = (and_true (ends_with nat_eq w (codes "+")) (is_idstring (without_last w)) h).1 in
-    rw is (both_true (is_folded_id (folded (without_last w)) || (is_reference (folded (without_last w)) && false)) true (or_left (is_folded_id (folded (without_last w))) (is_reference (folded (without_last w)) && false) (folded_id (without_last w) id)) refl)
+    let id : is_idstring (without_last w) ≡ true =
+    (and_true (ends_with nat_eq w (codes "+")) (is_idstring (without_last w)) h).1 in
+    rw is (both_true (is_folded_id (folded (without_last w))
+    || (is_reference (folded (without_last w)) && false)) true
+    (or_left (is_folded_id (folded (without_last w)))
+    (is_reference (folded (without_last w)) && false) (folded_id (without_last w) id)) refl)
 
-pub reference_is_term : (w k : List ℕ) → k ≡ w → is_reference w ≡ true → is_term (record { key = k; plus = false; exception = None }) ≡ true
+pub reference_is_term : (w k : List ℕ) → k ≡ w → is_reference w ≡ true
+    → is_term (record { key = k; plus = false; exception = None }) ≡ true
 reference_is_term w k is h =
-    rw is (both_true (is_folded_id w || (is_reference w && true)) true (or_right (is_folded_id w) (is_reference w && true) (both_true (is_reference w) true h refl)) refl)
+    rw is (both_true (is_folded_id w || (is_reference w && true)) true
+    (or_right (is_folded_id w) (is_reference w && true) (both_true (is_reference w) true h refl))
+    refl)
 
 -- a well-formed term is still well formed with another exception
-pub excepted_is_term : (t : Term) (x : List ℕ) → is_term t ≡ true → is_folded_id x ≡ true → is_term (record t { exception = Some x }) ≡ true
+pub excepted_is_term : (t : Term) (x : List ℕ) → is_term t ≡ true → is_folded_id x ≡ true
+    → is_term (record t { exception = Some x }) ≡ true
 excepted_is_term t x h k =
-    both_true (is_folded_id t.key || (is_reference t.key && not t.plus)) (is_folded_id x) (and_true (is_folded_id t.key || (is_reference t.key && not t.plus)) (is_exception t.exception) h).0 k
+    both_true (is_folded_id t.key || (is_reference t.key && not t.plus)) (is_folded_id x)
+    (and_true (is_folded_id t.key || (is_reference t.key && not t.plus)) (is_exception t.exception)
+    h).0 k
 
 -- ---- the plus at the end
 
 pub last_is_plus : (w : List ℕ) → is_licence_or_later w ≡ true → get_or w (length w - 1) 0 ≡ 43
 last_is_plus w h =
-    let ends : bytes_eq (codes "+") (drop (length w - 1) w) ≡ true = (and_true (ends_with nat_eq w (codes "+")) (is_idstring (without_last w)) h).0 in
-    let is : codes "+" ≡ drop (length w - 1) w = (bytes_eq-Decides (codes "+") (drop (length w - 1) w)).0 ends in
-    ap (λ k. get_or w k 0) (sym (add-zero (length w - 1))) ∙ sym (get_or-drop (length w - 1) w 0 0) ∙ ap (λ l. get_or l 0 0) (sym is)
+    let ends : bytes_eq (codes "+") (drop (length w - 1) w) ≡ true =
+    (and_true (ends_with nat_eq w (codes "+")) (is_idstring (without_last w)) h).0 in
+    let is : codes "+" ≡ drop (length w - 1) w =
+    (bytes_eq-Decides (codes "+") (drop (length w - 1) w)).0 ends in
+    ap (λ k. get_or w k 0) (sym (add-zero (length w - 1))) ∙ sym (get_or-drop (length w - 1) w 0 0)
+    ∙ ap (λ l. get_or l 0 0) (sym is)

@@ -3,7 +3,9 @@ use Rattle.std.specs.Prelude.{◌≡◌, ℕ, ◌+◌, ◌<◌, ◌≤◌, ◌&&
 use Rattle.desk_base.specs.Limits as limit
 use Rattle.desk_expr.specs.declared.counts.Counts.{Counts}
 use Rattle.desk_expr.specs.declared.fault.ParseFault.{ParseFault}
-use Rattle.desk_expr.specs.declared.fault.ParseFault.TheVariants.{Empty, BadToken, Unexpected, Unclosed, TooDeep, TooLong, TooManyTerms, Memory}
+use Rattle.desk_expr.specs.declared.fault.ParseFault.TheVariants.{Empty, BadToken, Unexpected}
+use Rattle.desk_expr.specs.declared.fault.ParseFault.TheVariants.{Unclosed, TooDeep, TooLong}
+use Rattle.desk_expr.specs.declared.fault.ParseFault.TheVariants.{TooManyTerms, Memory}
 use Rattle.desk_expr.specs.Tokens.{Lexeme}
 use Rattle.desk_expr.specs.Spelling.{symbol_of, open_after, is_word, is_with}
 
@@ -21,7 +23,8 @@ pub record CountsToken (old : Counts) (t : Lexeme) (new : Counts) : Type 0 where
 
 -- why a token is over a limit
 abbrev pub IsOver : Counts → Lexeme → ParseFault → Type 0
-IsOver old t (TooDeep place) = (limit.open_parentheses < length (open_after old.open_places.items t)) × (place ≡ t.start)
+IsOver old t (TooDeep place) = (limit.open_parentheses
+    < length (open_after old.open_places.items t)) × (place ≡ t.start)
 IsOver old t (TooManyTerms place) =
     (length (open_after old.open_places.items t) ≤ limit.open_parentheses)
     × (limit.expression_terms < terms_after old.terms old.after_with t)

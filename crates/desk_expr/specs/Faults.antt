@@ -1,7 +1,9 @@
 -- The numbers, names and places of the faults.
 use Rattle.std.specs.Prelude.{ℕ, List, codes}
 use Rattle.desk_expr.specs.declared.fault.ParseFault.{ParseFault}
-use Rattle.desk_expr.specs.declared.fault.ParseFault.TheVariants.{Empty, BadToken, Unexpected, Unclosed, TooDeep, TooLong, TooManyTerms, Memory}
+use Rattle.desk_expr.specs.declared.fault.ParseFault.TheVariants.{Empty, BadToken, Unexpected}
+use Rattle.desk_expr.specs.declared.fault.ParseFault.TheVariants.{Unclosed, TooDeep, TooLong}
+use Rattle.desk_expr.specs.declared.fault.ParseFault.TheVariants.{TooManyTerms, Memory}
 
 abbrev pub fault_number : ParseFault → ℕ
 fault_number (Memory error) = 0

@@ -5,7 +5,9 @@ use Rattle.desk_expr.specs.declared.cut.TokenCuts.{TokenCuts}
 use Rattle.desk_expr.specs.Tokens.{IsFirstToken, lexeme}
 use Rattle.desk_base.specs.Bytes.{is_blank}
 
--- the first token of what is left, and what follows it; or only blanks are left, and stay, so the next call returns none either
+-- the first token of what is left, and what follows it; or only blanks are left, and stay, so the
+-- next call returns none either
 abbrev pub TokenGiven : TokenCuts → Option Token → TokenCuts → Type 0
 TokenGiven s None new = All (λ b. IsTrue (is_blank b)) s.rest.now × (new.rest.now ≡ s.rest.now)
-TokenGiven s (Some t) new = IsFirstToken s.profile s.place s.rest.now (lexeme t) new.rest.now × (new.place ≡ t.end) × (new.profile ≡ s.profile)
+TokenGiven s (Some t) new = IsFirstToken s.profile s.place s.rest.now (lexeme t) new.rest.now
+    × (new.place ≡ t.end) × (new.profile ≡ s.profile)

@@ -4,7 +4,8 @@ use Rattle.desk_expr.specs.declared.term.Term.{Term}
 use Rattle.desk_expr.specs.Tree.{Tree, one, all, any, parts_of}
 use Rattle.desk_expr.specs.Words.{with_exception}
 
--- a token, apart from its place; a word is a term and, if it can be one, also the exception that it is after WITH
+-- a token, apart from its place; a word is a term and, if it can be one, also the exception that it
+-- is after WITH
 pub data Symbol : Type 0 where
   opening : Symbol
   closing : Symbol
@@ -28,23 +29,27 @@ any_of (t ∷ u ∷ ts) = any (parts_of (t ∷ u ∷ ts))
 -- a word, or a word with an exception
 pub data SpellsTerm : List Symbol → Term → Type 0 where
   bare : (t : Term) (x : Option (List ℕ)) → SpellsTerm (word t x ∷ []) t
-  excepted : (t u : Term) (o : Option (List ℕ)) (x : List ℕ) → SpellsTerm (word t o ∷ with_word ∷ word u (Some x) ∷ []) (with_exception t x)
+  excepted : (t u : Term) (o : Option (List ℕ)) (x : List ℕ)
+      → SpellsTerm (word t o ∷ with_word ∷ word u (Some x) ∷ []) (with_exception t x)
 
 mutual
   -- a term, or an OR list in parentheses
   pub data Operand : List Symbol → Tree → Type 0 where
     a_term : (ts : List Symbol) (t : Term) → SpellsTerm ts t → Operand ts (one t)
-    a_group : (ts : List Symbol) (es : List Tree) → OrList ts es → Operand (opening ∷ ts ++ closing ∷ []) (any_of es)
+    a_group : (ts : List Symbol) (es : List Tree) → OrList ts es
+        → Operand (opening ∷ ts ++ closing ∷ []) (any_of es)
 
   -- operands joined by AND, with their trees
   pub data AndList : List Symbol → List Tree → Type 0 where
     one_operand : (ts : List Symbol) (e : Tree) → Operand ts e → AndList ts (e ∷ [])
-    and_more : (ts us : List Symbol) (e : Tree) (es : List Tree) → Operand ts e → AndList us es → AndList (ts ++ and_word ∷ us) (e ∷ es)
+    and_more : (ts us : List Symbol) (e : Tree) (es : List Tree) → Operand ts e → AndList us es
+        → AndList (ts ++ and_word ∷ us) (e ∷ es)
 
   -- AND lists joined by OR, with their trees
   pub data OrList : List Symbol → List Tree → Type 0 where
     one_list : (ts : List Symbol) (es : List Tree) → AndList ts es → OrList ts (all_of es ∷ [])
-    or_more : (ts us : List Symbol) (es fs : List Tree) → AndList ts es → OrList us fs → OrList (ts ++ or_word ∷ us) (all_of es ∷ fs)
+    or_more : (ts us : List Symbol) (es fs : List Tree) → AndList ts es → OrList us fs
+        → OrList (ts ++ or_word ∷ us) (all_of es ∷ fs)
 
 -- the symbols spell the tree
 abbrev pub SpellsTree : List Symbol → Tree → Type 0

@@ -1,5 +1,7 @@
--- Where the terms of an expression are in a list. They are found by binary search; if they weren't sorted, some would not be found.
-use Rattle.std.specs.Prelude.{◌≡◌, ℕ, zero, suc, ◌+◌, ◌-◌, ◌/◌, ◌<◌, ◌≤◌, nat_lt, Bool, false, List, length, slice_get, Option, Some, None, Contains, if◌then◌else◌}
+-- Where the terms of an expression are in a list. They are found by binary search; if they weren't
+-- sorted, some would not be found.
+use Rattle.std.specs.Prelude.{◌≡◌, ℕ, zero, suc, ◌+◌, ◌-◌, ◌/◌, ◌<◌, ◌≤◌, nat_lt, Bool, false, List}
+use Rattle.std.specs.Prelude.{length, slice_get, Option, Some, None, Contains, if◌then◌else◌}
 use Rattle.std.specs.Ordering.{is_lt}
 use Rattle.std.proofs.Common.{Bor, get_or}
 use Rattle.desk_expr.specs.declared.term.Term.{Term}
@@ -17,7 +19,8 @@ abbrev pub lower_by : ℕ → List (Option (Bor Term)) → Term → ℕ → ℕ 
 lower_by zero own t low high = low
 lower_by (suc n) own t low high =
     let middle = low + (high - low) / 2 in
-    if nat_lt low high then (if is_below (own_at own middle) t then lower_by n own t (middle + 1) high else lower_by n own t low middle) else low
+    if nat_lt low high then (if is_below (own_at own middle) t
+    then lower_by n own t (middle + 1) high else lower_by n own t low middle) else low
 
 abbrev pub lower_in : List (Option (Bor Term)) → Term → ℕ
 lower_in own t = lower_by (length own) own t 0 (length own)
@@ -35,8 +38,11 @@ IsOwn own t = Names (own_at own (lower_in own t)) t
 abbrev pub noted_place : List (Option (Bor Term)) → List ℕ → Term → ℕ
 noted_place own places t = get_or places (lower_in own t) 0
 
--- for each term that is found, the place that is noted is one where it is listed, or none if it isn't listed
-pub record IsNoted (chosen : List Term) (own : List (Option (Bor Term))) (places : List ℕ) : Type 0 where
+-- for each term that is found, the place that is noted is one where it is listed, or none if it
+-- isn't listed
+pub record IsNoted (chosen : List Term) (own : List (Option (Bor Term)))
+    (places : List ℕ) : Type 0 where
   pub room : length own ≤ length places
-  pub there : (t : Term) → IsOwn own t → noted_place own places t < length chosen → slice_get chosen (noted_place own places t) ≡ Some t
+  pub there : (t : Term) → IsOwn own t → noted_place own places t < length chosen
+      → slice_get chosen (noted_place own places t) ≡ Some t
   pub told : (t : Term) → IsOwn own t → Contains chosen t → noted_place own places t < length chosen

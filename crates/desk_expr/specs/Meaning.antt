@@ -1,9 +1,11 @@
--- When an expression is satisfied, and which sets satisfy it minimally (SPDX 2.3, Annex D.4). A list of terms stands for the set of its terms.
+-- When an expression is satisfied, and which sets satisfy it minimally (SPDX 2.3, Annex D.4). A
+-- list of terms stands for the set of its terms.
 use Rattle.std.specs.Prelude.{◌≡◌, ◌≢◌, ◌⊎◌, ℕ, ◌<◌, List, slice_get, Some, Contains}
 use Rattle.desk_expr.specs.declared.term.Term.{Term}
 use Rattle.desk_expr.specs.Tree.{Tree, Trees, one, all, any, no_more, more}
 
--- the set of terms satisfies the tree: One if it has the term, All if each part holds, Any if some part does
+-- the set of terms satisfies the tree: One if it has the term, All if each part holds, Any if some
+-- part does
 abbrev mutual
   pub Holds : (Term → Type 0) → Tree → Type 0
   Holds set (one t) = set t
@@ -23,11 +25,13 @@ abbrev pub IsSubset : List Term → List Term → Type 0
 IsSubset few many = (t : Term) → Contains few t → Contains many t
 
 abbrev pub IsProperSubset : List Term → List Term → Type 0
-IsProperSubset few many = IsSubset few many × (lacked : Term) × Contains many lacked × (Contains few lacked → ⊥)
+IsProperSubset few many = IsSubset few many × (lacked : Term) × Contains many lacked
+    × (Contains few lacked → ⊥)
 
 -- the chosen terms satisfy the tree, and no proper subset of them does
 abbrev pub IsMinimal : List Term → Tree → Type 0
-IsMinimal chosen e = Holds (Contains chosen) e × ((few : List Term) → IsProperSubset few chosen → Holds (Contains few) e → ⊥)
+IsMinimal chosen e = Holds (Contains chosen) e
+    × ((few : List Term) → IsProperSubset few chosen → Holds (Contains few) e → ⊥)
 
 -- the chosen set without one term
 abbrev pub Without : List Term → Term → Term → Type 0

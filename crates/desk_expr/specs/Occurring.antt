@@ -19,10 +19,13 @@ abbrev mutual
   leaves_of no_more = []
   leaves_of (more t ts) = leaves t ++ leaves_of ts
 
--- the order of terms: by key, then no plus before plus, then no exception before some, then by the exception
+-- the order of terms: by key, then no plus before plus, then no exception before some, then by the
+-- exception
 abbrev pub term_order : Term → Term → Ordering
 term_order a b =
-    ordering_then (slice_cmp nat_cmp a.key b.key) (ordering_then (bool_cmp a.plus b.plus) (option_cmp (slice_cmp nat_cmp) a.exception b.exception))
+    ordering_then (slice_cmp nat_cmp a.key b.key)
+    (ordering_then (bool_cmp a.plus b.plus)
+    (option_cmp (slice_cmp nat_cmp) a.exception b.exception))
 
 -- the distinct terms of the tree, in order
 pub record AreTermsOf (e : Tree) (ts : List Term) : Type 0 where

@@ -1,5 +1,5 @@
--- How terms and trees are printed: one space on either side of each operator, no parentheses around an All under an Any, but around every other All or Any
--- under another node.
+-- How terms and trees are printed: one space on either side of each operator, no parentheses around
+-- an All under an Any, but around every other All or Any under another node.
 use Rattle.std.specs.Prelude.{ℕ, Bool, true, false, List, [], ◌++◌, Option, Some, None, codes, if◌then◌else◌, IsTrue}
 use Rattle.desk_expr.specs.declared.printing.Place.{Place}
 use Rattle.desk_expr.specs.declared.printing.Place.TheVariants.{Top, InAll, InAny}
@@ -29,7 +29,8 @@ encloses_any InAll = true
 encloses_any InAny = true
 
 abbrev pub enclosed : Bool → List ℕ → List ℕ
-enclosed wanted text = (if wanted then codes "(" else []) ++ (text ++ (if wanted then codes ")" else []))
+enclosed wanted text = (if wanted then codes "(" else [])
+    ++ (text ++ (if wanted then codes ")" else []))
 
 abbrev mutual
   pub printed_in : Place → Tree → List ℕ
@@ -44,7 +45,8 @@ abbrev mutual
   -- the parts after the first
   pub joined_on : Place → List ℕ → Trees → List ℕ
   joined_on place between no_more = []
-  joined_on place between (more t ts) = between ++ (printed_in place t ++ joined_on place between ts)
+  joined_on place between (more t ts) = between
+      ++ (printed_in place t ++ joined_on place between ts)
 
 abbrev pub printed : Tree → List ℕ
 printed e = printed_in Top e

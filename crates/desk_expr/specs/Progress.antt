@@ -2,7 +2,9 @@
 use Rattle.std.specs.Prelude.{◌≡◌, ◌↔◌, ℕ, Bool, true, false, List, [], ◌∷◌, ◌++◌}
 use Rattle.desk_expr.specs.declared.progress.Progress.{Progress}
 use Rattle.desk_expr.specs.declared.fault.ParseFault.{ParseFault}
-use Rattle.desk_expr.specs.declared.fault.ParseFault.TheVariants.{Empty, BadToken, Unexpected, Unclosed, TooDeep, TooLong, TooManyTerms, Memory}
+use Rattle.desk_expr.specs.declared.fault.ParseFault.TheVariants.{Empty, BadToken, Unexpected}
+use Rattle.desk_expr.specs.declared.fault.ParseFault.TheVariants.{Unclosed, TooDeep, TooLong}
+use Rattle.desk_expr.specs.declared.fault.ParseFault.TheVariants.{TooManyTerms, Memory}
 use Rattle.desk_expr.specs.Tree.{Tree}
 use Rattle.desk_expr.specs.Tokens.{Lexeme}
 use Rattle.desk_expr.specs.Grammar.{Symbol, SpellsTree}
@@ -42,8 +44,10 @@ StopsAfter front t (TooManyTerms place) = Reason SpellsTree front t (TooManyTerm
 -- the tokens can't end a text of this length
 abbrev pub EndsAfter : List Lexeme → ℕ → ParseFault → Type 0
 EndsAfter ts end (Empty place) = (is_started ts ≡ false) × (place ≡ 0)
-EndsAfter ts end (Unexpected place) = (is_started ts ≡ true) × EndReason SpellsTree end ts (Unexpected place)
-EndsAfter ts end (Unclosed place) = (is_started ts ≡ true) × EndReason SpellsTree end ts (Unclosed place)
+EndsAfter ts end (Unexpected place) = (is_started ts ≡ true)
+    × EndReason SpellsTree end ts (Unexpected place)
+EndsAfter ts end (Unclosed place) = (is_started ts ≡ true)
+    × EndReason SpellsTree end ts (Unclosed place)
 EndsAfter ts end (Memory error) = Unit {0}
 EndsAfter ts end (BadToken place) = ⊥
 EndsAfter ts end (TooDeep place) = ⊥

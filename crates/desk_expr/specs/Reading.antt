@@ -1,4 +1,5 @@
--- What a reader stands for: the lists of symbols that complete what it has read, each with its tree.
+-- What a reader stands for: the lists of symbols that complete what it has read, each with its
+-- tree.
 use Rattle.std.specs.Prelude.{◌↔◌, ℕ, List, [], ◌∷◌}
 use Rattle.desk_expr.specs.declared.reader.Group.{Group}
 use Rattle.desk_expr.specs.declared.reader.Reader.{Reader}

@@ -1,4 +1,5 @@
--- What may follow a place in an expression: for each state of the reader, the lists that complete it, with the tree.
+-- What may follow a place in an expression: for each state of the reader, the lists that complete
+-- it, with the tree.
 use Rattle.std.specs.Prelude.{◌≡◌, ◌⊎◌, ℕ, List, [], ◌∷◌, ◌++◌, Option, Some}
 use Rattle.desk_expr.specs.declared.term.Term.{Term}
 use Rattle.desk_expr.specs.Tree.{Tree, one}
@@ -8,17 +9,24 @@ use Rattle.desk_expr.specs.Grammar.{Symbol, opening, closing, and_word, or_word,
 mutual
   -- an operand is at the front, and the last list is what follows it
   pub data OperandRun : List Symbol → Tree → List Symbol → Type 0 where
-    bare_run : (t : Term) (o : Option (List ℕ)) (r : List Symbol) → OperandRun (word t o ∷ r) (one t) r
-    excepted_run : (t u : Term) (o : Option (List ℕ)) (x : List ℕ) (r : List Symbol) → OperandRun (word t o ∷ with_word ∷ word u (Some x) ∷ r) (one (with_exception t x)) r
-    group_run : (ts : List Symbol) (es : List Tree) (r : List Symbol) → OrRun ts es (closing ∷ r) → OperandRun (opening ∷ ts) (any_of es) r
+    bare_run : (t : Term) (o : Option (List ℕ)) (r : List Symbol)
+        → OperandRun (word t o ∷ r) (one t) r
+    excepted_run : (t u : Term) (o : Option (List ℕ)) (x : List ℕ) (r : List Symbol)
+        → OperandRun (word t o ∷ with_word ∷ word u (Some x) ∷ r) (one (with_exception t x)) r
+    group_run : (ts : List Symbol) (es : List Tree) (r : List Symbol) → OrRun ts es (closing ∷ r)
+        → OperandRun (opening ∷ ts) (any_of es) r
 
   pub data AndRun : List Symbol → List Tree → List Symbol → Type 0 where
-    last_operand : (ts : List Symbol) (e : Tree) (r : List Symbol) → OperandRun ts e r → AndRun ts (e ∷ []) r
-    next_operand : (ts us : List Symbol) (e : Tree) (es : List Tree) (r : List Symbol) → OperandRun ts e (and_word ∷ us) → AndRun us es r → AndRun ts (e ∷ es) r
+    last_operand : (ts : List Symbol) (e : Tree) (r : List Symbol) → OperandRun ts e r
+        → AndRun ts (e ∷ []) r
+    next_operand : (ts us : List Symbol) (e : Tree) (es : List Tree) (r : List Symbol)
+        → OperandRun ts e (and_word ∷ us) → AndRun us es r → AndRun ts (e ∷ es) r
 
   pub data OrRun : List Symbol → List Tree → List Symbol → Type 0 where
-    last_list : (ts : List Symbol) (es : List Tree) (r : List Symbol) → AndRun ts es r → OrRun ts (all_of es ∷ []) r
-    next_list : (ts us : List Symbol) (es fs : List Tree) (r : List Symbol) → AndRun ts es (or_word ∷ us) → OrRun us fs r → OrRun ts (all_of es ∷ fs) r
+    last_list : (ts : List Symbol) (es : List Tree) (r : List Symbol) → AndRun ts es r
+        → OrRun ts (all_of es ∷ []) r
+    next_list : (ts us : List Symbol) (es fs : List Tree) (r : List Symbol)
+        → AndRun ts es (or_word ∷ us) → OrRun us fs r → OrRun ts (all_of es ∷ fs) r
 
 -- what is done with a whole OR list: from its tree and what follows it, the final tree
 abbrev pub Goal : Type 1
@@ -28,11 +36,13 @@ Goal = Tree → List Symbol → Tree → Type 0
 abbrev pub Tail : Goal → List Tree → List Tree → List Symbol → Tree → Type 0
 Tail K ors parts r e =
     K (any_of (ors ++ all_of parts ∷ [])) r e
-    ⊎ ((r' : List Symbol) × (fs : List Tree) × (r2 : List Symbol) × (r ≡ or_word ∷ r') × OrRun r' fs r2 × K (any_of (ors ++ all_of parts ∷ fs)) r2 e)
+    ⊎ ((r' : List Symbol) × (fs : List Tree) × (r2 : List Symbol) × (r ≡ or_word ∷ r')
+    × OrRun r' fs r2 × K (any_of (ors ++ all_of parts ∷ fs)) r2 e)
 
 -- an operand is wanted
 abbrev pub Want : Goal → List Tree → List Tree → List Symbol → Tree → Type 0
-Want K ors ands r e = (es : List Tree) × (r1 : List Symbol) × AndRun r es r1 × Tail K ors (ands ++ es) r1 e
+Want K ors ands r e = (es : List Tree) × (r1 : List Symbol) × AndRun r es r1
+    × Tail K ors (ands ++ es) r1 e
 
 -- an operand has ended
 abbrev pub After : Goal → List Tree → List Tree → Tree → List Symbol → Tree → Type 0
@@ -43,7 +53,8 @@ After K ors ands op r e =
 -- an exception is wanted
 abbrev pub WantException : Goal → List Tree → List Tree → Term → List Symbol → Tree → Type 0
 WantException K ors ands t r e =
-    (u : Term) × (x : List ℕ) × (r' : List Symbol) × (r ≡ word u (Some x) ∷ r') × After K ors ands (one (with_exception t x)) r' e
+    (u : Term) × (x : List ℕ) × (r' : List Symbol) × (r ≡ word u (Some x) ∷ r')
+    × After K ors ands (one (with_exception t x)) r' e
 
 -- a word has ended, and an exception may follow
 abbrev pub AfterWord : Goal → List Tree → List Tree → Term → List Symbol → Tree → Type 0

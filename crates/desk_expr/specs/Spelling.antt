@@ -1,8 +1,12 @@
 -- Which text spells which tree or term, and where a text stops that spells none.
-use Rattle.std.specs.Prelude.{◌≡◌, ◌≢◌, ◌⊎◌, ℕ, zero, suc, ◌+◌, ◌-◌, ◌<◌, ◌≤◌, Bool, true, false, ◌&&◌, not, if◌then◌else◌, List, [], ◌∷◌, ◌++◌, length, take, map, fold, slice_get, Some}
+use Rattle.std.specs.Prelude.{◌≡◌, ◌≢◌, ◌⊎◌, ℕ, zero, suc, ◌+◌, ◌-◌, ◌<◌, ◌≤◌, Bool, true, false}
+use Rattle.std.specs.Prelude.{◌&&◌, not, if◌then◌else◌, List, [], ◌∷◌, ◌++◌, length, take, map}
+use Rattle.std.specs.Prelude.{fold, slice_get, Some}
 use Rattle.desk_base.specs.Limits as limit
 use Rattle.desk_expr.specs.declared.fault.ParseFault.{ParseFault}
-use Rattle.desk_expr.specs.declared.fault.ParseFault.TheVariants.{Empty, BadToken, Unexpected, Unclosed, TooDeep, TooLong, TooManyTerms, Memory}
+use Rattle.desk_expr.specs.declared.fault.ParseFault.TheVariants.{Empty, BadToken, Unexpected}
+use Rattle.desk_expr.specs.declared.fault.ParseFault.TheVariants.{Unclosed, TooDeep, TooLong}
+use Rattle.desk_expr.specs.declared.fault.ParseFault.TheVariants.{TooManyTerms, Memory}
 use Rattle.desk_expr.specs.declared.token.Kind.{Kind}
 use Rattle.desk_expr.specs.declared.token.Kind.TheVariants as kind
 use Rattle.desk_expr.specs.declared.term.Term.{Term}
@@ -11,7 +15,8 @@ use Rattle.desk_expr.specs.Words.{licence_term, or_later_term, reference_term}
 use Rattle.desk_expr.specs.Tokens.{Lexeme, AreTokensBy}
 use Rattle.desk_base.specs.declared.profile.Profile.{Profile}
 use Rattle.desk_base.specs.declared.profile.Profile.TheVariants.{Capitals}
-use Rattle.desk_expr.specs.Grammar.{Symbol, opening, closing, and_word, or_word, with_word, word, bad, SpellsTree, SpellsTerm}
+use Rattle.desk_expr.specs.Grammar.{Symbol, opening, closing, and_word, or_word, with_word, word}
+use Rattle.desk_expr.specs.Grammar.{bad, SpellsTree, SpellsTerm}
 use Rattle.desk_base.specs.Folded.{folded}
 use Rattle.std.specs.Prelude.{None}
 
@@ -35,7 +40,8 @@ symbols ts = map symbol_of ts
 
 -- ---- limits
 
--- the places of the parentheses still open, in the order of the text: an opening one adds its place, a closing one removes the last place
+-- the places of the parentheses still open, in the order of the text: an opening one adds its
+-- place, a closing one removes the last place
 abbrev pub open_after : List ℕ → Lexeme → List ℕ
 open_after places t = open_by t.kind places t.start
   where
@@ -58,7 +64,8 @@ is_with _ = false
 
 abbrev pub operand_words_after : Bool → List Symbol → ℕ
 operand_words_after after_with [] = 0
-operand_words_after after_with (s ∷ ss) = (if is_word s && not after_with then 1 else 0) + operand_words_after (is_with s) ss
+operand_words_after after_with (s ∷ ss) = (if is_word s && not after_with then 1 else 0)
+    + operand_words_after (is_with s) ss
 
 abbrev pub operand_words : List Symbol → ℕ
 operand_words ss = operand_words_after false ss
@@ -76,21 +83,25 @@ AllFronts P ts = (n : ℕ) → P (take n ts)
 
 -- the text spells the tree
 abbrev pub SpellsBy : Profile → List ℕ → Tree → Type 0
-SpellsBy profile text e = (ts : List Lexeme) × AreTokensBy profile 0 text ts × SpellsTree (symbols ts) e
+SpellsBy profile text e = (ts : List Lexeme) × AreTokensBy profile 0 text ts
+    × SpellsTree (symbols ts) e
 
 -- the text spells the tree within the limits
 abbrev pub SpellsWithinBy : Profile → List ℕ → Tree → Type 0
 SpellsWithinBy profile text e =
     (length text ≤ limit.expression_bytes)
-    × (ts : List Lexeme) × AreTokensBy profile 0 text ts × SpellsTree (symbols ts) e × AllFronts KeepsLimits ts
+    × (ts : List Lexeme) × AreTokensBy profile 0 text ts × SpellsTree (symbols ts) e
+    × AllFronts KeepsLimits ts
 
 -- the text spells one term and nothing else
 abbrev pub SpellsTermAloneBy : Profile → List ℕ → Term → Type 0
-SpellsTermAloneBy profile text t = (ts : List Lexeme) × AreTokensBy profile 0 text ts × SpellsTerm (symbols ts) t
+SpellsTermAloneBy profile text t = (ts : List Lexeme) × AreTokensBy profile 0 text ts
+    × SpellsTerm (symbols ts) t
 
 -- the text spells one term and is not too long
 abbrev pub SpellsTermWithinBy : Profile → List ℕ → Term → Type 0
-SpellsTermWithinBy profile text t = (length text ≤ limit.expression_bytes) × SpellsTermAloneBy profile text t
+SpellsTermWithinBy profile text t = (length text ≤ limit.expression_bytes)
+    × SpellsTermAloneBy profile text t
 
 -- ---- the same with operators in capitals
 
@@ -134,7 +145,8 @@ module _ {A : Type 0} (Language : List Symbol → A → Type 0) where
   Reason front t (Unexpected place) =
       (t.kind ≢ kind.Bad) × (Begins (symbols (front ++ t ∷ [])) → ⊥) × (place ≡ t.start)
   Reason front t (TooDeep place) =
-      Begins (symbols (front ++ t ∷ [])) × (limit.open_parentheses < length (still_open (front ++ t ∷ []))) × (place ≡ t.start)
+      Begins (symbols (front ++ t ∷ []))
+      × (limit.open_parentheses < length (still_open (front ++ t ∷ []))) × (place ≡ t.start)
   Reason front t (TooManyTerms place) =
       Begins (symbols (front ++ t ∷ []))
       × (length (still_open (front ++ t ∷ [])) ≤ limit.open_parentheses)
@@ -149,7 +161,8 @@ module _ {A : Type 0} (Language : List Symbol → A → Type 0) where
   abbrev pub StopsAtToken : Profile → List ℕ → ParseFault → Type 0
   StopsAtToken profile text fault =
       (front : List Lexeme) × (t : Lexeme) × (behind : List Lexeme)
-      × AreTokensBy profile 0 text (front ++ t ∷ behind) × AllFronts Stands front × Reason front t fault
+      × AreTokensBy profile 0 text (front ++ t ∷ behind) × AllFronts Stands front
+      × Reason front t fault
 
   -- why a text of this length can't end after the tokens
   abbrev pub EndReason : ℕ → List Lexeme → ParseFault → Type 0
@@ -169,19 +182,25 @@ module _ {A : Type 0} (Language : List Symbol → A → Type 0) where
   abbrev pub StopsAtEnd : Profile → List ℕ → ParseFault → Type 0
   StopsAtEnd profile text fault =
       (t : Lexeme) × (behind : List Lexeme)
-      × AreTokensBy profile 0 text (t ∷ behind) × AllFronts Stands (t ∷ behind) × EndReason (length text) (t ∷ behind) fault
+      × AreTokensBy profile 0 text (t ∷ behind) × AllFronts Stands (t ∷ behind)
+      × EndReason (length text) (t ∷ behind) fault
 
   -- the stop of a text that is read by a profile; lack of memory may be reported for any text
   abbrev pub IsStopBy : Profile → List ℕ → ParseFault → Type 0
   IsStopBy profile text (TooLong place) = (limit.expression_bytes < length text) × (place ≡ 0)
-  IsStopBy profile text (Empty place) = (length text ≤ limit.expression_bytes) × AreTokensBy profile 0 text [] × (place ≡ 0)
-  IsStopBy profile text (BadToken place) = (length text ≤ limit.expression_bytes) × StopsAtToken profile text (BadToken place)
+  IsStopBy profile text (Empty place) = (length text ≤ limit.expression_bytes)
+      × AreTokensBy profile 0 text [] × (place ≡ 0)
+  IsStopBy profile text (BadToken place) = (length text ≤ limit.expression_bytes)
+      × StopsAtToken profile text (BadToken place)
   IsStopBy profile text (Unexpected place) =
       (length text ≤ limit.expression_bytes)
       × (StopsAtToken profile text (Unexpected place) ⊎ StopsAtEnd profile text (Unexpected place))
-  IsStopBy profile text (Unclosed place) = (length text ≤ limit.expression_bytes) × StopsAtEnd profile text (Unclosed place)
-  IsStopBy profile text (TooDeep place) = (length text ≤ limit.expression_bytes) × StopsAtToken profile text (TooDeep place)
-  IsStopBy profile text (TooManyTerms place) = (length text ≤ limit.expression_bytes) × StopsAtToken profile text (TooManyTerms place)
+  IsStopBy profile text (Unclosed place) = (length text ≤ limit.expression_bytes)
+      × StopsAtEnd profile text (Unclosed place)
+  IsStopBy profile text (TooDeep place) = (length text ≤ limit.expression_bytes)
+      × StopsAtToken profile text (TooDeep place)
+  IsStopBy profile text (TooManyTerms place) = (length text ≤ limit.expression_bytes)
+      × StopsAtToken profile text (TooManyTerms place)
   IsStopBy profile text (Memory error) = Unit {0}
 
   -- the same with operators in capitals

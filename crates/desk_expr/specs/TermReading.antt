@@ -1,4 +1,5 @@
--- What a reader of one term stands for: the lists of symbols that complete what it has read, each with its term.
+-- What a reader of one term stands for: the lists of symbols that complete what it has read, each
+-- with its term.
 use Rattle.std.specs.Prelude.{◌≡◌, ◌⊎◌, ◌↔◌, ℕ, List, [], ◌∷◌, Some}
 use Rattle.desk_expr.specs.declared.term.Term.{Term}
 use Rattle.desk_expr.specs.declared.term_reader.TermState.{TermState}
@@ -14,8 +15,10 @@ abbrev pub TermRest : TermState → List Symbol → Term → Type 0
 TermRest Start r t = SpellsTerm r t
 TermRest (Word v) r t =
     ((r ≡ []) × (v ≡ t))
-    ⊎ ((u : Term) × (x : List ℕ) × (r ≡ with_word ∷ word u (Some x) ∷ []) × (with_exception v x ≡ t))
-TermRest (Exception v) r t = (u : Term) × (x : List ℕ) × (r ≡ word u (Some x) ∷ []) × (with_exception v x ≡ t)
+    ⊎ ((u : Term) × (x : List ℕ) × (r ≡ with_word ∷ word u (Some x) ∷ [])
+    × (with_exception v x ≡ t))
+TermRest (Exception v) r t = (u : Term) × (x : List ℕ) × (r ≡ word u (Some x) ∷ [])
+    × (with_exception v x ≡ t)
 TermRest (Done v) r t = (r ≡ []) × (v ≡ t)
 
 -- something has been read
@@ -27,7 +30,8 @@ HasBegun (Done v) = Unit {0}
 
 -- one more symbol
 abbrev pub TermSteps : TermState → Symbol → TermState → Type 0
-TermSteps m s n = HasBegun n × ((r : List Symbol) (t : Term) → TermRest m (s ∷ r) t ↔ TermRest n r t)
+TermSteps m s n = HasBegun n × ((r : List Symbol) (t : Term)
+    → TermRest m (s ∷ r) t ↔ TermRest n r t)
 
 -- why the reader stops at a symbol
 abbrev pub TermStops : TermState → Symbol → Halt → Type 0

@@ -1,4 +1,5 @@
--- How a text is cut into tokens: parentheses, and longest runs of other bytes between blanks and parentheses.
+-- How a text is cut into tokens: parentheses, and longest runs of other bytes between blanks and
+-- parentheses.
 use Rattle.std.specs.Prelude.{◌≡◌, ◌⊎◌, ℕ, ◌+◌, ◌==◌, ◌||◌, Bool, false, not, List, [], ◌∷◌, ◌++◌, length, IsTrue, All}
 use Rattle.desk_expr.specs.declared.token.Kind.{Kind}
 use Rattle.desk_expr.specs.declared.token.Token.{Token}
@@ -36,8 +37,10 @@ pub record Lexeme : Type 0 where
 abbrev pub lexeme : Token → Lexeme
 lexeme t = record { text = t.text.now; start = t.start; end = t.end; kind = t.kind }
 
--- the first token of the bytes that begin at a place: only blanks come before it, and the rest follows it
-pub record IsFirstToken (profile : Profile) (place : ℕ) (bytes : List ℕ) (t : Lexeme) (rest : List ℕ) : Type 0 where
+-- the first token of the bytes that begin at a place: only blanks come before it, and the rest
+-- follows it
+pub record IsFirstToken (profile : Profile) (place : ℕ) (bytes : List ℕ) (t : Lexeme)
+    (rest : List ℕ) : Type 0 where
   pub blanks : List ℕ
   pub only_blanks : All (λ x. IsTrue (is_blank x)) blanks
   pub cut : bytes ≡ blanks ++ (t.text ++ rest)
@@ -46,10 +49,12 @@ pub record IsFirstToken (profile : Profile) (place : ℕ) (bytes : List ℕ) (t 
   pub piece : IsPiece t.text rest
   pub kind : t.kind ≡ kind_by profile t.text
 
--- the bytes that begin at a place are these tokens, with only blanks around them, read by a profile of operators
+-- the bytes that begin at a place are these tokens, with only blanks around them, read by a profile
+-- of operators
 abbrev pub AreTokensBy : Profile → ℕ → List ℕ → List Lexeme → Type 0
 AreTokensBy profile place bytes [] = All (λ x. IsTrue (is_blank x)) bytes
-AreTokensBy profile place bytes (t ∷ ts) = (rest : List ℕ) × IsFirstToken profile place bytes t rest × AreTokensBy profile t.end rest ts
+AreTokensBy profile place bytes (t ∷ ts) = (rest : List ℕ) × IsFirstToken profile place bytes t rest
+    × AreTokensBy profile t.end rest ts
 
 -- the same with operators in capitals
 abbrev pub AreTokens : ℕ → List ℕ → List Lexeme → Type 0

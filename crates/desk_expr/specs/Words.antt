@@ -1,5 +1,6 @@
 -- What a run of bytes is, and the term that a word is (SPDX 2.3, Annex D.2 and D.3).
-use Rattle.std.specs.Prelude.{ℕ, ◌-◌, ◌==◌, ◌||◌, ◌&&◌, not, Bool, true, false, List, Option, Some, None, if◌then◌else◌, length, take, drop, codes, nat_eq, IsTrue}
+use Rattle.std.specs.Prelude.{ℕ, ◌-◌, ◌==◌, ◌||◌, ◌&&◌, not, Bool, true, false, List, Option, Some}
+use Rattle.std.specs.Prelude.{None, if◌then◌else◌, length, take, drop, codes, nat_eq, IsTrue}
 use Rattle.std.specs.List.{starts_with, ends_with, before_first, after_first}
 use Rattle.std.specs.Str.{bytes_eq}
 use Rattle.desk_base.specs.Idstring.{is_idstring}
@@ -8,7 +9,8 @@ use Rattle.desk_base.specs.declared.profile.Profile.{Profile}
 use Rattle.desk_base.specs.declared.profile.Profile.TheVariants.{Capitals, Either}
 use Rattle.desk_expr.specs.declared.term.Term.{Term}
 use Rattle.desk_expr.specs.declared.token.Kind.{Kind}
-use Rattle.desk_expr.specs.declared.token.Kind.TheVariants.{Opening, Closing, And, Or, With, Licence, LicenceOrLater, Reference, Bad}
+use Rattle.desk_expr.specs.declared.token.Kind.TheVariants.{Opening, Closing, And, Or, With}
+use Rattle.desk_expr.specs.declared.token.Kind.TheVariants.{Licence, LicenceOrLater, Reference, Bad}
 
 -- `"LicenseRef-" idstring`
 abbrev pub is_local_reference : List ℕ → Bool
@@ -16,15 +18,18 @@ is_local_reference w = starts_with nat_eq w (codes "LicenseRef-") && is_idstring
 
 -- `idstring ":" "LicenseRef-" idstring`: the parts before and after the first colon
 abbrev pub is_reference_of_document : List ℕ → Bool
-is_reference_of_document w = is_idstring (before_first (λ b. b == 58) w) && is_local_reference (after_first (λ b. b == 58) w)
+is_reference_of_document w = is_idstring (before_first (λ b. b == 58) w)
+    && is_local_reference (after_first (λ b. b == 58) w)
 
 -- `["DocumentRef-" idstring ":"] "LicenseRef-" idstring`
 abbrev pub is_reference : List ℕ → Bool
-is_reference w = is_local_reference w || (starts_with nat_eq w (codes "DocumentRef-") && is_reference_of_document (drop 12 w))
+is_reference w = is_local_reference w
+    || (starts_with nat_eq w (codes "DocumentRef-") && is_reference_of_document (drop 12 w))
 
 -- a run that begins like this is a reference or no word at all
 abbrev pub begins_like_reference : List ℕ → Bool
-begins_like_reference w = starts_with nat_eq w (codes "LicenseRef-") || starts_with nat_eq w (codes "DocumentRef-")
+begins_like_reference w = starts_with nat_eq w (codes "LicenseRef-")
+    || starts_with nat_eq w (codes "DocumentRef-")
 
 -- the bytes before the last one
 abbrev pub without_last : List ℕ → List ℕ
@@ -42,7 +47,8 @@ word_kind w =
     else (if is_licence_or_later w then LicenceOrLater
     else Bad))
 
--- an operator is written in capitals or, by the profile Either, also wholly in small letters; any other mixture of case is a word
+-- an operator is written in capitals or, by the profile Either, also wholly in small letters; any
+-- other mixture of case is a word
 abbrev pub is_operator : Profile → List ℕ → List ℕ → List ℕ → Bool
 is_operator Capitals capitals small w = bytes_eq w capitals
 is_operator Either capitals small w = bytes_eq w capitals || bytes_eq w small
@@ -86,6 +92,7 @@ abbrev pub is_exception : Option (List ℕ) → Bool
 is_exception None = true
 is_exception (Some x) = is_folded_id x
 
--- a well-formed term: a folded id, perhaps with a plus, or a reference, and perhaps a folded exception
+-- a well-formed term: a folded id, perhaps with a plus, or a reference, and perhaps a folded
+-- exception
 abbrev pub is_term : Term → Bool
 is_term t = (is_folded_id t.key || (is_reference t.key && not t.plus)) && is_exception t.exception

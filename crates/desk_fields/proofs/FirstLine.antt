@@ -1,5 +1,6 @@
 -- Bytes that aren't empty begin with a line.
-use Rattle.std.proofs.Common.{◌≡◌, ◌≢◌, ◌∙◌, ℕ, ◌-◌, ◌<◌, List, [], ◌∷◌, ◌++◌, length, get_or, sym, ap, refl, arith, append_assoc, append-nil, length-append, inl, inr}
+use Rattle.std.proofs.Common.{◌≡◌, ◌≢◌, ◌∙◌, ℕ, ◌-◌, ◌<◌, List, [], ◌∷◌, ◌++◌, length, get_or, sym}
+use Rattle.std.proofs.Common.{ap, refl, arith, append_assoc, append-nil, length-append, inl, inr}
 use Rattle.std.specs.Prelude.{All, slice_index}
 use Rattle.std.proofs.lemmas.Bool.{cases_eq}
 use Rattle.std.proofs.lemmas.List.Elements.{All-nil, All-cons, All-get_or, All-from_get_or}
@@ -16,7 +17,8 @@ pub data Cut (c : ℕ) (t : List ℕ) : Type 0 where
 
 cut_behind : (c d : ℕ) (t : List ℕ) → d ≢ c → Cut c t → Cut c (d ∷ t)
 cut_behind c d t apart (never none) = never (All-cons (λ b. b ≢ c) d t apart none)
-cut_behind c d t apart (first a b none e) = first (d ∷ a) b (All-cons (λ b. b ≢ c) d a apart none) (ap (λ l. d ∷ l) e)
+cut_behind c d t apart (first a b none e) = first (d ∷ a) b (All-cons (λ b. b ≢ c) d a apart none)
+    (ap (λ l. d ∷ l) e)
 
 pub cut_at : (c : ℕ) (t : List ℕ) → Cut c t
 cut_at c [] = never (All-nil (λ b. b ≢ c))
@@ -48,14 +50,16 @@ cr_last (d ∷ a) =
     let r = last_cut d a in
     elim (cases_eq r.1 13) [
       | inl is ↦ cr r.0 (r.2 ∙ ap (λ b. r.0 ++ (b ∷ [])) is)
-      | inr apart ↦ other (λ e. apart (sym (last_is r.0 r.1) ∙ ap (λ l. get_or l (length l - 1) 0) (sym r.2) ∙ e))
+      | inr apart ↦ other (λ e. apart
+          (sym (last_is r.0 r.1) ∙ ap (λ l. get_or l (length l - 1) 0) (sym r.2) ∙ e))
     ]
 
 pub front_lacks : (c : ℕ) (a x y : List ℕ) → All (λ b. b ≢ c) a → a ≡ x ++ y → All (λ b. b ≢ c) x
 front_lacks c a x y h e =
     All-from_get_or (λ b. b ≢ c) x 0 (λ i lt is.
     let len = ap length e ∙ length-append x y in
-    All-get_or (λ b. b ≢ c) a i 0 (omega arith) h (ap (λ l. get_or l i 0) e ∙ get_or-append x y 0 i lt ∙ is))
+    All-get_or (λ b. b ≢ c) a i 0 (omega arith) h
+    (ap (λ l. get_or l i 0) e ∙ get_or-append x y 0 i lt ∙ is))
 
 pub record HasLine (t : List ℕ) : Type 0 where
   pub line : List ℕ
@@ -64,7 +68,12 @@ pub record HasLine (t : List ℕ) : Type 0 where
   pub is : IsLine t line end rest
 
 line_fed : (t a b : List ℕ) → All (λ d. d ≢ 10) a → t ≡ a ++ (10 ∷ b) → CrLast a → HasLine t
-line_fed t a b none e (other apart) = record { line = a; end = Lf; rest = b; is = record { cut = e; no_lf = none; ends = apart } }
+line_fed t a b none e (other apart) = record {
+  line = a;
+  end = Lf;
+  rest = b;
+  is = record { cut = e; no_lf = none; ends = apart };
+}
 line_fed t a b none e (cr x is) = record {
   line = x;
   end = CrLf;
@@ -77,14 +86,22 @@ line_fed t a b none e (cr x is) = record {
 }
 
 line_of : (t : List ℕ) → 0 < length t → Cut 10 t → HasLine t
-line_of t some (never none) = record { line = t; end = Nothing; rest = []; is = record { cut = sym (append-nil t); no_lf = none; ends = (refl, some) } }
+line_of t some (never none) = record {
+  line = t;
+  end = Nothing;
+  rest = [];
+  is = record { cut = sym (append-nil t); no_lf = none; ends = (refl, some) };
+}
 line_of t some (first a b none e) = line_fed t a b none e (cr_last a)
 
 pub has_line : (t : List ℕ) → 0 < length t → HasLine t
 has_line t some = line_of t some (cut_at 10 t)
 
 -- what follows a line is shorter
-pub line_shorter : (t l : List ℕ) (e : LineEnd) (r : List ℕ) → t ≡ l ++ (end_bytes e ++ r) → Ends l e r → length r < length t
+pub line_shorter : (t l : List ℕ) (e : LineEnd) (r : List ℕ) → t ≡ l ++ (end_bytes e ++ r)
+    → Ends l e r → length r < length t
 line_shorter t l Lf r cut ends = let a = ap length cut ∙ length-append l (10 ∷ r) in omega arith
-line_shorter t l CrLf r cut ends = let a = ap length cut ∙ length-append l (13 ∷ 10 ∷ r) in omega arith
-line_shorter t l Nothing r cut ends = let a = ap length cut ∙ length-append l r in let some = ends.1 in omega arith
+line_shorter t l CrLf r cut ends = let a = ap length cut ∙ length-append l (13 ∷ 10 ∷ r) in
+    omega arith
+line_shorter t l Nothing r cut ends = let a = ap length cut ∙ length-append l r in
+    let some = ends.1 in omega arith

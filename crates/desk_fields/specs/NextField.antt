@@ -11,10 +11,13 @@ use Rattle.desk_fields.specs.Found.{field_text}
 -- pieces that give no field lead from the text at a line to the text at another
 pub data Skips (line : ℕ) (text : List ℕ) : ℕ → List ℕ → Type 0 where
   here : Skips line text line text
-  further : (at : ℕ) (whole : List ℕ) (p : Piece) (end : LineEnd) (rest : List ℕ) → Skips line text at whole → Begins whole p end rest → given p ≡ None → Skips line text (line_after at p) rest
+  further : (at : ℕ) (whole : List ℕ) (p : Piece) (end : LineEnd) (rest : List ℕ)
+      → Skips line text at whole → Begins whole p end rest → given p ≡ None
+      → Skips line text (line_after at p) rest
 
 -- the first field of the text at a line, the line after it, and what follows it
-pub record IsNext (line : ℕ) (text : List ℕ) (field : FieldText) (after : ℕ) (rest : List ℕ) : Type 0 where
+pub record IsNext (line : ℕ) (text : List ℕ) (field : FieldText) (after : ℕ)
+    (rest : List ℕ) : Type 0 where
   pub whole : List ℕ
   pub skips : Skips line text field.line whole
   pub piece : Piece
@@ -35,11 +38,13 @@ abbrev pub Reaches : ℕ → List ℕ → Option Field → ℕ → List ℕ → 
 Reaches line text None after rest = Skips line text after rest
 Reaches line text (Some f) after rest = IsNext line text (field_text f) after rest
 
--- no field is left; or the next one, up to whose end no more lines than bytes have passed; or a fault, after which nothing is read
+-- no field is left; or the next one, up to whose end no more lines than bytes have passed; or a
+-- fault, after which nothing is read
 abbrev pub FieldGiven : Scanner → Option (Result Field DocFault) → Scanner → Type 0
 FieldGiven s None new = (at : ℕ) × Skips s.line s.rest.now at [] × (new.rest.now ≡ [])
 FieldGiven s (Some (Ok f)) new =
-    IsNext s.line s.rest.now (field_text f) new.line new.rest.now × (new.line + length new.rest.now ≤ s.line + length s.rest.now)
+    IsNext s.line s.rest.now (field_text f) new.line new.rest.now
+    × (new.line + length new.rest.now ≤ s.line + length s.rest.now)
 FieldGiven s (Some (Err fault)) new = FailsNext s.line s.rest.now fault × (new.rest.now ≡ [])
 
 -- what the fields that were returned one by one say about the text: all of them, or the fault

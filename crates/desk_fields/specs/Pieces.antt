@@ -1,6 +1,8 @@
--- The pieces of a tag-value text (SPDX 2.3, clause 4.4): blank lines, comments that begin with `#`, fields `Tag: value` on one line, and fields whose value is
--- in <text> .. </text>, over several lines if need be.
-use Rattle.std.specs.Prelude.{◌≡◌, ◌≢◌, ℕ, ◌<◌, ◌==◌, ◌||◌, Bool, List, ◌∷◌, ◌++◌, length, slice_index, All, IsTrue, Option, Some, None, codes}
+-- The pieces of a tag-value text (SPDX 2.3, clause 4.4): blank lines, comments that begin with `#`,
+-- fields `Tag: value` on one line, and fields whose value is in <text> .. </text>, over several
+-- lines if need be.
+use Rattle.std.specs.Prelude.{◌≡◌, ◌≢◌, ℕ, ◌<◌, ◌==◌, ◌||◌, Bool, List, ◌∷◌, ◌++◌, length}
+use Rattle.std.specs.Prelude.{slice_index, All, IsTrue, Option, Some, None, codes}
 use Rattle.desk_fields.specs.Text.{skip_blanks, trimmed}
 
 -- no line ends inside
@@ -26,8 +28,8 @@ pub record IsTagged (before : List ℕ) : Type 0 where
 abbrev pub Opens : List ℕ → Type 0
 Opens after = (inner : List ℕ) × (skip_blanks after ≡ codes "<text>" ++ inner)
 
--- a field on one line is what precedes its first colon and what follows it; one in <text> has a gap of blanks before <text>, its value, and a tail of blanks
--- after </text>
+-- a field on one line is what precedes its first colon and what follows it; one in <text> has a gap
+-- of blanks before <text>, its value, and a tail of blanks after </text>
 pub data Piece : Type 0 where
   bare : (line : List ℕ) → Piece
   one_line : (before after : List ℕ) → Piece
@@ -45,13 +47,15 @@ bytes_of (text before gap value tail) = opened before gap (value ++ (codes "</te
 
 -- in the value followed by </text>, the first </text> is the one at the end
 abbrev pub IsFirstEnd : List ℕ → Type 0
-IsFirstEnd value = (xs ys : List ℕ) → value ++ codes "</text>" ≡ xs ++ (codes "</text>" ++ ys) → length ys ≡ 0
+IsFirstEnd value = (xs ys : List ℕ) → value ++ codes "</text>" ≡ xs ++ (codes "</text>" ++ ys)
+    → length ys ≡ 0
 
 -- what each piece must be
 abbrev pub IsPiece : Piece → Type 0
 IsPiece (bare line) = NoLf line × IsTrue (is_bare line)
 IsPiece (one_line before after) = IsTagged before × NoLf after × (Opens after → ⊥)
-IsPiece (text before gap value tail) = IsTagged before × AllBlank gap × IsFirstEnd value × AllBlank tail
+IsPiece (text before gap value tail) = IsTagged before × AllBlank gap × IsFirstEnd value
+    × AllBlank tail
 
 -- the tag and the value that a piece gives
 abbrev pub given : Piece → Option (List ℕ × List ℕ)

@@ -1,5 +1,6 @@
 -- The tags that are read (SPDX 2.3, clauses 6 to 11), those that are skipped, and all others.
-use Rattle.std.specs.Prelude.{ℕ, Bool, ◌||◌, ◌==◌, List, [], Option, Some, None, unwrap_or, codes, nat_eq, if◌then◌else◌}
+use Rattle.std.specs.Prelude.{ℕ, Bool, ◌||◌, ◌==◌, List, [], Option, Some, None, unwrap_or, codes}
+use Rattle.std.specs.Prelude.{nat_eq, if◌then◌else◌}
 use Rattle.std.specs.List.{starts_with}
 use Rattle.std.specs.Str.{bytes_eq}
 use Rattle.desk_fields.specs.declared.tag.Tag.{Tag}
@@ -57,12 +58,14 @@ begins_as_element text =
 
 abbrev pub begins_as_document : List ℕ → Bool
 begins_as_document text =
-    starts_with nat_eq text (codes "Creator") || starts_with nat_eq text (codes "Document") || starts_with nat_eq text (codes "SPDXREF")
+    starts_with nat_eq text (codes "Creator") || starts_with nat_eq text (codes "Document")
+    || starts_with nat_eq text (codes "SPDXREF")
 
 abbrev pub begins_as_remark : List ℕ → Bool
 begins_as_remark text =
     starts_with nat_eq text (codes "Annotat") || starts_with nat_eq text (codes "Review")
-    || starts_with nat_eq text (codes "External") || starts_with nat_eq text (codes "Relationship") || begins_as_document text
+    || starts_with nat_eq text (codes "External") || starts_with nat_eq text (codes "Relationship")
+    || begins_as_document text
 
 abbrev pub is_date_or_purpose : List ℕ → Bool
 is_date_or_purpose text =
@@ -74,7 +77,8 @@ is_read_over text = begins_as_element text || begins_as_remark text || is_date_o
 
 abbrev pub tag_of : List ℕ → Tag
 tag_of text =
-    unwrap_or (document_tag text) (unwrap_or (package_tag text) (unwrap_or (file_tag text) (unwrap_or (other_tag text)
+    unwrap_or (document_tag text)
+    (unwrap_or (package_tag text) (unwrap_or (file_tag text) (unwrap_or (other_tag text)
     (if is_read_over text then tags.ReadOver else tags.Unknown))))
 
 -- the tag as it is in a document

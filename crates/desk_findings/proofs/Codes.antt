@@ -14,5 +14,7 @@ text_total = lists_total nat_cmp_total
 
 pub code_exists : (digests : List (List ℕ)) → (code : List ℕ) × IsCode digests code
 code_exists digests =
-    let found = sorted_list (slice_cmp nat_cmp) text_total (map encode_lower digests) in
-    (encode_lower (sha1 (concat found.0)), record { texts = found.0; same = found.1; sorted = found.2; is = refl })
+    let found = sorted_list (slice_cmp nat_cmp) text_total (map encode_lower digests) in (
+      encode_lower (sha1 (concat found.0)),
+      record { texts = found.0; same = found.1; sorted = found.2; is = refl },
+    )

@@ -15,7 +15,8 @@ read_within zero line (b ∷ t) within = absurd (omega arith)
 read_within (suc bound) line (b ∷ t) within =
     elim (step line (b ∷ t) (omega arith)) [
       | piece p end rest begins shorter ↦
-          let later : Reading (line_after line p) rest = read_within bound (line_after line p) rest (omega arith) in
+          let later : Reading (line_after line p) rest =
+          read_within bound (line_after line p) rest (omega arith) in
           (with_piece line p later.0, more line (b ∷ t) p end rest later.0 begins later.1)
       | fault f h ↦ (Err f, fails line (b ∷ t) f h)
     ]

@@ -1,5 +1,6 @@
 -- The code of each package has exactly one state: the files of a package are one list.
-use Rattle.std.proofs.Common.{◌≡◌, ◌≢◌, ◌⊎◌, inl, inr, ℕ, zero, suc, ◌<◌, true, false, List, [], ◌∷◌, length, Option, Some, None, sym, subst, ap, refl, arith}
+use Rattle.std.proofs.Common.{◌≡◌, ◌≢◌, ◌⊎◌, inl, inr, ℕ, zero, suc, ◌<◌, true, false, List, []}
+use Rattle.std.proofs.Common.{◌∷◌, length, Option, Some, None, sym, subst, ap, refl, arith}
 use Rattle.std.specs.Prelude.{◌==◌, nat_eq, if◌then◌else◌, Contains, slice_get}
 use Rattle.std.specs.Ordering.{nat_cmp}
 use Rattle.std.specs.Cmp.{nat_cmp_total}
@@ -40,24 +41,30 @@ arrow k j = record { from = k; to = j }
 in_targets : (k : ℕ) (xs : List Arrow) (j : ℕ) → Contains xs (arrow k j) → Contains (targets k xs) j
 in_targets k [] j at = absurd (omega (arith, at.1))
 in_targets k (x ∷ xs) j at = elim (eqb_tells x.from k) [
-  | inl same ↦ subst (λ b. Contains (if b then x.to ∷ targets k xs else targets k xs) j) (sym same.0) (elim (cases x xs (arrow k j) at) [
-    | inl is ↦ (zero, omega arith, ap (λ a. a.to) is)
-    | inr rest ↦ later x.to (targets k xs) j (in_targets k xs j rest)
-  ])
-  | inr other ↦ subst (λ b. Contains (if b then x.to ∷ targets k xs else targets k xs) j) (sym other.0) (elim (cases x xs (arrow k j) at) [
-    | inl is ↦ absurd (other.1 (ap (λ a. a.from) is))
-    | inr rest ↦ in_targets k xs j rest
-  ])
+  | inl same ↦ subst (λ b. Contains (if b then x.to ∷ targets k xs else targets k xs) j)
+      (sym same.0) (elim (cases x xs (arrow k j) at) [
+        | inl is ↦ (zero, omega arith, ap (λ a. a.to) is)
+        | inr rest ↦ later x.to (targets k xs) j (in_targets k xs j rest)
+      ])
+  | inr other ↦ subst (λ b. Contains (if b then x.to ∷ targets k xs else targets k xs) j)
+      (sym other.0) (elim (cases x xs (arrow k j) at) [
+        | inl is ↦ absurd (other.1 (ap (λ a. a.from) is))
+        | inr rest ↦ in_targets k xs j rest
+      ])
 ]
 
-from_targets : (k : ℕ) (xs : List Arrow) (j : ℕ) → Contains (targets k xs) j → Contains xs (arrow k j)
+from_targets : (k : ℕ) (xs : List Arrow) (j : ℕ) → Contains (targets k xs) j
+    → Contains xs (arrow k j)
 from_targets k [] j at = absurd (omega (arith, at.1))
 from_targets k (x ∷ xs) j at = elim (eqb_tells x.from k) [
-  | inl same ↦ elim (cases x.to (targets k xs) j (subst (λ b. Contains (if b then x.to ∷ targets k xs else targets k xs) j) same.0 at)) [
-    | inl is ↦ (zero, omega arith, λ i. record { from = same.1 i; to = is i })
-    | inr rest ↦ later x xs (arrow k j) (from_targets k xs j rest)
-  ]
-  | inr other ↦ later x xs (arrow k j) (from_targets k xs j (subst (λ b. Contains (if b then x.to ∷ targets k xs else targets k xs) j) other.0 at))
+  | inl same ↦ elim (cases x.to (targets k xs) j
+      (subst (λ b. Contains (if b then x.to ∷ targets k xs else targets k xs) j) same.0 at)) [
+        | inl is ↦ (zero, omega arith, λ i. record { from = same.1 i; to = is i })
+        | inr rest ↦ later x xs (arrow k j) (from_targets k xs j rest)
+      ]
+  | inr other ↦ later x xs (arrow k j)
+      (from_targets k xs j (subst (λ b. Contains (if b then x.to ∷ targets k xs else targets k xs)
+      j) other.0 at))
 ]
 
 files_exist : (d : DocumentText) (k : ℕ) → (fs : List FileText) × AreFilesOf d k fs
@@ -70,8 +77,11 @@ files_exist d k =
         places = places;
         once = IsStrictlyIncreasing-dedup found.0 found.2;
         members = λ j. (
-          (λ at. from_targets k (contents d) j (Contains-permutation found.0 all j (IsPermutation-sym all found.0 found.1) (Contains-from_dedup nat_eq found.0 j at))),
-          (λ at. Contains-dedup_nat found.0 j (Contains-permutation all found.0 j found.1 (in_targets k (contents d) j at))),
+          (λ at. from_targets k (contents d) j
+              (Contains-permutation found.0 all j (IsPermutation-sym all found.0 found.1)
+              (Contains-from_dedup nat_eq found.0 j at))),
+          (λ at. Contains-dedup_nat found.0 j
+              (Contains-permutation all found.0 j found.1 (in_targets k (contents d) j at))),
         );
         are = refl;
       },
@@ -85,23 +95,31 @@ same_text xs ys = elim (bytes_eq xs ys) as (λ b. Decides b (xs ≡ ys) → (xs 
   | false ↦ λ told. inr (λ same. let both = told.1 same in cc)
 ] (bytes_eq-Decides xs ys)
 
-state_of : (p : PackageText) (fs : List FileText) (value : List ℕ) → p.verification_code ≡ Some value → (digests : Option (List (List ℕ))) → checked_digests p.files_analyzed value fs ≡ digests
+state_of : (p : PackageText) (fs : List FileText) (value : List ℕ)
+    → p.verification_code ≡ Some value → (digests : Option (List (List ℕ)))
+    → checked_digests p.files_analyzed value fs ≡ digests
     → (s : CodeState) × (s ≢ states.Absent) × IsStateOf p fs s
 state_of p fs value is None none = (states.Unchecked, (λ e. cc), (value, is, none))
 state_of p fs value is (Some digests) are =
     let code = code_exists digests in
     elim (same_text (folded (code_digits value)) code.0) [
       | inl agrees ↦ (states.Agrees, (λ e. cc), (value, digests, code.0, is, are, code.1, agrees))
-      | inr differs ↦ (states.Differs, (λ e. cc), (value, digests, code.0, is, are, code.1, differs))
+      | inr differs ↦ (
+        states.Differs,
+        (λ e. cc),
+        (value, digests, code.0, is, are, code.1, differs),
+      )
     ]
 
-with_files : (d : DocumentText) (k : ℕ) (p : PackageText) (fs : List FileText) → AreFilesOf d k fs → (s : CodeState) → s ≢ states.Absent → IsStateOf p fs s → IsStateAt d k p s
+with_files : (d : DocumentText) (k : ℕ) (p : PackageText) (fs : List FileText) → AreFilesOf d k fs
+    → (s : CodeState) → s ≢ states.Absent → IsStateOf p fs s → IsStateAt d k p s
 with_files d k p fs are states.Absent some is = absurd (some refl)
 with_files d k p fs are states.Unchecked some is = (fs, are, is)
 with_files d k p fs are states.Agrees some is = (fs, are, is)
 with_files d k p fs are states.Differs some is = (fs, are, is)
 
-state_at : (d : DocumentText) (k : ℕ) (p : PackageText) (value : Option (List ℕ)) → p.verification_code ≡ value → (s : CodeState) × IsStateAt d k p s
+state_at : (d : DocumentText) (k : ℕ) (p : PackageText) (value : Option (List ℕ))
+    → p.verification_code ≡ value → (s : CodeState) × IsStateAt d k p s
 state_at d k p None none = (states.Absent, none)
 state_at d k p (Some value) is =
     let files = files_exist d k in
@@ -113,7 +131,8 @@ found_at [] k within = absurd (omega (arith, within))
 found_at (x ∷ xs) zero within = (x, refl)
 found_at (x ∷ xs) (suc k) within = found_at xs k (omega (arith, within))
 
-pub state_exists : (d : DocumentText) (k : ℕ) → k < length d.packages → (s : CodeState) × IsState d k s
+pub state_exists : (d : DocumentText) (k : ℕ) → k < length d.packages
+    → (s : CodeState) × IsState d k s
 state_exists d k within =
     let owner = found_at d.packages k within in
     let state = state_at d k owner.0 owner.0.verification_code refl in

@@ -1,4 +1,5 @@
--- A document as its parts (SPDX 2.3, clauses 6 to 10): its own fields, then each section, and what other definitions say about them.
+-- A document as its parts (SPDX 2.3, clauses 6 to 10): its own fields, then each section, and what
+-- other definitions say about them.
 use Rattle.std.specs.Prelude.{ℕ, ◌+◌, Bool, List, [], ◌∷◌, ◌++◌, map, filter, if◌then◌else◌}
 use Rattle.desk_fields.specs.declared.tag.Tag.TheVariants as tags
 use Rattle.desk_tagvalue.specs.declared.sections.SectionKind.{SectionKind}
@@ -24,7 +25,10 @@ own_part es = record { kind = kinds.Document; fields = head_of es }
 
 -- a section's, of the kind that its tag begins
 abbrev pub part_of : Section → Part
-part_of s = record { kind = kind_after (section_begun s.start.tag) kinds.Document; fields = s.start ∷ s.fields }
+part_of s = record {
+  kind = kind_after (section_begun s.start.tag) kinds.Document;
+  fields = s.start ∷ s.fields;
+}
 
 abbrev pub parts : List EntryText → List Part
 parts es = own_part es ∷ map part_of (sections_of es)
@@ -67,7 +71,8 @@ field_at kind packages e = record { section = kind; packages = packages; entry =
 
 abbrev pub listed : ℕ → List Part → List FieldAt
 listed packages [] = []
-listed packages (p ∷ ps) = map (field_at p.kind (begun packages p)) p.fields ++ listed (begun packages p) ps
+listed packages (p ∷ ps) = map (field_at p.kind (begun packages p)) p.fields
+    ++ listed (begun packages p) ps
 
 -- the fields as findings see them
 abbrev pub findings_fields : List EntryText → List FieldAt

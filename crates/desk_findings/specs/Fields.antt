@@ -1,5 +1,7 @@
 -- The fields of a document in their sections, and what single fields say.
-use Rattle.std.specs.Prelude.{ℕ, ◌+◌, ◌-◌, ◌&&◌, ◌||◌, ◌==◌, not, nat_eq, Bool, true, false, List, [], ◌∷◌, Option, Some, None, is_none, length, codes, if◌then◌else◌, slice_get}
+use Rattle.std.specs.Prelude.{ℕ, ◌+◌, ◌-◌, ◌&&◌, ◌||◌, ◌==◌, not, nat_eq, Bool, true, false, List}
+use Rattle.std.specs.Prelude.{[], ◌∷◌, Option, Some, None, is_none, length, codes, if◌then◌else◌}
+use Rattle.std.specs.Prelude.{slice_get}
 use Rattle.std.specs.List.{list_any, starts_with}
 use Rattle.std.specs.Str.{bytes_eq}
 use Rattle.desk_base.specs.Folded.{folded}
@@ -25,7 +27,8 @@ use Rattle.desk_bom.specs.declared.state.CodeState.TheVariants as states
 
 -- only this word
 abbrev pub is_only_word : List ℕ → List ℕ → Bool
-is_only_word word text = bytes_eq (first_word text) word && length (skip_blanks (after_word text)) == 0
+is_only_word word text = bytes_eq (first_word text) word
+    && length (skip_blanks (after_word text)) == 0
 
 -- only NONE or NOASSERTION, which names no licence
 abbrev pub is_no_licence : List ℕ → Bool
@@ -58,11 +61,16 @@ pub record FieldAt : Type 0 where
 abbrev pub packages_after : ℕ → EntryText → ℕ
 packages_after n e = if same_tag e.tag tags.PackageName then n + 1 else n
 
--- the fields of a text, if the last field before them was in a section of this kind, and this many packages had begun
+-- the fields of a text, if the last field before them was in a section of this kind, and this many
+-- packages had begun
 abbrev pub fields_in : SectionKind → ℕ → List EntryText → List FieldAt
 fields_in kind n [] = []
 fields_in kind n (e ∷ es) =
-    record { section = kind_after (section_begun e.tag) kind; packages = packages_after n e; entry = e }
+    record {
+      section = kind_after (section_begun e.tag) kind;
+      packages = packages_after n e;
+      entry = e;
+    }
     ∷ fields_in (kind_after (section_begun e.tag) kind) (packages_after n e) es
 
 -- a field with this tag, in a section that has it
@@ -78,22 +86,26 @@ is_misplaced f = not (is_placed f.section f.entry.tag)
 -- a licence field whose value is no expression and neither NONE nor NOASSERTION
 abbrev pub is_bad_expression : (List ℕ → Option Tree) → FieldAt → Bool
 is_bad_expression reads f =
-    is_licence_field f.entry.tag && is_placed f.section f.entry.tag && not (is_no_licence f.entry.value) && is_none (reads f.entry.value)
+    is_licence_field f.entry.tag && is_placed f.section f.entry.tag
+    && not (is_no_licence f.entry.value) && is_none (reads f.entry.value)
 
 -- a reference within the document that no extracted licence defines
 abbrev pub is_undefined : DocumentText → Term → Bool
-is_undefined d t = starts_with nat_eq t.key (codes "LicenseRef-") && not (list_any (λ x. bytes_eq x.id t.key) d.extracted)
+is_undefined d t = starts_with nat_eq t.key (codes "LicenseRef-")
+    && not (list_any (λ x. bytes_eq x.id t.key) d.extracted)
 
 abbrev pub uses_undefined : DocumentText → Option Tree → Bool
 uses_undefined d None = false
 uses_undefined d (Some e) = list_any (is_undefined d) (leaves e)
 
 abbrev pub is_undefined_use : (List ℕ → Option Tree) → DocumentText → FieldAt → Bool
-is_undefined_use reads d f = is_field tags.PackageConcluded f && not (is_no_licence f.entry.value) && uses_undefined d (reads f.entry.value)
+is_undefined_use reads d f = is_field tags.PackageConcluded f && not (is_no_licence f.entry.value)
+    && uses_undefined d (reads f.entry.value)
 
 -- a SHA1 of another form
 abbrev pub is_bad_digest : FieldAt → Bool
-is_bad_digest f = is_field tags.FileChecksum f && starts_with nat_eq f.entry.value (codes "SHA1:") && not (is_sha1 f.entry.value)
+is_bad_digest f = is_field tags.FileChecksum f && starts_with nat_eq f.entry.value (codes "SHA1:")
+    && not (is_sha1 f.entry.value)
 
 abbrev pub is_bad_code : FieldAt → Bool
 is_bad_code f = is_field tags.VerificationCode f && not (is_code f.entry.value)
@@ -111,7 +123,8 @@ flag_of (Some p) = p.files_analyzed
 
 -- a code although FilesAnalyzed is false
 abbrev pub is_unwanted_code : DocumentText → FieldAt → Bool
-is_unwanted_code d f = is_field tags.VerificationCode f && is_unanalyzed (flag_of (slice_get d.packages (f.packages - 1)))
+is_unwanted_code d f = is_field tags.VerificationCode f
+    && is_unanalyzed (flag_of (slice_get d.packages (f.packages - 1)))
 
 abbrev pub is_flag : List ℕ → Bool
 is_flag value = bytes_eq (folded value) (codes "true") || bytes_eq (folded value) (codes "false")

@@ -15,10 +15,13 @@ use Rattle.desk_model.specs.declared.finding.Finding.{Finding}
 use Rattle.desk_model.specs.declared.finding.FindingKind.TheVariants as kinds
 use Rattle.desk_model.specs.declared.finding.MissingField.TheVariants as missing
 use Rattle.desk_findings.specs.Kinds.{noted, finding_order}
-use Rattle.desk_findings.specs.Fields.{FieldAt, fields_in, is_unknown, is_misplaced, is_bad_expression, is_undefined_use, is_bad_digest, is_bad_code, differs, is_unwanted_code, is_bad_flag}
+use Rattle.desk_findings.specs.Fields.{FieldAt, fields_in, is_unknown, is_misplaced}
+use Rattle.desk_findings.specs.Fields.{is_bad_expression, is_undefined_use, is_bad_digest}
+use Rattle.desk_findings.specs.Fields.{is_bad_code, differs, is_unwanted_code, is_bad_flag}
 
 -- those of a field
-abbrev pub field_findings : (List ℕ → Option Tree) → (ℕ → CodeState) → DocumentText → FieldAt → List Finding
+abbrev pub field_findings : (List ℕ → Option Tree) → (ℕ → CodeState) → DocumentText → FieldAt
+    → List Finding
 field_findings reads state d f =
     noted (is_unknown f) f.entry.line kinds.UnknownTag
     ++ (noted (is_misplaced f) f.entry.line kinds.Misplaced
@@ -46,7 +49,8 @@ missing_of_document d =
     ++ noted (is_none (value_of tags.Created d.entries)) 1 (kinds.MissingField missing.Created))
 
 abbrev pub missing_of_package : PackageText → List Finding
-missing_of_package p = noted (is_none p.download_location) p.line (kinds.MissingField missing.DownloadLocation)
+missing_of_package p = noted (is_none p.download_location) p.line
+    (kinds.MissingField missing.DownloadLocation)
 
 abbrev pub missing_of_file : FileText → List Finding
 missing_of_file f = noted (is_none f.sha1) f.line (kinds.MissingField missing.Checksum)
@@ -70,7 +74,8 @@ pub record AreStates (d : DocumentText) (state : ℕ → CodeState) : Type 0 whe
   pub past_packages : (k : ℕ) → length d.packages ≤ k → state k ≡ Absent
 
 -- each of these once, by line, by kind, and in the stated order
-pub record AreFindings (reads : List ℕ → Option Tree) (d : DocumentText) (found : List Finding) : Type 0 where
+pub record AreFindings (reads : List ℕ → Option Tree) (d : DocumentText)
+    (found : List Finding) : Type 0 where
   pub state : ℕ → CodeState
   pub states : AreStates d state
   pub each : IsPermutation (all_findings reads state d) found

@@ -9,7 +9,9 @@ use Rattle.desk_model.specs.FindingKinds.{kind_number, place_in_kind}
 -- by line, then by kind, then in the stated order
 abbrev pub finding_order : Finding → Finding → Ordering
 finding_order a b =
-    ordering_then (ordering_then (nat_cmp a.line b.line) (nat_cmp (kind_number a.kind) (kind_number b.kind))) (nat_cmp (place_in_kind a.kind) (place_in_kind b.kind))
+    ordering_then (ordering_then (nat_cmp a.line b.line)
+    (nat_cmp (kind_number a.kind) (kind_number b.kind)))
+    (nat_cmp (place_in_kind a.kind) (place_in_kind b.kind))
 
 -- the same as a key
 abbrev pub finding_key : Finding → ℕ × ℕ × ℕ

@@ -13,10 +13,14 @@ use Rattle.desk_findings.specs.declared.document.Told.{Told}
 use Rattle.desk_findings.specs.Fields.{IsReading, uses_undefined}
 use Rattle.desk_findings.specs.Known.{Defines}
 
--- whether it isn't an expression by the profile of operators, and whether it is a package's conclusion that uses what no extracted licence defines
-pub record Tells (profile : Profile) (defined : BTreeSet (Bor (List ℕ))) (tag : Tag) (value : List ℕ) (l : Licence) : Type 0 where
-  pub bad : (reads : List ℕ → Option Tree) → IsReading profile reads → l.is_bad ≡ is_none (reads value)
-  pub undefined : (reads : List ℕ → Option Tree) → IsReading profile reads → (d : DocumentText) → Defines d defined
+-- whether it isn't an expression by the profile of operators, and whether it is a package's
+-- conclusion that uses what no extracted licence defines
+pub record Tells (profile : Profile) (defined : BTreeSet (Bor (List ℕ))) (tag : Tag)
+    (value : List ℕ) (l : Licence) : Type 0 where
+  pub bad : (reads : List ℕ → Option Tree) → IsReading profile reads
+      → l.is_bad ≡ is_none (reads value)
+  pub undefined : (reads : List ℕ → Option Tree) → IsReading profile reads → (d : DocumentText)
+      → Defines d defined
       → l.is_undefined ≡ (same_tag tag tags.PackageConcluded && uses_undefined d (reads value))
 
 -- the same for the one that was read last

@@ -7,13 +7,17 @@ use Rattle.desk_model.specs.declared.row.DutyRow.{DutyRow}
 use Rattle.desk_model.specs.declared.state.DutyState.{DutyState}
 use Rattle.desk_model.specs.declared.state.DutyState.TheVariants as stands
 
-one_place : (s : DutyState) → cond (is_open s) 1 0 + cond (is_met s) 1 0 + cond (is_waived s) 1 0 + cond (is_withdrawn s) 1 0 ≡ 1
+one_place : (s : DutyState) → cond (is_open s) 1 0 + cond (is_met s) 1 0 + cond (is_waived s) 1 0
+    + cond (is_withdrawn s) 1 0 ≡ 1
 one_place stands.IsOpen = refl
 one_place stands.Met = refl
 one_place stands.Waived = refl
 one_place stands.Withdrawn = refl
 
-pub conserved : (rows : List DutyRow) → length rows ≡ count_by (λ row. is_open row.state) rows + count_by (λ row. is_met row.state) rows + count_by (λ row. is_waived row.state) rows + count_by (λ row. is_withdrawn row.state) rows
+pub conserved : (rows : List DutyRow)
+    → length rows ≡ count_by (λ row. is_open row.state) rows
+    + count_by (λ row. is_met row.state) rows + count_by (λ row. is_waived row.state) rows
+    + count_by (λ row. is_withdrawn row.state) rows
 conserved [] = refl
 conserved (row ∷ rows) =
     omega (

@@ -6,7 +6,9 @@ use Rattle.std.specs.Option.{option_map, option_and_then}
 use Rattle.desk_model.specs.Readings.{Readings}
 use Rattle.desk_model.specs.Keys.{is_document}
 use Rattle.desk_model.specs.History.{documents}
-use Rattle.desk_model.specs.Answers.{answer, is_recorded, IsHistory, conclusion, Choosing, choosing, first_bad, is_shipped, not_enough, not_minimal, unconcluded, unless, unready, verdict_on}
+use Rattle.desk_model.specs.Answers.{answer, is_recorded, IsHistory, conclusion, Choosing, choosing}
+use Rattle.desk_model.specs.Answers.{first_bad, is_shipped, not_enough, not_minimal, unconcluded}
+use Rattle.desk_model.specs.Answers.{unless, unready, verdict_on}
 use Rattle.desk_history.specs.Laws.{IsMinimalChoice}
 use Rattle.desk_history.proofs.Recorded.{past, is_so}
 use Rattle.desk_model.specs.declared.reading.Conclusion.{Conclusion}
@@ -18,12 +20,14 @@ use Rattle.desk_model.specs.declared.row.PackageRow.{PackageRow}
 use Rattle.desk_model.specs.declared.command.Command.{Command}
 use Rattle.desk_model.specs.declared.command.Command.TheVariants.{Choose}
 
-minimal_by : (terms : List (List ℕ)) (v : Verdict) → not_enough v ≡ None → not_minimal terms v ≡ None → v ≡ Minimal
+minimal_by : (terms : List (List ℕ)) (v : Verdict) → not_enough v ≡ None
+    → not_minimal terms v ≡ None → v ≡ Minimal
 minimal_by terms NotEnough e f = cc
 minimal_by terms (Superfluous i) e f = cc
 minimal_by terms Minimal e f = refl
 
-record Chosen (w : Readings) (conclusion : PackageRow → Option Conclusion) (row_found : Option PackageRow) (terms : List (List ℕ)) : Type 0 where
+record Chosen (w : Readings) (conclusion : PackageRow → Option Conclusion)
+    (row_found : Option PackageRow) (terms : List (List ℕ)) : Type 0 where
   row : PackageRow
   concluded : Conclusion
   has : row_found ≡ Some row
@@ -31,18 +35,31 @@ record Chosen (w : Readings) (conclusion : PackageRow → Option Conclusion) (ro
   minimal : w.verdict concluded.profile concluded.text terms ≡ Minimal
 
 -- terms for which nothing is refused
-chosen_by : (w : Readings) (conclusion : PackageRow → Option Conclusion) (terms : List (List ℕ)) (row_found : Option PackageRow) (o : Option Conclusion) → option_and_then conclusion row_found ≡ o → is_some row_found ≡ true
-    → option_and_then (unconcluded o) row_found ≡ None → option_and_then not_enough (verdict_on w o terms) ≡ None → option_and_then (not_minimal terms) (verdict_on w o terms) ≡ None → Chosen w conclusion row_found terms
+chosen_by : (w : Readings) (conclusion : PackageRow → Option Conclusion) (terms : List (List ℕ))
+    (row_found : Option PackageRow) (o : Option Conclusion)
+    → option_and_then conclusion row_found ≡ o → is_some row_found ≡ true
+    → option_and_then (unconcluded o) row_found ≡ None
+    → option_and_then not_enough (verdict_on w o terms) ≡ None
+    → option_and_then (not_minimal terms) (verdict_on w o terms) ≡ None
+    → Chosen w conclusion row_found terms
 chosen_by w conclusion terms None o is known concluded enough minimal = absurd (cc)
 chosen_by w conclusion terms (Some row) None is known concluded enough minimal = absurd (cc)
 chosen_by w conclusion terms (Some row) (Some c) is known concluded enough minimal =
-    record { row = row; concluded = c; has = refl; concludes = is; minimal = minimal_by terms (w.verdict c.profile c.text terms) enough minimal }
+    record {
+      row = row;
+      concluded = c;
+      has = refl;
+      concludes = is;
+      minimal = minimal_by terms (w.verdict c.profile c.text terms) enough minimal;
+    }
 
 there : (o : Option DocumentRow) → is_some o ≡ true → (row : DocumentRow) × (o ≡ Some row)
 there None e = absurd (cc)
 there (Some row) e = (row, refl)
 
-pub recorded_is_minimal : (w : Readings) (before : List Command) (r : List ℕ) (d : ℕ) (p : List ℕ) (texts : List (List ℕ)) → IsTrue (is_recorded (answer w before (Choose r d p texts))) → IsMinimalChoice w before d p texts
+pub recorded_is_minimal : (w : Readings) (before : List Command) (r : List ℕ) (d : ℕ) (p : List ℕ)
+    (texts : List (List ℕ)) → IsTrue (is_recorded (answer w before (Choose r d p texts)))
+    → IsMinimalChoice w before d p texts
 recorded_is_minimal w before r d p texts e =
     let found : Choosing = choosing w before r d p in
     let terms = filter_map w.term texts in
@@ -54,14 +71,29 @@ recorded_is_minimal w before r d p texts e =
     let six = past (unless (is_shipped found) why.NotShipped) _ five.1 in
     let seven = past (option_and_then (unconcluded found.conclusion) found.row) _ six.1 in
     let eight = past (option_and_then not_enough (verdict_on w found.conclusion terms)) _ seven.1 in
-    let nine = past (option_and_then (not_minimal terms) (verdict_on w found.conclusion terms)) _ eight.1 in
-    let document = there (find (is_document d) (documents w before)) (is_so found.has_document why.UnknownDocument three.0) in
-    let c = chosen_by w (conclusion w before) terms found.row found.conclusion refl (is_so (is_some found.row) why.UnknownPackage four.0) seven.0 eight.0 nine.0 in
-    record { document = document.0; row = c.row; concluded = c.concluded; of = document.1; has = c.has; concludes = c.concludes; minimal = c.minimal }
+    let nine = past (option_and_then (not_minimal terms) (verdict_on w found.conclusion terms)) _
+    eight.1 in
+    let document = there (find (is_document d) (documents w before))
+    (is_so found.has_document why.UnknownDocument three.0) in
+    let c = chosen_by w (conclusion w before) terms found.row found.conclusion refl
+    (is_so (is_some found.row) why.UnknownPackage four.0) seven.0 eight.0 nine.0 in
+    record {
+      document = document.0;
+      row = c.row;
+      concluded = c.concluded;
+      of = document.1;
+      has = c.has;
+      concludes = c.concludes;
+      minimal = c.minimal;
+    }
 
-pub history_before : (w : Readings) (later before : List Command) → IsHistory w (later ++ before) → IsHistory w before
+pub history_before : (w : Readings) (later before : List Command) → IsHistory w (later ++ before)
+    → IsHistory w before
 history_before w [] before ok = ok
 history_before w (c ∷ later) before ok = history_before w later before ok.1
 
-pub each_is_minimal : (w : Readings) (h later before : List Command) (r : List ℕ) (d : ℕ) (p : List ℕ) (texts : List (List ℕ)) → IsHistory w h → h ≡ later ++ Choose r d p texts ∷ before → IsMinimalChoice w before d p texts
-each_is_minimal w h later before r d p texts ok e = recorded_is_minimal w before r d p texts (history_before w later (Choose r d p texts ∷ before) (subst (IsHistory w) e ok)).0
+pub each_is_minimal : (w : Readings) (h later before : List Command) (r : List ℕ) (d : ℕ)
+    (p : List ℕ) (texts : List (List ℕ)) → IsHistory w h → h ≡ later ++ Choose r d p texts ∷ before
+    → IsMinimalChoice w before d p texts
+each_is_minimal w h later before r d p texts ok e = recorded_is_minimal w before r d p texts
+    (history_before w later (Choose r d p texts ∷ before) (subst (IsHistory w) e ok)).0

@@ -12,27 +12,39 @@ use Rattle.desk_model.specs.declared.command.Command.{Command}
 use Rattle.desk_model.specs.declared.command.Command.TheVariants.{Freeze}
 
 -- a freeze continues the numbers of the duties before it
-numbered-freeze : (w : Readings) (h : List Command) (r day : List ℕ) → numbered w (Freeze r day ∷ h) ≡ numbered w h ++ enumerate_from (1 + length (raised w h)) (owed_at w h r)
+numbered-freeze : (w : Readings) (h : List Command) (r day : List ℕ)
+    → numbered w (Freeze r day ∷ h) ≡ numbered w h
+    ++ enumerate_from (1 + length (raised w h)) (owed_at w h r)
 numbered-freeze w h r day = numbered-append 1 (raised w h) (owed_at w h r)
 
 -- what is numbered stays numbered
-stays : (w : Readings) (c : Command) (h : List Command) (d : ℕ × Owed) → IsIn d (numbered w h) → IsIn d (numbered w (c ∷ h))
-stays w (Freeze r day) h d m = subst (λ ds. IsIn d ds) (sym (numbered-freeze w h r day)) (in_left d (numbered w h) (enumerate_from (1 + length (raised w h)) (owed_at w h r)) m)
+stays : (w : Readings) (c : Command) (h : List Command) (d : ℕ × Owed) → IsIn d (numbered w h)
+    → IsIn d (numbered w (c ∷ h))
+stays w (Freeze r day) h d m = subst (λ ds. IsIn d ds) (sym (numbered-freeze w h r day))
+    (in_left d (numbered w h) (enumerate_from (1 + length (raised w h)) (owed_at w h r)) m)
 stays w c h d m = m
 
-pub numbers_stay : (w : Readings) (later before : List Command) (d : ℕ × Owed) → IsIn d (numbered w before) → IsIn d (numbered w (later ++ before))
+pub numbers_stay : (w : Readings) (later before : List Command) (d : ℕ × Owed)
+    → IsIn d (numbered w before) → IsIn d (numbered w (later ++ before))
 numbers_stay w [] before d m = m
-numbers_stay w (c ∷ later) before d m = stays w c (later ++ before) d (numbers_stay w later before d m)
+numbers_stay w (c ∷ later) before d m = stays w c (later ++ before) d
+    (numbers_stay w later before d m)
 
-new_numbers : (w : Readings) (h : List Command) (r day : List ℕ) (d : ℕ × Owed) → IsIn d (enumerate_from (1 + length (raised w h)) (owed_at w h r)) → IsIn d (numbered w (Freeze r day ∷ h))
-new_numbers w h r day d m = subst (λ ds. IsIn d ds) (sym (numbered-freeze w h r day)) (in_right d (numbered w h) (enumerate_from (1 + length (raised w h)) (owed_at w h r)) m)
+new_numbers : (w : Readings) (h : List Command) (r day : List ℕ) (d : ℕ × Owed)
+    → IsIn d (enumerate_from (1 + length (raised w h)) (owed_at w h r))
+    → IsIn d (numbered w (Freeze r day ∷ h))
+new_numbers w h r day d m = subst (λ ds. IsIn d ds) (sym (numbered-freeze w h r day))
+    (in_right d (numbered w h) (enumerate_from (1 + length (raised w h)) (owed_at w h r)) m)
 
-pub is_in_numbered : (w : Readings) (h : List Command) (d : ℕ × Owed) → IsNumbered w h d → IsIn d (numbered w h)
+pub is_in_numbered : (w : Readings) (h : List Command) (d : ℕ × Owed) → IsNumbered w h d
+    → IsIn d (numbered w h)
 is_in_numbered w h d is =
     subst (λ hs. IsIn d (numbered w hs)) (sym is.split)
-    (numbers_stay w is.later (Freeze is.release is.day ∷ is.before) d (new_numbers w is.before is.release is.day d is.raises))
+    (numbers_stay w is.later (Freeze is.release is.day ∷ is.before) d
+    (new_numbers w is.before is.release is.day d is.raises))
 
-later_numbered : (w : Readings) (c : Command) (h : List Command) (d : ℕ × Owed) → IsNumbered w h d → IsNumbered w (c ∷ h) d
+later_numbered : (w : Readings) (c : Command) (h : List Command) (d : ℕ × Owed) → IsNumbered w h d
+    → IsNumbered w (c ∷ h) d
 later_numbered w c h d is = record {
   later = c ∷ is.later;
   before = is.before;
@@ -42,13 +54,24 @@ later_numbered w c h d is = record {
   raises = is.raises;
 }
 
-here_numbered : (w : Readings) (h : List Command) (r day : List ℕ) (d : ℕ × Owed) → IsIn d (enumerate_from (1 + length (raised w h)) (owed_at w h r)) → IsNumbered w (Freeze r day ∷ h) d
-here_numbered w h r day d m = record { later = []; before = h; release = r; day = day; split = refl; raises = m }
+here_numbered : (w : Readings) (h : List Command) (r day : List ℕ) (d : ℕ × Owed)
+    → IsIn d (enumerate_from (1 + length (raised w h)) (owed_at w h r))
+    → IsNumbered w (Freeze r day ∷ h) d
+here_numbered w h r day d m = record {
+  later = [];
+  before = h;
+  release = r;
+  day = day;
+  split = refl;
+  raises = m;
+}
 
-pub numbered_in : (w : Readings) (h : List Command) (d : ℕ × Owed) → IsIn d (numbered w h) → IsNumbered w h d
+pub numbered_in : (w : Readings) (h : List Command) (d : ℕ × Owed) → IsIn d (numbered w h)
+    → IsNumbered w h d
 numbered_in w [] d m = absurd m
 numbered_in w (Freeze r day ∷ h) d m =
-    elim (in_cases d (numbered w h) (enumerate_from (1 + length (raised w h)) (owed_at w h r)) (subst (λ ds. IsIn d ds) (numbered-freeze w h r day) m)) [
+    elim (in_cases d (numbered w h) (enumerate_from (1 + length (raised w h)) (owed_at w h r))
+    (subst (λ ds. IsIn d ds) (numbered-freeze w h r day) m)) [
       | inl old ↦ later_numbered w (Freeze r day) h d (numbered_in w h d old)
       | inr new ↦ here_numbered w h r day d new
     ]

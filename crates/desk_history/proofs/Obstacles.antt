@@ -15,14 +15,25 @@ use Rattle.desk_model.specs.declared.refusal.Refusal.{Refusal}
 use Rattle.desk_model.specs.declared.state.ReleaseState.{ReleaseState}
 use Rattle.desk_model.specs.declared.command.Command.{Command}
 
-refusals-found : (w : Readings) (h : List Command) (r : List ℕ) → (obstacles_found w (tables w h) r).refusals ≡ (obstacles w h r).refusals
+refusals-found : (w : Readings) (h : List Command) (r : List ℕ)
+    → (obstacles_found w (tables w h) r).refusals ≡ (obstacles w h r).refusals
 refusals-found w h r =
-    ap (λ rules. shipped_refusals w (adoptions w h) rules (form_found (tables w h) r) (conclusion w h) (choice_found (tables w h) r) (shipped w h r)) (rules-found w h)
-    ∙ (ap (λ form. shipped_refusals w (adoptions w h) (rules_in (in_force w h)) form (conclusion w h) (choice_found (tables w h) r) (shipped w h r)) (form-found w h r)
-    ∙ ap (λ chosen. shipped_refusals w (adoptions w h) (rules_in (in_force w h)) (unwrap_or (form_of h r) []) (conclusion w h) chosen (shipped w h r)) (choice-found w h r))
+    ap (λ rules. shipped_refusals w (adoptions w h) rules (form_found (tables w h) r)
+    (conclusion w h) (choice_found (tables w h) r) (shipped w h r)) (rules-found w h)
+    ∙ (ap (λ form. shipped_refusals w (adoptions w h) (rules_in (in_force w h)) form
+    (conclusion w h) (choice_found (tables w h) r) (shipped w h r)) (form-found w h r)
+    ∙ ap (λ chosen. shipped_refusals w (adoptions w h) (rules_in (in_force w h))
+    (unwrap_or (form_of h r) []) (conclusion w h) chosen (shipped w h r)) (choice-found w h r))
 
-pub wanting_told : (w : Readings) (h : List Command) (r : List ℕ) → wanting_answer (obstacles_found w (tables w h) r) ≡ wanting_answer (obstacles w h r)
+pub wanting_told : (w : Readings) (h : List Command) (r : List ℕ)
+    → wanting_answer (obstacles_found w (tables w h) r) ≡ wanting_answer (obstacles w h r)
 wanting_told w h r =
-    let of : Option ReleaseState → List Refusal → Obstacles = λ state refusals. record { state = state; attached = length (attached_to (attached h) r); refusals = refusals } in
-    ap (λ state. wanting_answer (of state (obstacles_found w (tables w h) r).refusals)) (state-found w h r)
+    let of : Option ReleaseState → List Refusal → Obstacles =
+    λ state refusals. record {
+      state = state;
+      attached = length (attached_to (attached h) r);
+      refusals = refusals;
+    } in
+    ap (λ state. wanting_answer (of state (obstacles_found w (tables w h) r).refusals))
+    (state-found w h r)
     ∙ ap (λ refusals. wanting_answer (of (obstacles w h r).state refusals)) (refusals-found w h r)

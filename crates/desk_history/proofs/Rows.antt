@@ -1,5 +1,6 @@
 -- Lists of rows made of lists of keys.
-use Rattle.std.proofs.Common.{◌≡◌, ℕ, ◌+◌, Bool, true, false, cond, List, [], ◌∷◌, ◌++◌, length, map, Some, None, sym, refl, ap, ◌∙◌, arith, inl, inr}
+use Rattle.std.proofs.Common.{◌≡◌, ℕ, ◌+◌, Bool, true, false, cond, List, [], ◌∷◌, ◌++◌, length}
+use Rattle.std.proofs.Common.{map, Some, None, sym, refl, ap, ◌∙◌, arith, inl, inr}
 use Rattle.std.specs.Prelude.{if◌then◌else◌, find, ◌||◌, filter}
 use Rattle.std.specs.List.{list_any}
 use Rattle.std.specs.Option.{option_map}
@@ -12,18 +13,23 @@ use Rattle.desk_base.proofs.Texts.{text_tells, texts_equal}
 texts_turned_by : (a b : List ℕ) (r s : Bool) → bytes_eq a b ≡ r → bytes_eq b a ≡ s → r ≡ s
 texts_turned_by a b true true e f = refl
 texts_turned_by a b false false e f = refl
-texts_turned_by a b true false e f = let back : bytes_eq b a ≡ true = (bytes_eq-Decides b a).1 (sym (texts_equal a b e)) in cc
-texts_turned_by a b false true e f = let back : bytes_eq a b ≡ true = (bytes_eq-Decides a b).1 (sym (texts_equal b a f)) in cc
+texts_turned_by a b true false e f = let back : bytes_eq b a ≡ true =
+    (bytes_eq-Decides b a).1 (sym (texts_equal a b e)) in cc
+texts_turned_by a b false true e f = let back : bytes_eq a b ≡ true =
+    (bytes_eq-Decides a b).1 (sym (texts_equal b a f)) in cc
 
 pub texts_turned : (a b : List ℕ) → bytes_eq a b ≡ bytes_eq b a
 texts_turned a b = texts_turned_by a b (bytes_eq a b) (bytes_eq b a) refl refl
 
 -- a key in its place, and its row in its place
-pub map-put : {A B : Type 0} (below : A → A → Bool) (below' : B → B → Bool) (f : A → B) → ((a b : A) → below' (f a) (f b) ≡ below a b) → (x : A) (xs : List A) → map f (put below x xs) ≡ put below' (f x) (map f xs)
+pub map-put : {A B : Type 0} (below : A → A → Bool) (below' : B → B → Bool) (f : A → B)
+    → ((a b : A) → below' (f a) (f b) ≡ below a b) → (x : A) (xs : List A)
+    → map f (put below x xs) ≡ put below' (f x) (map f xs)
 map-put below below' f same x [] = refl
 map-put below below' f same x (y ∷ ys) =
     rw (same x y)
-    (elim (below x y) as (λ b. map f (if b then x ∷ y ∷ ys else y ∷ put below x ys) ≡ (if b then f x ∷ f y ∷ map f ys else f y ∷ put below' (f x) (map f ys))) [
+    (elim (below x y) as (λ b. map f (if b then x ∷ y ∷ ys else y ∷ put below x ys)
+    ≡ (if b then f x ∷ f y ∷ map f ys else f y ∷ put below' (f x) (map f ys))) [
       | true ↦ refl
       | false ↦ ap (λ zs. f y ∷ zs) (map-put below below' f same x ys)
     ])
@@ -34,49 +40,63 @@ swap_or true false c = refl
 swap_or false true c = refl
 swap_or false false c = refl
 
-pub list_any-put : {A : Type 0} (below : A → A → Bool) (test : A → Bool) (x : A) (xs : List A) → list_any test (put below x xs) ≡ (test x || list_any test xs)
+pub list_any-put : {A : Type 0} (below : A → A → Bool) (test : A → Bool) (x : A) (xs : List A)
+    → list_any test (put below x xs) ≡ (test x || list_any test xs)
 list_any-put below test x [] = refl
 list_any-put below test x (y ∷ ys) =
-    elim (below x y) as (λ b. list_any test (if b then x ∷ y ∷ ys else y ∷ put below x ys) ≡ (test x || (test y || list_any test ys))) [
+    elim (below x y) as (λ b. list_any test (if b then x ∷ y ∷ ys else y ∷ put below x ys)
+    ≡ (test x || (test y || list_any test ys))) [
       | true ↦ refl
-      | false ↦ ap (λ b. test y || b) (list_any-put below test x ys) ∙ swap_or (test y) (test x) (list_any test ys)
+      | false ↦ ap (λ b. test y || b) (list_any-put below test x ys)
+          ∙ swap_or (test y) (test x) (list_any test ys)
     ]
 
-pub list_any-in_order : {A : Type 0} (below : A → A → Bool) (test : A → Bool) (xs : List A) → list_any test (in_order below xs) ≡ list_any test xs
+pub list_any-in_order : {A : Type 0} (below : A → A → Bool) (test : A → Bool) (xs : List A)
+    → list_any test (in_order below xs) ≡ list_any test xs
 list_any-in_order below test [] = refl
-list_any-in_order below test (x ∷ xs) = list_any-put below test x (in_order below xs) ∙ ap (λ b. test x || b) (list_any-in_order below test xs)
+list_any-in_order below test (x ∷ xs) = list_any-put below test x (in_order below xs)
+    ∙ ap (λ b. test x || b) (list_any-in_order below test xs)
 
-pub length-put : {A : Type 0} (below : A → A → Bool) (x : A) (xs : List A) → length (put below x xs) ≡ length xs + 1
+pub length-put : {A : Type 0} (below : A → A → Bool) (x : A) (xs : List A)
+    → length (put below x xs) ≡ length xs + 1
 length-put below x [] = omega arith
 length-put below x (y ∷ ys) =
-    elim (below x y) as (λ b. length (if b then x ∷ y ∷ ys else y ∷ put below x ys) ≡ length (y ∷ ys) + 1) [
+    elim (below x y) as (λ b. length (if b then x ∷ y ∷ ys else y ∷ put below x ys)
+    ≡ length (y ∷ ys) + 1) [
       | true ↦ omega arith
       | false ↦ omega (arith, length-put below x ys)
     ]
 
-pub length-in_order : {A : Type 0} (below : A → A → Bool) (xs : List A) → length (in_order below xs) ≡ length xs
+pub length-in_order : {A : Type 0} (below : A → A → Bool) (xs : List A)
+    → length (in_order below xs) ≡ length xs
 length-in_order below [] = refl
-length-in_order below (x ∷ xs) = omega (arith, length-put below x (in_order below xs), length-in_order below xs)
+length-in_order below (x ∷ xs) = omega
+    (arith, length-put below x (in_order below xs), length-in_order below xs)
 
 -- the rows that a filter keeps
-pub filter-map : {A B : Type 0} (test : B → Bool) (f : A → B) (xs : List A) → filter test (map f xs) ≡ map f (filter (λ x. test (f x)) xs)
+pub filter-map : {A B : Type 0} (test : B → Bool) (f : A → B) (xs : List A)
+    → filter test (map f xs) ≡ map f (filter (λ x. test (f x)) xs)
 filter-map test f [] = refl
 filter-map test f (x ∷ xs) =
-    elim (test (f x)) as (λ b. cond b (f x ∷ filter test (map f xs)) (filter test (map f xs)) ≡ map f (cond b (x ∷ filter (λ x. test (f x)) xs) (filter (λ x. test (f x)) xs))) [
+    elim (test (f x)) as (λ b. cond b (f x ∷ filter test (map f xs)) (filter test (map f xs))
+    ≡ map f (cond b (x ∷ filter (λ x. test (f x)) xs) (filter (λ x. test (f x)) xs))) [
       | true ↦ ap (λ ys. f x ∷ ys) (filter-map test f xs)
       | false ↦ filter-map test f xs
     ]
 
 -- rows found by their key
-pub find-map : {A B : Type 0} (test : B → Bool) (f : A → B) (xs : List A) → find test (map f xs) ≡ option_map f (find (λ x. test (f x)) xs)
+pub find-map : {A B : Type 0} (test : B → Bool) (f : A → B) (xs : List A)
+    → find test (map f xs) ≡ option_map f (find (λ x. test (f x)) xs)
 find-map test f [] = refl
 find-map test f (x ∷ xs) =
-    elim (test (f x)) as (λ b. cond b (Some (f x)) (find test (map f xs)) ≡ option_map f (cond b (Some x) (find (λ x. test (f x)) xs))) [
+    elim (test (f x)) as (λ b. cond b (Some (f x)) (find test (map f xs))
+    ≡ option_map f (cond b (Some x) (find (λ x. test (f x)) xs))) [
       | true ↦ refl
       | false ↦ find-map test f xs
     ]
 
-pub find_text : (r : List ℕ) (xs : List (List ℕ)) → find (λ n. bytes_eq n r) xs ≡ (if list_any (λ n. bytes_eq n r) xs then Some r else None)
+pub find_text : (r : List ℕ) (xs : List (List ℕ))
+    → find (λ n. bytes_eq n r) xs ≡ (if list_any (λ n. bytes_eq n r) xs then Some r else None)
 find_text r [] = refl
 find_text r (x ∷ xs) =
     elim (text_tells x r) [
@@ -85,31 +105,45 @@ find_text r (x ∷ xs) =
     ]
 
 -- rows of keys that are not r
-pub map_others : {B : Type 0} (f g : List ℕ → B) (r : List ℕ) → ((n : List ℕ) → bytes_eq n r ≡ false → f n ≡ g n) → (ns : List (List ℕ)) → list_any (λ n. bytes_eq n r) ns ≡ false → map f ns ≡ map g ns
+pub map_others : {B : Type 0} (f g : List ℕ → B) (r : List ℕ)
+    → ((n : List ℕ) → bytes_eq n r ≡ false → f n ≡ g n) → (ns : List (List ℕ))
+    → list_any (λ n. bytes_eq n r) ns ≡ false → map f ns ≡ map g ns
 map_others f g r same [] none = refl
 map_others f g r same (n ∷ ns) none =
-    rw (same n (or_left (bytes_eq n r) (list_any (λ n. bytes_eq n r) ns) none), map_others f g r same ns (or_right (bytes_eq n r) (list_any (λ n. bytes_eq n r) ns) none)) refl
+    rw (
+      same n (or_left (bytes_eq n r) (list_any (λ n. bytes_eq n r) ns) none),
+      map_others f g r same ns (or_right (bytes_eq n r) (list_any (λ n. bytes_eq n r) ns) none),
+    ) refl
 
 -- rows that a change of some of them makes
-pub updated-map : {A B : Type 0} (test : B → Bool) (change : B → B) (f g : A → B) → ((x : A) → g x ≡ (if test (f x) then change (f x) else f x)) → (xs : List A) → updated test change (map f xs) ≡ map g xs
+pub updated-map : {A B : Type 0} (test : B → Bool) (change : B → B) (f g : A → B)
+    → ((x : A) → g x ≡ (if test (f x) then change (f x) else f x)) → (xs : List A)
+    → updated test change (map f xs) ≡ map g xs
 updated-map test change f g same [] = refl
 updated-map test change f g same (x ∷ xs) = rw (same x, updated-map test change f g same xs) refl
 
-pub map_same : {A B : Type 0} (f g : A → B) → ((x : A) → f x ≡ g x) → (xs : List A) → map f xs ≡ map g xs
+pub map_same : {A B : Type 0} (f g : A → B) → ((x : A) → f x ≡ g x) → (xs : List A)
+    → map f xs ≡ map g xs
 map_same f g same [] = refl
 map_same f g same (x ∷ xs) = rw (same x, map_same f g same xs) refl
 
-pub map-map : {A B C : Type 0} (f : B → C) (g : A → B) (xs : List A) → map f (map g xs) ≡ map (λ x. f (g x)) xs
+pub map-map : {A B C : Type 0} (f : B → C) (g : A → B) (xs : List A)
+    → map f (map g xs) ≡ map (λ x. f (g x)) xs
 map-map f g [] = refl
 map-map f g (x ∷ xs) = ap (λ ys. f (g x) ∷ ys) (map-map f g xs)
 
 -- a row that comes after some rows, and before the rest
-pub put-past : {A : Type 0} (below : A → A → Bool) (x : A) (ys zs : List A) → list_any (below x) ys ≡ false → put below x (ys ++ zs) ≡ ys ++ put below x zs
+pub put-past : {A : Type 0} (below : A → A → Bool) (x : A) (ys zs : List A)
+    → list_any (below x) ys ≡ false → put below x (ys ++ zs) ≡ ys ++ put below x zs
 put-past below x [] zs none = refl
 put-past below x (y ∷ ys) zs none =
-    rw (or_left (below x y) (list_any (below x) ys) none, put-past below x ys zs (or_right (below x y) (list_any (below x) ys) none)) refl
+    rw (
+      or_left (below x y) (list_any (below x) ys) none,
+      put-past below x ys zs (or_right (below x y) (list_any (below x) ys) none),
+    ) refl
 
 -- some more rows
-pub in_order-append : {A : Type 0} (below : A → A → Bool) (xs ys : List A) → in_order below (xs ++ ys) ≡ put_all below xs (in_order below ys)
+pub in_order-append : {A : Type 0} (below : A → A → Bool) (xs ys : List A)
+    → in_order below (xs ++ ys) ≡ put_all below xs (in_order below ys)
 in_order-append below [] ys = refl
 in_order-append below (x ∷ xs) ys = ap (put below x) (in_order-append below xs ys)

@@ -1,12 +1,17 @@
 -- The answer and the change of a command, from the rows of tables: what the code computes.
-use Rattle.std.specs.Prelude.{ℕ, ◌+◌, Bool, not, List, [], ◌∷◌, length, filter, map, find, Option, None, is_some, unwrap_or, if◌then◌else◌}
+use Rattle.std.specs.Prelude.{ℕ, ◌+◌, Bool, not, List, [], ◌∷◌, length, filter, map, find, Option}
+use Rattle.std.specs.Prelude.{None, is_some, unwrap_or, if◌then◌else◌}
 use Rattle.std.specs.List.{list_any, enumerate_from, flat_map, last_or}
 use Rattle.std.specs.Option.{option_map, option_map_or, option_and_then}
 use Rattle.std.specs.Result.{result_ok}
 use Rattle.desk_model.specs.Readings.{Readings}
-use Rattle.desk_model.specs.Keys.{is_document, is_package, is_release, is_attachment, is_choice_of, is_duty, is_duty_of, is_change_of, is_rule_of, is_adoption_in}
-use Rattle.desk_model.specs.History.{rules_in, forms_in, rule_row, namespace_in, packages_in, references_in, package_row, extracted_row, attached_to, term_set}
-use Rattle.desk_model.specs.Conclusions.{conclusion_in, conclusion_row, adoption_row, licence_for, is_reference, is_plain, holder}
+use Rattle.desk_model.specs.Keys.{is_document, is_package, is_release, is_attachment, is_choice_of}
+use Rattle.desk_model.specs.Keys.{is_duty, is_duty_of, is_change_of, is_rule_of, is_adoption_in}
+use Rattle.desk_model.specs.History.{rules_in, forms_in, rule_row, namespace_in, packages_in}
+use Rattle.desk_model.specs.History.{references_in, package_row, extracted_row, attached_to}
+use Rattle.desk_model.specs.History.{term_set}
+use Rattle.desk_model.specs.Conclusions.{conclusion_in, conclusion_row, adoption_row, licence_for}
+use Rattle.desk_model.specs.Conclusions.{is_reference, is_plain, holder}
 use Rattle.desk_model.specs.declared.row.Owed.{Owed}
 use Rattle.desk_model.specs.Raised.{shipped_of, owed_for, frozen_for}
 use Rattle.desk_model.specs.declared.row.Move.{Move}
@@ -15,7 +20,12 @@ use Rattle.desk_model.specs.States.{is_met}
 use Rattle.desk_model.specs.declared.row.Standing.{Standing}
 use Rattle.desk_model.specs.declared.state.Word.{Word}
 use Rattle.desk_model.specs.Tables.{Tables, applied, choice_row}
-use Rattle.desk_model.specs.Answers.{load_answer, import_answer, open_answer, attach_answer, choose_answer, freeze_answer, unchoose_answer, Loading, Importing, Opening, Attaching, Choosing, Unchoosing, Freezing, Withdrawing, Closing, Moving, Concluding, Adopting, move_answer, withdraw_answer, close_answer, conclude_answer, adopt_answer, walk, is_recorded}
+use Rattle.desk_model.specs.Answers.{load_answer, import_answer, open_answer, attach_answer}
+use Rattle.desk_model.specs.Answers.{choose_answer, freeze_answer, unchoose_answer, Loading}
+use Rattle.desk_model.specs.Answers.{Importing, Opening, Attaching, Choosing, Unchoosing, Freezing}
+use Rattle.desk_model.specs.Answers.{Withdrawing, Closing, Moving, Concluding, Adopting}
+use Rattle.desk_model.specs.Answers.{move_answer, withdraw_answer, close_answer, conclude_answer}
+use Rattle.desk_model.specs.Answers.{adopt_answer, walk, is_recorded}
 use Rattle.desk_model.specs.Obstacles.{Obstacles, package_refusals, shipped_refusals, wanting_answer}
 use Rattle.desk_model.specs.Queries.{document_line, duty_line, open_duties, package_line, release_line, totals_of}
 use Rattle.desk_model.specs.Bills.{bill_answer, bill_of}
@@ -46,7 +56,11 @@ use Rattle.desk_model.specs.declared.command.Answer.TheVariants as answered
 use Rattle.desk_model.specs.declared.command.Change.{Change}
 use Rattle.desk_model.specs.declared.command.Change.TheVariants as change
 use Rattle.desk_model.specs.declared.command.Command.{Command}
-use Rattle.desk_model.specs.declared.command.Command.TheVariants.{LoadCatalogue, Import, OpenRelease, Attach, Choose, Unchoose, Freeze, Meet, Waive, Reopen, Withdraw, CloseDay, Conclude, Adopt}
+use Rattle.desk_model.specs.declared.command.Command.TheVariants.{LoadCatalogue, Import}
+use Rattle.desk_model.specs.declared.command.Command.TheVariants.{OpenRelease, Attach, Choose}
+use Rattle.desk_model.specs.declared.command.Command.TheVariants.{Unchoose, Freeze, Meet, Waive}
+use Rattle.desk_model.specs.declared.command.Command.TheVariants.{Reopen, Withdraw, CloseDay}
+use Rattle.desk_model.specs.declared.command.Command.TheVariants.{Conclude, Adopt}
 use Rattle.desk_model.specs.declared.command.DutyLine.{DutyLine}
 use Rattle.desk_model.specs.declared.command.OpenDuty.{OpenDuty}
 use Rattle.desk_model.specs.declared.command.Query.{Query}
@@ -99,15 +113,21 @@ steps_found t q = length (filter (is_change_of q) t.changes)
 
 -- the state of a duty's release
 abbrev pub release_state_found : Tables → Option DutyRow → ReleaseState
-release_state_found t duty = option_map_or (λ row. unwrap_or (state_found t row.release) release.IsOpen) duty release.IsOpen
+release_state_found t duty = option_map_or
+    (λ row. unwrap_or (state_found t row.release) release.IsOpen) duty release.IsOpen
 
 -- the last day of a duty's last change, if that is a waiver that ends
 abbrev pub end_found : Tables → ℕ → Option (List ℕ)
-end_found t q = option_and_then (λ change. change.last_day) (last_or None (filter (is_change_of q) t.changes))
+end_found t q = option_and_then (λ change. change.last_day)
+    (last_or None (filter (is_change_of q) t.changes))
 
 -- the state of a duty, and how many changes it has
 abbrev pub standing_found : Tables → DutyRow → Standing
-standing_found t row = record { number = row.number; state = row.state; steps = steps_found t row.number }
+standing_found t row = record {
+  number = row.number;
+  state = row.state;
+  steps = steps_found t row.number;
+}
 
 -- the same for the duties of a release
 abbrev pub standings_found : Tables → List ℕ → List Standing
@@ -126,10 +146,12 @@ is_unmet s = not (is_met s.state)
 
 -- what a freeze raises
 abbrev pub owed_found : Readings → Tables → List ℕ → List Owed
-owed_found w t r = owed_for w t.adoption (rules_found t) (form_found t r) r (choice_found t r) (shipped_found t r)
+owed_found w t r = owed_for w t.adoption (rules_found t) (form_found t r) r (choice_found t r)
+    (shipped_found t r)
 
 abbrev pub frozen_found : Readings → Tables → List ℕ → List FrozenRow
-frozen_found w t r = frozen_for w t.adoption (rules_found t) (form_found t r) r (choice_found t r) (shipped_found t r)
+frozen_found w t r = frozen_for w t.adoption (rules_found t) (form_found t r) r (choice_found t r)
+    (shipped_found t r)
 
 -- a document was imported
 abbrev pub stands_document : Tables → ℕ → Bool
@@ -147,7 +169,11 @@ abbrev pub importing_found : Tables → Importing
 importing_found t = record { documents = t.document }
 
 abbrev pub opening_found : Tables → List ℕ → Opening
-opening_found t r = record { forms = t.forms; is_taken = is_some (release_found t r); releases = length t.releases }
+opening_found t r = record {
+  forms = t.forms;
+  is_taken = is_some (release_found t r);
+  releases = length t.releases;
+}
 
 abbrev pub attaching_found : Tables → List ℕ → ℕ → Attaching
 attaching_found t r d = record {
@@ -178,7 +204,8 @@ abbrev pub freezing_found : Readings → Tables → List ℕ → Freezing
 freezing_found w t r = record {
   state = state_found t r;
   attached = length (attached_to t.attached r);
-  fault = walk w t.adoption (rules_found t) (form_found t r) (conclusion_found w t) (choice_found t r) (shipped_found t r);
+  fault = walk w t.adoption (rules_found t) (form_found t r) (conclusion_found w t)
+      (choice_found t r) (shipped_found t r);
   raised = length t.duty;
   owed = length (owed_found w t r);
 }
@@ -239,7 +266,14 @@ abbrev pub new_duty : ℕ × Owed → DutyRow
 new_duty d = duty_row stands.IsOpen d
 
 abbrev pub raised_row : List ℕ → DutyRow → ChangeRow
-raised_row day row = record { duty = row.number; step = 1; day = day; word = word.Raised; body = []; last_day = None }
+raised_row day row = record {
+  duty = row.number;
+  step = 1;
+  day = day;
+  word = word.Raised;
+  body = [];
+  last_day = None;
+}
 
 abbrev pub new_duties : Readings → Tables → List ℕ → List DutyRow
 new_duties w t r = map new_duty (enumerate_from (length t.duty + 1) (owed_found w t r))
@@ -249,18 +283,32 @@ new_duties w t r = map new_duty (enumerate_from (length t.duty + 1) (owed_found 
 abbrev pub loaded_change : Tables → List ℕ → Option Catalogue → Change
 loaded_change t text catalogue =
     let n = length t.catalogue + 1 in
-    change.Loaded (record { revision = n; body = text }) (map (rule_row n) (rules_in catalogue)) (forms_in catalogue)
+    change.Loaded (record { revision = n; body = text }) (map (rule_row n) (rules_in catalogue))
+    (forms_in catalogue)
 
 abbrev pub imported_as : ℕ → List ℕ → Profile → Option Document → Change
 imported_as n bytes profile document =
-    change.Imported (record { number = n; namespace = namespace_in document; bytes = bytes; profile = profile })
+    change.Imported (record {
+      number = n;
+      namespace = namespace_in document;
+      bytes = bytes;
+      profile = profile;
+    })
     (map (package_row n) (packages_in document)) (map (extracted_row n) (references_in document))
 
 abbrev pub imported_change : Tables → List ℕ → Profile → Option Document → Change
-imported_change t bytes profile document = imported_as (length t.document + 1) bytes profile document
+imported_change t bytes profile document = imported_as (length t.document + 1) bytes profile
+    document
 
 abbrev pub opened_change : Tables → List ℕ → List ℕ → Change
-opened_change t r form = change.Opened (record { name = r; place = length t.releases + 1; form = form; state = release.IsOpen; revision = 0 })
+opened_change t r form = change.Opened
+    (record {
+      name = r;
+      place = length t.releases + 1;
+      form = form;
+      state = release.IsOpen;
+      revision = 0;
+    })
 
 abbrev pub chosen_change : List ℕ → ℕ → List ℕ → List (List ℕ) → Change
 chosen_change r d p terms = change.Chosen r d p (map (choice_row r d p) terms)
@@ -272,12 +320,15 @@ abbrev pub froze_change : Tables → List ℕ → List ℕ → List FrozenRow �
 froze_change t r day rows new = froze_rows r (length t.catalogue) day rows new
 
 abbrev pub froze_as : Tables → List ℕ → List ℕ → List FrozenRow → List Owed → Change
-froze_as t r day rows owed = froze_change t r day rows (map new_duty (enumerate_from (length t.duty + 1) owed))
+froze_as t r day rows owed = froze_change t r day rows
+    (map new_duty (enumerate_from (length t.duty + 1) owed))
 
 -- the rows of a freeze of a release with this form
 abbrev pub freeze_change_found : Readings → Tables → List ℕ → List ℕ → List ℕ → Change
 freeze_change_found w t r form day =
-    froze_as t r day (frozen_for w t.adoption (rules_found t) form r (choice_found t r) (shipped_found t r)) (owed_for w t.adoption (rules_found t) form r (choice_found t r) (shipped_found t r))
+    froze_as t r day (frozen_for w t.adoption (rules_found t) form r (choice_found t r)
+    (shipped_found t r)) (owed_for w t.adoption (rules_found t) form r (choice_found t r)
+    (shipped_found t r))
 
 -- one move of a duty
 abbrev pub moved_change : Tables → ℕ → Move → Change
@@ -288,14 +339,18 @@ abbrev pub next_row : Move → Standing → ChangeRow
 next_row m s = change_row s.number (s.steps + 1) m
 
 abbrev pub withdrawn_rows : List ℕ → List ℕ → List Standing → List ChangeRow
-withdrawn_rows day text all = map (next_row (record { day = day; word = word.Withdrawn; body = text; last_day = None })) (filter is_unmet all)
+withdrawn_rows day text all = map
+    (next_row (record { day = day; word = word.Withdrawn; body = text; last_day = None }))
+    (filter is_unmet all)
 
 abbrev pub ended_rows : List ℕ → List Standing → List ChangeRow
-ended_rows day all = map (next_row (record { day = day; word = word.Ended; body = []; last_day = None })) all
+ended_rows day all = map (next_row
+    (record { day = day; word = word.Ended; body = []; last_day = None })) all
 
 abbrev pub change_for : Readings → Tables → Command → Change
 change_for w t (LoadCatalogue text) = loaded_change t text (result_ok (w.catalogue text))
-change_for w t (Import bytes profile) = imported_change t bytes profile (result_ok (w.document bytes))
+change_for w t (Import bytes profile) = imported_change t bytes profile
+    (result_ok (w.document bytes))
 change_for w t (OpenRelease r form) = opened_change t r form
 change_for w t (Attach r d) = change.Attached (record { release = r; document = d })
 change_for w t (Choose r d p texts) = chosen_change r d p (term_set w texts)
@@ -303,10 +358,14 @@ change_for w t (Freeze r day) = froze_change t r day (frozen_found w t r) (new_d
 change_for w t (Unchoose r d p) = chosen_change r d p []
 change_for w t (Conclude d p text) = change.Concluded (conclusion_row d p text)
 change_for w t (Adopt d reference licence) = change.Adopted (adoption_row w d reference licence)
-change_for w t (Meet q day text) = moved_change t q (record { day = day; word = word.Met; body = text; last_day = None })
-change_for w t (Waive q day text until) = moved_change t q (record { day = day; word = word.Waived; body = text; last_day = until })
-change_for w t (Reopen q day text) = moved_change t q (record { day = day; word = word.Reopened; body = text; last_day = None })
-change_for w t (Withdraw r day text) = change.Withdrew r (withdrawn_rows day text (standings_found t r))
+change_for w t (Meet q day text) = moved_change t q
+    (record { day = day; word = word.Met; body = text; last_day = None })
+change_for w t (Waive q day text until) = moved_change t q
+    (record { day = day; word = word.Waived; body = text; last_day = until })
+change_for w t (Reopen q day text) = moved_change t q
+    (record { day = day; word = word.Reopened; body = text; last_day = None })
+change_for w t (Withdraw r day text) = change.Withdrew r
+    (withdrawn_rows day text (standings_found t r))
 change_for w t (CloseDay day) = change.Moved (ended_rows day (ended_found t day))
 
 -- the rows after an answer
@@ -317,7 +376,8 @@ noted_by a c t = if is_recorded a then applied c t else t
 abbrev pub rows_noted : Readings → Tables → Command → Tables
 rows_noted w t c = noted_by (answer_from w t c) (change_for w t c) t
 
--- What a store reports about an import with a namespace: its number, and whether its bytes are these
+-- What a store reports about an import with a namespace: its number, and whether its bytes are
+-- these
 abbrev pub known_import : List ℕ → DocumentRow → ℕ × Bool
 known_import bytes row = (row.number, bytes_eq row.bytes bytes)
 
@@ -335,14 +395,16 @@ open_found t row = open_duties (λ q. filter (is_change_of q) t.changes) t.duty 
 
 -- the refusals for a package that a release with this form ships
 abbrev pub refusals_found : Readings → Tables → List ℕ → List ℕ → PackageRow → List Refusal
-refusals_found w t r form p = package_refusals w t.adoption (rules_found t) form (conclusion_found w t p) (choice_found t r p) p
+refusals_found w t r form p = package_refusals w t.adoption (rules_found t) form
+    (conclusion_found w t p) (choice_found t r p) p
 
 -- what Wanting looks up in tables
 abbrev pub obstacles_found : Readings → Tables → List ℕ → Obstacles
 obstacles_found w t r = record {
   state = state_found t r;
   attached = length (attached_to t.attached r);
-  refusals = shipped_refusals w t.adoption (rules_found t) (form_found t r) (conclusion_found w t) (choice_found t r) (shipped_found t r);
+  refusals = shipped_refusals w t.adoption (rules_found t) (form_found t r) (conclusion_found w t)
+      (choice_found t r) (shipped_found t r);
 }
 
 -- what Alternatives and Cheapest look up in tables
@@ -356,21 +418,29 @@ listing_found w t d p = record {
 -- the answer to a query
 abbrev pub queried_from : Readings → Tables → Query → Answer
 queried_from w t (query.Duties r) =
-    if is_some (release_found t r) then answered.Duties (map (line_found t) (filter (is_duty_of r) t.duty))
+    if is_some (release_found t r)
+    then answered.Duties (map (line_found t) (filter (is_duty_of r) t.duty))
     else answered.Refused why.UnknownRelease
 queried_from w t (query.Totals r) =
-    if is_some (release_found t r) then answered.Totals (totals_of (filter (is_duty_of r) t.duty)) else answered.Refused why.UnknownRelease
+    if is_some (release_found t r) then answered.Totals (totals_of (filter (is_duty_of r) t.duty))
+    else answered.Refused why.UnknownRelease
 queried_from w t (query.Changes q) =
-    if is_some (duty_found t q) then answered.Changes (filter (is_change_of q) t.changes) else answered.Refused why.UnknownDuty
+    if is_some (duty_found t q) then answered.Changes (filter (is_change_of q) t.changes)
+    else answered.Refused why.UnknownDuty
 queried_from w t (query.Findings d) = findings_answer w (find (is_document d) t.document)
 queried_from w t (query.Release r) =
-    option_map_or (λ row. answered.Release row (map (package_line (conclusion_found w t) (choice_found t r)) (shipped_found t r))) (release_found t r)
+    option_map_or (λ row. answered.Release row
+    (map (package_line (conclusion_found w t) (choice_found t r)) (shipped_found t r)))
+    (release_found t r)
     (answered.Refused why.UnknownRelease)
 queried_from w t (query.Alternatives d p) = alternatives_answer w (listing_found w t d p)
 queried_from w t (query.Cheapest d p form) =
-    cheapest_answer w (list_any (bytes_eq form) t.forms) (term_cost w t.adoption (rules_found t) form) (listing_found w t d p)
+    cheapest_answer w (list_any (bytes_eq form) t.forms)
+    (term_cost w t.adoption (rules_found t) form) (listing_found w t d p)
 queried_from w t (query.Bill r) =
-    option_map_or (λ row. bill_answer (bill_of w t.catalogue t.extracted t.frozen (shipped_found t r) row) row.state) (release_found t r)
+    option_map_or (λ row. bill_answer
+    (bill_of w t.catalogue t.extracted t.frozen (shipped_found t r) row) row.state)
+    (release_found t r)
     (answered.Refused why.UnknownRelease)
 queried_from w t query.Releases = answered.Releases (map (release_line t.duty) t.releases)
 queried_from w t query.Documents = answered.Documents (map (document_line t.packages) t.document)

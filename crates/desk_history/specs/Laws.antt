@@ -1,5 +1,6 @@
 -- Laws of the recorded history, in the subject's own words.
-use Rattle.std.specs.Prelude.{◌≡◌, ℕ, ◌+◌, ◌<◌, nat_lt, Bool, true, false, List, [], ◌∷◌, ◌++◌, length, map, filter, find, Some, None, Ok, unwrap_or}
+use Rattle.std.specs.Prelude.{◌≡◌, ℕ, ◌+◌, ◌<◌, nat_lt, Bool, true, false, List, [], ◌∷◌, ◌++◌}
+use Rattle.std.specs.Prelude.{length, map, filter, find, Some, None, Ok, unwrap_or}
 use Rattle.std.specs.List.{filter_map, last_or, enumerate_from}
 use Rattle.std.specs.Option.{option_map}
 use Rattle.std.specs.Ordering.{nat_cmp, on, then_cmp}
@@ -7,7 +8,9 @@ use Rattle.std.specs.Cmp.Lexicographic.{slice_cmp}
 use Rattle.std.specs.declared.cmp.Ordering.{Ordering}
 use Rattle.desk_model.specs.Lists.{IsIn}
 use Rattle.desk_model.specs.Readings.{Readings}
-use Rattle.desk_model.specs.Keys.{below_by, release_below, attached_order, choice_order, frozen_order, conclusion_order, adoption_order, change_below, is_package, is_document, is_change_of, package_order, rule_order}
+use Rattle.desk_model.specs.Keys.{below_by, release_below, attached_order, choice_order}
+use Rattle.desk_model.specs.Keys.{frozen_order, conclusion_order, adoption_order, change_below}
+use Rattle.desk_model.specs.Keys.{is_package, is_document, is_change_of, package_order, rule_order}
 use Rattle.desk_model.specs.Texts.{is_before, sorted_set, text_below}
 use Rattle.desk_model.specs.History.{documents, packages, choice, form_of, in_force, rules_in}
 use Rattle.desk_model.specs.Conclusions.{adoptions}
@@ -37,8 +40,10 @@ use Rattle.desk_model.specs.declared.state.Word.TheVariants as word
 use Rattle.desk_model.specs.declared.command.Command.{Command}
 use Rattle.desk_model.specs.declared.command.Command.TheVariants.{Freeze}
 
--- a choice that was recorded after these commands: the package has a concluded expression, of which the terms are a minimal set
-pub record IsMinimalChoice (w : Readings) (before : List Command) (d : ℕ) (p : List ℕ) (texts : List (List ℕ)) : Type 0 where
+-- a choice that was recorded after these commands: the package has a concluded expression, of which
+-- the terms are a minimal set
+pub record IsMinimalChoice (w : Readings) (before : List Command) (d : ℕ) (p : List ℕ)
+    (texts : List (List ℕ)) : Type 0 where
   pub document : DocumentRow
   pub row : PackageRow
   pub concluded : Conclusion
@@ -47,8 +52,10 @@ pub record IsMinimalChoice (w : Readings) (before : List Command) (d : ℕ) (p :
   pub concludes : conclusion w before row ≡ Some concluded
   pub minimal : w.verdict concluded.profile concluded.text (filter_map w.term texts) ≡ Minimal
 
--- terms that are held for a package after these commands: the package has a concluded expression now, of which they are a minimal set
-pub record IsHeldMinimal (w : Readings) (h : List Command) (d : ℕ) (p : List ℕ) (terms : List (List ℕ)) : Type 0 where
+-- terms that are held for a package after these commands: the package has a concluded expression
+-- now, of which they are a minimal set
+pub record IsHeldMinimal (w : Readings) (h : List Command) (d : ℕ) (p : List ℕ)
+    (terms : List (List ℕ)) : Type 0 where
   pub document : DocumentRow
   pub row : PackageRow
   pub concluded : Conclusion
@@ -59,8 +66,8 @@ pub record IsHeldMinimal (w : Readings) (h : List Command) (d : ℕ) (p : List �
   pub set : terms ≡ sorted_set listed
   pub minimal : w.verdict concluded.profile concluded.text listed ≡ Minimal
 
--- A duty with its number: a freeze of a release is in the history and raises it, and the numbers of what a freeze raises continue after all that the freezes
--- before it raised.
+-- A duty with its number: a freeze of a release is in the history and raises it, and the numbers of
+-- what a freeze raises continue after all that the freezes before it raised.
 pub record IsNumbered (w : Readings) (h : List Command) (d : ℕ × Owed) : Type 0 where
   pub later : List Command
   pub before : List Command
@@ -69,8 +76,9 @@ pub record IsNumbered (w : Readings) (h : List Command) (d : ℕ × Owed) : Type
   pub split : h ≡ later ++ Freeze release day ∷ before
   pub raises : IsIn d (enumerate_from (1 + length (raised w before)) (owed_at w before release))
 
--- A term that a release was frozen with: a freeze of the release is in the history, and before it a document that ships the package was attached, the term was
--- held for it, and the catalogue then in force had a rule for the term's adopted form.
+-- A term that a release was frozen with: a freeze of the release is in the history, and before it a
+-- document that ships the package was attached, the term was held for it, and the catalogue then in
+-- force had a rule for the term's adopted form.
 pub record IsFrozenTerm (w : Readings) (h : List Command) (f : FrozenRow) : Type 0 where
   pub later : List Command
   pub before : List Command
@@ -82,7 +90,8 @@ pub record IsFrozenTerm (w : Readings) (h : List Command) (f : FrozenRow) : Type
   pub document : f.document ≡ row.document
   pub package_id : f.package_id ≡ row.id
   pub chosen : IsIn f.term (choice w before f.release row.document row.id)
-  pub ruled : rule_adopted w (adoptions w before) (rules_in (in_force w before)) (unwrap_or (form_of before f.release) []) row.document f.term ≡ Some rule
+  pub ruled : rule_adopted w (adoptions w before) (rules_in (in_force w before))
+      (unwrap_or (form_of before f.release) []) row.document f.term ≡ Some rule
   pub spelled : f.rule ≡ rule.spelled
 
 -- no row comes after one that it should precede
@@ -99,8 +108,9 @@ document_below a b = nat_lt a.number b.number
 abbrev pub duty_below : DutyRow → DutyRow → Bool
 duty_below a b = nat_lt a.number b.number
 
--- revisions, documents and duties by number, conclusions by document and package, adoptions by document and reference, releases by name, attached documents by
--- release and number, chosen and frozen terms by release, document, package and term, changes by duty and step
+-- revisions, documents and duties by number, conclusions by document and package, adoptions by
+-- document and reference, releases by name, attached documents by release and number, chosen and
+-- frozen terms by release, document, package and term, changes by duty and step
 pub record AreSorted (t : Tables) : Type 0 where
   pub catalogue : Ascends revision_below t.catalogue
   pub document : Ascends document_below t.document
@@ -122,14 +132,18 @@ AreDistinct (x ∷ xs) = (¬ IsIn x xs) × AreDistinct xs
 abbrev pub key_of : DutyRow → List ℕ × ℕ × List ℕ × List ℕ × List ℕ
 key_of duty = (duty.release, duty.document, duty.package_id, duty.term, duty.code)
 
--- a reading that lists nothing twice: the packages of a document have different ids, and the codes of a rule are different
+-- a reading that lists nothing twice: the packages of a document have different ids, and the codes
+-- of a rule are different
 pub record ListsOnce (w : Readings) : Type 0 where
-  pub packages : (bytes : List ℕ) (document : Document) → w.document bytes ≡ Ok document → AreDistinct (map (λ p. p.id) document.packages)
-  pub codes : (text : List ℕ) (catalogue : Catalogue) (rule : Rule) → w.catalogue text ≡ Ok catalogue → IsIn rule catalogue.rules → AreDistinct rule.codes
+  pub packages : (bytes : List ℕ) (document : Document) → w.document bytes ≡ Ok document
+      → AreDistinct (map (λ p. p.id) document.packages)
+  pub codes : (text : List ℕ) (catalogue : Catalogue) (rule : Rule)
+      → w.catalogue text ≡ Ok catalogue → IsIn rule catalogue.rules → AreDistinct rule.codes
 
 -- the state of a duty is the one in which the last of its changes left it
 abbrev pub IsToldBy : List ChangeRow → DutyRow → Type 0
-IsToldBy changes duty = option_map (λ change. state_after change.word) (last_or None (filter (is_change_of duty.number) changes)) ≡ Some duty.state
+IsToldBy changes duty = option_map (λ change. state_after change.word)
+    (last_or None (filter (is_change_of duty.number) changes)) ≡ Some duty.state
 
 -- the last move of a duty is a waiver whose last day is before this day
 pub record IsOver (w : Readings) (h : List Command) (day : List ℕ) (q : ℕ) : Type 0 where
@@ -153,12 +167,17 @@ package_below a b = text_below a.id b.id
 abbrev pub reference_below : Reference → Reference → Bool
 reference_below a b = text_below a.id b.id
 
--- a reading that lists in order, and nothing twice: the rules of a catalogue, the codes of a rule, the packages and the references of a document
+-- a reading that lists in order, and nothing twice: the rules of a catalogue, the codes of a rule,
+-- the packages and the references of a document
 pub record ListsInOrder (w : Readings) : Type 0 where
-  pub rules : (text : List ℕ) (catalogue : Catalogue) → w.catalogue text ≡ Ok catalogue → Rises (below_by rule_order) catalogue.rules
-  pub codes : (text : List ℕ) (catalogue : Catalogue) (rule : Rule) → w.catalogue text ≡ Ok catalogue → IsIn rule catalogue.rules → Rises text_below rule.codes
-  pub packages : (bytes : List ℕ) (document : Document) → w.document bytes ≡ Ok document → Rises package_below document.packages
-  pub references : (bytes : List ℕ) (document : Document) → w.document bytes ≡ Ok document → Rises reference_below document.references
+  pub rules : (text : List ℕ) (catalogue : Catalogue) → w.catalogue text ≡ Ok catalogue
+      → Rises (below_by rule_order) catalogue.rules
+  pub codes : (text : List ℕ) (catalogue : Catalogue) (rule : Rule)
+      → w.catalogue text ≡ Ok catalogue → IsIn rule catalogue.rules → Rises text_below rule.codes
+  pub packages : (bytes : List ℕ) (document : Document) → w.document bytes ≡ Ok document
+      → Rises package_below document.packages
+  pub references : (bytes : List ℕ) (document : Document) → w.document bytes ≡ Ok document
+      → Rises reference_below document.references
 
 abbrev pub rule_row_order : RuleRow → RuleRow → Ordering
 rule_row_order =
@@ -166,9 +185,11 @@ rule_row_order =
     (then_cmp (on (λ row. row.term) (slice_cmp nat_cmp)) (on (λ row. row.form) (slice_cmp nat_cmp)))
 
 abbrev pub extracted_order : ExtractedRow → ExtractedRow → Ordering
-extracted_order = then_cmp (on (λ row. row.document) nat_cmp) (on (λ row. row.reference) (slice_cmp nat_cmp))
+extracted_order = then_cmp (on (λ row. row.document) nat_cmp)
+    (on (λ row. row.reference) (slice_cmp nat_cmp))
 
--- rules by revision, term and form, packages by document and id, extracted licences by document and reference, no two with one key
+-- rules by revision, term and form, packages by document and id, extracted licences by document and
+-- reference, no two with one key
 pub record AreSortedAsListed (t : Tables) : Type 0 where
   pub rule : Rises (below_by rule_row_order) t.rule
   pub packages : Rises (below_by package_order) t.packages
@@ -177,25 +198,32 @@ pub record AreSortedAsListed (t : Tables) : Type 0 where
 -- what one release owes, by document, package, term and code
 abbrev pub owed_order : Owed → Owed → Ordering
 owed_order =
-    then_cmp (on (λ owed. owed.document) nat_cmp) (then_cmp (on (λ owed. owed.package_id) (slice_cmp nat_cmp))
-    (then_cmp (on (λ owed. owed.term) (slice_cmp nat_cmp)) (on (λ owed. owed.code) (slice_cmp nat_cmp))))
+    then_cmp (on (λ owed. owed.document) nat_cmp)
+    (then_cmp (on (λ owed. owed.package_id) (slice_cmp nat_cmp))
+    (then_cmp (on (λ owed. owed.term) (slice_cmp nat_cmp))
+    (on (λ owed. owed.code) (slice_cmp nat_cmp))))
 
 -- the duties of one release, by document, package, term and code
 abbrev pub duty_order : DutyRow → DutyRow → Ordering
 duty_order =
-    then_cmp (on (λ duty. duty.document) nat_cmp) (then_cmp (on (λ duty. duty.package_id) (slice_cmp nat_cmp))
-    (then_cmp (on (λ duty. duty.term) (slice_cmp nat_cmp)) (on (λ duty. duty.code) (slice_cmp nat_cmp))))
+    then_cmp (on (λ duty. duty.document) nat_cmp)
+    (then_cmp (on (λ duty. duty.package_id) (slice_cmp nat_cmp))
+    (then_cmp (on (λ duty. duty.term) (slice_cmp nat_cmp))
+    (on (λ duty. duty.code) (slice_cmp nat_cmp))))
 
 -- of two duties of one release the one with the smaller number comes first
 abbrev pub AreNumberedInOrder : List DutyRow → Type 0
-AreNumberedInOrder duties = (a b : DutyRow) → IsIn a duties → IsIn b duties → a.release ≡ b.release → a.number < b.number → below_by duty_order a b ≡ true
+AreNumberedInOrder duties = (a b : DutyRow) → IsIn a duties → IsIn b duties → a.release ≡ b.release
+    → a.number < b.number → below_by duty_order a b ≡ true
 
--- A duty with its number: a freeze of its release is in the history and raises it, and its number is one more than the number of duties that the freezes before
--- it raised or that come before it in its own freeze.
+-- A duty with its number: a freeze of its release is in the history and raises it, and its number
+-- is one more than the number of duties that the freezes before it raised or that come before it in
+-- its own freeze.
 pub record IsCounted (w : Readings) (h : List Command) (d : ℕ × Owed) : Type 0 where
   pub later : List Command
   pub before : List Command
   pub day : List ℕ
   pub split : h ≡ later ++ Freeze d.1.release day ∷ before
   pub raises : IsIn d.1 (owed_at w before d.1.release)
-  pub number : d.0 ≡ length (raised w before) + length (filter (λ owed. below_by owed_order owed d.1) (owed_at w before d.1.release)) + 1
+  pub number : d.0 ≡ length (raised w before)
+      + length (filter (λ owed. below_by owed_order owed d.1) (owed_at w before d.1.release)) + 1

@@ -1,5 +1,6 @@
 -- The rows of a recorded history are within the limits.
-use Rattle.std.proofs.Common.{◌≡◌, ℕ, ◌+◌, ◌≤◌, true, List, [], ◌∷◌, ◌++◌, length, map, Option, Some, None, sym, refl, ap, ◌∙◌, subst, arith, length-append, inl, inr}
+use Rattle.std.proofs.Common.{◌≡◌, ℕ, ◌+◌, ◌≤◌, true, List, [], ◌∷◌, ◌++◌, length, map, Option}
+use Rattle.std.proofs.Common.{Some, None, sym, refl, ap, ◌∙◌, subst, arith, length-append, inl, inr}
 use Rattle.std.specs.Prelude.{IfSome, IsTrue, not, nat_le, ◌&&◌}
 use Rattle.std.specs.List.{enumerate_from}
 use Rattle.std.specs.Option.{option_map_or}
@@ -38,7 +39,11 @@ use Rattle.desk_snapshot.specs.Conditions.{AreNumbered}
 use Rattle.desk_snapshot.specs.Tables.{change_stored, duty_stored, snapshot_of}
 use Rattle.desk_snapshot.specs.declared.rows.StoredChange.{StoredChange}
 use Rattle.desk_history_laws.specs.Within.{AreWithin}
-use Rattle.desk_history_laws.proofs.Bounds.{adoptions_within, attached_within, attachment_within, conclusions_within, documents_within, few_documents, few_opened, few_revisions, frozen_within, later_documents, packages_within, references_within, revisions_within, rules_within}
+use Rattle.desk_history_laws.proofs.Bounds.{adoptions_within, attached_within, attachment_within}
+use Rattle.desk_history_laws.proofs.Bounds.{conclusions_within, documents_within, few_documents}
+use Rattle.desk_history_laws.proofs.Bounds.{few_opened, few_revisions, frozen_within}
+use Rattle.desk_history_laws.proofs.Bounds.{later_documents, packages_within, references_within}
+use Rattle.desk_history_laws.proofs.Bounds.{revisions_within, rules_within}
 use Rattle.desk_history_laws.proofs.Distinct.{place_within}
 use Rattle.desk_history_laws.proofs.HeldRows.{FromSet, held_for}
 use Rattle.desk_history_laws.proofs.Kept.{ChosenRows, WereHeld}
@@ -53,27 +58,45 @@ pub record Laws : Type 0 where
   pub chosen : ChosenRows
   pub were : WereHeld
   pub raised : (w : Readings) (h : List Command) (d : Owed) → IsIn d (raised w h) → IsRaised w h d
-  pub numbered : (w : Readings) (h : List Command) → IsHistory w h → AreNumbered (snapshot_of (tables w h))
-  pub few : (w : Readings) (h : List Command) → IsHistory w h → (q : ℕ) → length (changes w h q) ≤ 1001
+  pub numbered : (w : Readings) (h : List Command) → IsHistory w h
+      → AreNumbered (snapshot_of (tables w h))
+  pub few : (w : Readings) (h : List Command) → IsHistory w h → (q : ℕ)
+      → length (changes w h q) ≤ 1001
 
 -- ---- what releases were frozen with
 
 -- a package that a release shipped before these commands is of a document that exists after them
-shipped_within : (w : Readings) (h later before : List Command) (r day : List ℕ) (p : PackageRow) → h ≡ later ++ Freeze r day ∷ before → IsIn p (packages w before) → p.document ≤ length (documents w h)
+shipped_within : (w : Readings) (h later before : List Command) (r day : List ℕ) (p : PackageRow)
+    → h ≡ later ++ Freeze r day ∷ before → IsIn p (packages w before)
+    → p.document ≤ length (documents w h)
 shipped_within w h later before r day p split m =
     let stood = packages_within w before p m in
     let after = later_documents w later (Freeze r day ∷ before) in
-    subst (λ (h : List Command). p.document ≤ length (documents w h)) (sym split) (omega (arith, stood, after))
+    subst (λ (h : List Command). p.document ≤ length (documents w h)) (sym split)
+    (omega (arith, stood, after))
 
-frozen_documents : WereHeld → (w : Readings) (h : List Command) (row : FrozenRow) → IsIn row (frozen w h) → row.document ≤ length (documents w h)
+frozen_documents : WereHeld → (w : Readings) (h : List Command) (row : FrozenRow)
+    → IsIn row (frozen w h) → row.document ≤ length (documents w h)
 frozen_documents were w h row m =
     let is = were w h row m in
-    omega (arith, is.document, shipped_within w h is.later is.before row.release is.day is.row is.split (from_shipped w is.before row.release is.row is.ships).listed)
+    omega (
+      arith,
+      is.document,
+      shipped_within w h is.later is.before row.release is.day is.row is.split
+          (from_shipped w is.before row.release is.row is.ships).listed,
+    )
 
-owed_documents : ((w : Readings) (h : List Command) (d : Owed) → IsIn d (raised w h) → IsRaised w h d) → (w : Readings) (h : List Command) (d : Owed) → IsIn d (raised w h) → d.document ≤ length (documents w h)
+owed_documents : ((w : Readings) (h : List Command) (d : Owed) → IsIn d (raised w h)
+    → IsRaised w h d) → (w : Readings) (h : List Command) (d : Owed) → IsIn d (raised w h)
+    → d.document ≤ length (documents w h)
 owed_documents raised w h d m =
     let is = raised w h d m in
-    omega (arith, is.document, shipped_within w h is.later is.before d.release is.day is.row is.split (from_shipped w is.before d.release is.row is.ships).listed)
+    omega (
+      arith,
+      is.document,
+      shipped_within w h is.later is.before d.release is.day is.row is.split
+          (from_shipped w is.before d.release is.row is.ships).listed,
+    )
 
 -- ---- duties
 
@@ -82,35 +105,51 @@ length-numbered n [] = refl
 length-numbered n (x ∷ xs) = omega (arith, length-numbered (n + 1) xs)
 
 length-duties : (w : Readings) (h : List Command) → length (duties w h) ≡ length (raised w h)
-length-duties w h = length-map (numbered w h) (λ (d : ℕ × Owed). duty_row (place w h d.0) d) ∙ length-numbered 1 (raised w h)
+length-duties w h = length-map (numbered w h) (λ (d : ℕ × Owed). duty_row (place w h d.0) d)
+    ∙ length-numbered 1 (raised w h)
 
 le : (a b : ℕ) → nat_le a b ≡ true → a ≤ b
 le a b e = grind (arith, nat_tests)
 
-few_duties : (w : Readings) (h : List Command) → AreNumbered (snapshot_of (tables w h)) → length (duties w h) ≤ most.duties
-few_duties w h are = omega (arith, le (length (map duty_stored (duties w h))) 100000 are.few, length-map (duties w h) duty_stored)
+few_duties : (w : Readings) (h : List Command) → AreNumbered (snapshot_of (tables w h))
+    → length (duties w h) ≤ most.duties
+few_duties w h are = omega (
+  arith,
+  le (length (map duty_stored (duties w h))) 100000 are.few,
+  length-map (duties w h) duty_stored,
+)
 
 -- ---- changes
 
 length-changes : (q : ℕ) (ms : List Move) → length (change_rows q ms) ≡ length ms
 length-changes q [] = refl
-length-changes q (m ∷ ms) = omega (arith, length-changes q ms, length-append (change_rows q ms) (change_row q (length ms + 1) m ∷ []))
+length-changes q (m ∷ ms) = omega (
+  arith,
+  length-changes q ms,
+  length-append (change_rows q ms) (change_row q (length ms + 1) m ∷ []),
+)
 
 abbrev Dated : ChangeRow → Type 0
 Dated row = IsTrue (is_day row.day) × IfSome row.last_day (λ day. IsTrue (is_day day))
 
-end_dated : (row : StoredChange) (end : Option (List ℕ)) → option_map_or (is_waiver_of row) end true ≡ true → IfSome end (λ day. IsTrue (is_day day))
+end_dated : (row : StoredChange) (end : Option (List ℕ))
+    → option_map_or (is_waiver_of row) end true ≡ true → IfSome end (λ day. IsTrue (is_day day))
 end_dated row None e = tt
 end_dated row (Some day) e =
-    and_left (is_day day) (not (is_before day row.day)) (and_right (bytes_eq row.word (word_name Waived)) (is_day day && not (is_before day row.day)) e)
+    and_left (is_day day) (not (is_before day row.day))
+    (and_right (bytes_eq row.word (word_name Waived)) (is_day day && not (is_before day row.day)) e)
 
-dated : (q : ℕ) (ms : List Move) → IsRun ms → (row : ChangeRow) → IsIn row (change_rows q ms) → Dated row
+dated : (q : ℕ) (ms : List Move) → IsRun ms → (row : ChangeRow) → IsIn row (change_rows q ms)
+    → Dated row
 dated q [] run row m = absurd m
 dated q (move ∷ ms) run row m =
     elim (in_cases row (change_rows q ms) (change_row q (length ms + 1) move ∷ []) m) [
       | inl old ↦ dated q ms run.2 row old
       | inr here ↦ (elim here [
-        | inl same ↦ subst Dated same (and_left (is_day move.day) _ run.1.0, end_dated (change_stored (change_row 0 0 move)) move.last_day run.1.1)
+        | inl same ↦ subst Dated same (
+          and_left (is_day move.day) _ run.1.0,
+          end_dated (change_stored (change_row 0 0 move)) move.last_day run.1.1,
+        )
         | inr none ↦ absurd none
       ])
     ]
@@ -121,7 +160,9 @@ record IsChange (w : Readings) (h : List Command) (row : ChangeRow) : Type 0 whe
   day : IsTrue (is_day row.day)
   last_day : IfSome row.last_day (λ day. IsTrue (is_day day))
 
-change_is : (w : Readings) (h : List Command) → IsHistory w h → ((q : ℕ) → length (changes w h q) ≤ 1001) → (row : ChangeRow) → IsIn row (all_changes w h) → IsChange w h row
+change_is : (w : Readings) (h : List Command) → IsHistory w h
+    → ((q : ℕ) → length (changes w h q) ≤ 1001) → (row : ChangeRow) → IsIn row (all_changes w h)
+    → IsChange w h row
 change_is w h ok few row m =
     let at = from_flat_map (λ (d : ℕ × Owed). changes w h d.0) row (numbered w h) m in
     let d = at.0 in
@@ -139,8 +180,10 @@ change_is w h ok few row m =
 
 pub within : Laws → (w : Readings) (h : List Command) → IsHistory w h → AreWithin (tables w h)
 within laws w h ok =
-    let named = λ (row : ReleaseRow) (m : IsIn row (release_rows h)). from_map (release_row h) row (names h) m in
-    let raised_as = λ (row : DutyRow) (m : IsIn row (duties w h)). from_map (λ (d : ℕ × Owed). duty_row (place w h d.0) d) row (numbered w h) m in
+    let named = λ (row : ReleaseRow) (m : IsIn row (release_rows h)). from_map (release_row h) row
+    (names h) m in
+    let raised_as = λ (row : DutyRow) (m : IsIn row (duties w h)). from_map
+    (λ (d : ℕ × Owed). duty_row (place w h d.0) d) row (numbered w h) m in
     let change = change_is w h ok (laws.few w h ok) in
     record {
       revisions = few_revisions w h ok;
@@ -154,19 +197,39 @@ within laws w h ok =
       extracted = each_in _ (references w h) (references_within w h);
       conclusion = each_in _ (conclusions h) (conclusions_within w h ok);
       adoption = each_in _ (adoptions w h) (adoptions_within w h ok);
-      places = each_in _ (release_rows h) (λ row m. let at = named row m in omega (arith, place_within (opened h) at.0, length-releases h, ap (λ (row : ReleaseRow). row.place) at.2));
-      frozen_by = each_in _ (release_rows h) (λ row m. let at = named row m in omega (arith, frozen_within h at.0, ap (λ (row : ReleaseRow). row.revision) at.2));
+      places = each_in _ (release_rows h)
+          (λ row m. let at = named row m in
+          omega (
+            arith,
+            place_within (opened h) at.0,
+            length-releases h,
+            ap (λ (row : ReleaseRow). row.place) at.2,
+          ));
+      frozen_by = each_in _ (release_rows h)
+          (λ row m. let at = named row m in
+          omega (arith, frozen_within h at.0, ap (λ (row : ReleaseRow). row.revision) at.2));
       attached = each_in _ (attached h) (attached_within w h ok);
       choice = each_in _ (choices w h) (λ row m.
-          let held = held_for laws.from_set w h row.release row.document row.package_id row.term ok (laws.chosen w h row m) in
+          let held = held_for laws.from_set w h row.release row.document row.package_id row.term ok
+          (laws.chosen w h row m) in
           attachment_within w h ok row.release row.document held.attached);
-      frozen = each_in _ _ (λ row m. frozen_documents laws.were w h row (from_order (below_by frozen_order) row (frozen w h) m));
+      frozen = each_in _ _ (λ row m. frozen_documents laws.were w h row
+          (from_order (below_by frozen_order) row (frozen w h) m));
       duty = each_in _ (duties w h) (λ row m.
           let at = raised_as row m in
-          omega (arith, (in_numbers 1 (raised w h) at.0 at.1).1, length-duties w h, ap (λ (row : DutyRow). row.number) at.2));
+          omega (
+            arith,
+            (in_numbers 1 (raised w h) at.0 at.1).1,
+            length-duties w h,
+            ap (λ (row : DutyRow). row.number) at.2,
+          ));
       owed = each_in _ (duties w h) (λ row m.
           let at = raised_as row m in
-          omega (arith, owed_documents laws.raised w h at.0.1 (in_numbers 1 (raised w h) at.0 at.1).2, ap (λ (row : DutyRow). row.document) at.2));
+          omega (
+            arith,
+            owed_documents laws.raised w h at.0.1 (in_numbers 1 (raised w h) at.0 at.1).2,
+            ap (λ (row : DutyRow). row.document) at.2,
+          ));
       changes = each_in _ (all_changes w h) (λ row m. (change row m).duty);
       steps = each_in _ (all_changes w h) (λ row m. (change row m).step);
       days = each_in _ (all_changes w h) (λ row m. (change row m).day);

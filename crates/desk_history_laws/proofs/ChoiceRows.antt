@@ -22,14 +22,16 @@ pub record Laws : Type 0 where
   pub stands : Stands
   pub from_set : FromSet
   pub sets_rise : SetsRise
-  pub minimal : (w : Readings) (h : List Command) (r : List ℕ) (d : ℕ) (p : List ℕ) → IsHistory w h → (choice w h r d p ≡ [] → ⊥) → IsHeldMinimal w h d p (choice w h r d p)
+  pub minimal : (w : Readings) (h : List Command) (r : List ℕ) (d : ℕ) (p : List ℕ) → IsHistory w h
+      → (choice w h r d p ≡ [] → ⊥) → IsHeldMinimal w h d p (choice w h r d p)
   pub were : WereHeld
   pub chosen : ChosenRows
   pub rows : RowsOfChosen
   pub frozen_held : FrozenHeld
   pub held_frozen : HeldFrozen
 
-pub are_choices : Laws → (w : Readings) (h : List Command) → ReadsChoices w → IsHistory w h → AreChoices w (snapshot_of (tables w h))
+pub are_choices : Laws → (w : Readings) (h : List Command) → ReadsChoices w → IsHistory w h
+    → AreChoices w (snapshot_of (tables w h))
 are_choices laws w h reads ok =
     let s = snapshot_of (tables w h) in
     record {
@@ -41,8 +43,11 @@ are_choices laws w h reads ok =
           let c = at.0 in
           let there = laws.chosen w h c at.1 in
           let held = held_for laws.from_set w h c.release c.document c.package_id c.term ok there in
-          let is = laws.minimal w h c.release c.document c.package_id ok (λ e. subst (IsIn c.term) e there) in
-          subst (λ (row : StoredChoice). is_choice w s row ≡ true) at.2 (choice_held laws.from_set laws.stands laws.sets_rise w reads h ok c held is));
+          let is = laws.minimal w h c.release c.document c.package_id ok
+          (λ e. subst (IsIn c.term) e there) in
+          subst (λ (row : StoredChoice). is_choice w s row ≡ true) at.2
+          (choice_held laws.from_set laws.stands laws.sets_rise w reads h ok c held is));
       kept = each_in (IsKept s) (map release_stored (release_rows h))
-          (kept_terms laws.stands laws.sets_rise laws.were laws.chosen laws.rows laws.frozen_held laws.held_frozen w reads.packages h ok);
+          (kept_terms laws.stands laws.sets_rise laws.were laws.chosen laws.rows laws.frozen_held
+          laws.held_frozen w reads.packages h ok);
     }

@@ -20,8 +20,10 @@ AreSame ts us = (t : Term) → Contains ts t ↔ Contains us t
 
 with_first : (t : Term) (ts us : List Term) → AreSame ts us → AreSame (t ∷ ts) (t ∷ us)
 with_first t ts us same u = (
-  (λ at. elim (contains_cases t ts u at) [ inl e ↦ contains_here t us u e | inr m ↦ contains_there t us u ((same u).0 m) ]),
-  (λ at. elim (contains_cases t us u at) [ inl e ↦ contains_here t ts u e | inr m ↦ contains_there t ts u ((same u).1 m) ]),
+  (λ at. elim (contains_cases t ts u at)
+      [ inl e ↦ contains_here t us u e | inr m ↦ contains_there t us u ((same u).0 m) ]),
+  (λ at. elim (contains_cases t us u at)
+      [ inl e ↦ contains_here t ts u e | inr m ↦ contains_there t ts u ((same u).1 m) ]),
 )
 
 turned : (t u : Term) (ts : List Term) → AreSame (u ∷ t ∷ ts) (t ∷ u ∷ ts)
@@ -30,13 +32,17 @@ turned t u ts v = (swap t u, swap u t)
     swap : (a b : Term) → Contains (b ∷ a ∷ ts) v → Contains (a ∷ b ∷ ts) v
     swap a b at = elim (contains_cases b (a ∷ ts) v at) [
       | inl e ↦ contains_there a (b ∷ ts) v (contains_here b ts v e)
-      | inr m ↦ elim (contains_cases a ts v m) [ inl e ↦ contains_here a (b ∷ ts) v e | inr n ↦ contains_there a (b ∷ ts) v (contains_there b ts v n) ]
+      | inr m ↦ elim (contains_cases a ts v m) [
+        | inl e ↦ contains_here a (b ∷ ts) v e
+        | inr n ↦ contains_there a (b ∷ ts) v (contains_there b ts v n)
+      ]
     ]
 
 once : (t u : Term) (ts : List Term) → t ≡ u → AreSame (u ∷ ts) (t ∷ u ∷ ts)
 once t u ts e v = (
   contains_there t (u ∷ ts) v,
-  (λ at. elim (contains_cases t (u ∷ ts) v at) [ inl f ↦ contains_here u ts v (sym e ∙ f) | inr m ↦ m ]),
+  (λ at. elim (contains_cases t (u ∷ ts) v at)
+      [ inl f ↦ contains_here u ts v (sym e ∙ f) | inr m ↦ m ]),
 )
 
 chained : (ts us vs : List Term) → AreSame ts us → AreSame us vs → AreSame ts vs
@@ -46,21 +52,29 @@ chained ts us vs a b t = ((λ at. (b t).0 ((a t).0 at)), (λ at. (a t).1 ((b t).
 abbrev Spell : List (List ℕ) → List Term → Type 0
 Spell texts ts = (us : List Term) × AreTerms texts us × AreSame us ts
 
-put_spells : (x : List ℕ) (t : Term) (xs : List (List ℕ)) (ts : List Term) → SpellsTermWithin x t → AreTerms xs ts → Spell (put_new x xs) (t ∷ ts)
+put_spells : (x : List ℕ) (t : Term) (xs : List (List ℕ)) (ts : List Term) → SpellsTermWithin x t
+    → AreTerms xs ts → Spell (put_new x xs) (t ∷ ts)
 put_spells x t [] [] spells are = (t ∷ [], (spells, tt), λ u. ((λ at. at), (λ at. at)))
 put_spells x t [] (u ∷ ts) spells are = absurd are
 put_spells x t (y ∷ ys) [] spells are = absurd are
-put_spells x t (y ∷ ys) (u ∷ ts) spells are = by_place (put_spells x t ys ts spells are.1) (text_below x y) (bytes_eq x y) refl
+put_spells x t (y ∷ ys) (u ∷ ts) spells are = by_place (put_spells x t ys ts spells are.1)
+    (text_below x y) (bytes_eq x y) refl
   where
-    by_place : Spell (put_new x ys) (t ∷ ts) → (a b : Bool) → bytes_eq x y ≡ b → Spell (if a then x ∷ y ∷ ys else (if b then y ∷ ys else y ∷ put_new x ys)) (t ∷ u ∷ ts)
+    by_place : Spell (put_new x ys) (t ∷ ts) → (a b : Bool) → bytes_eq x y ≡ b
+        → Spell (if a then x ∷ y ∷ ys else (if b then y ∷ ys else y ∷ put_new x ys)) (t ∷ u ∷ ts)
     by_place rest true b e = (t ∷ u ∷ ts, (spells, are), λ v. ((λ at. at), (λ at. at)))
     by_place rest false true e =
-        let same : t ≡ u = spells_term_once Capitals y t u (subst (λ z. SpellsTermWithin z t) (texts_equal x y e) spells).1 are.0.1 in
+        let same : t ≡ u = spells_term_once Capitals y t u
+        (subst (λ z. SpellsTermWithin z t) (texts_equal x y e) spells).1 are.0.1 in
         (u ∷ ts, are, once t u ts same)
-    by_place (vs, spelled, same) false false e =
-        (u ∷ vs, (are.0, spelled), chained (u ∷ vs) (u ∷ t ∷ ts) (t ∷ u ∷ ts) (with_first u vs (t ∷ ts) same) (turned t u ts))
+    by_place (vs, spelled, same) false false e = (
+      u ∷ vs,
+      (are.0, spelled),
+      chained (u ∷ vs) (u ∷ t ∷ ts) (t ∷ u ∷ ts) (with_first u vs (t ∷ ts) same) (turned t u ts),
+    )
 
-pub set_spells : (texts : List (List ℕ)) (ts : List Term) → AreTerms texts ts → Spell (sorted_set texts) ts
+pub set_spells : (texts : List (List ℕ)) (ts : List Term) → AreTerms texts ts
+    → Spell (sorted_set texts) ts
 set_spells [] [] are = ([], tt, λ t. ((λ at. at), (λ at. at)))
 set_spells [] (t ∷ ts) are = absurd are
 set_spells (x ∷ xs) [] are = absurd are
@@ -73,5 +87,6 @@ set_spells (x ∷ xs) (t ∷ ts) are =
 pub minimal_alike : (ts us : List Term) (e : Tree) → AreSame us ts → IsMinimal ts e → IsMinimal us e
 minimal_alike ts us e same minimal = (
   holds_more (Contains ts) (Contains us) (λ t at. (same t).1 at) e minimal.0,
-  λ few proper h. minimal.1 few ((λ t at. (same t).0 (proper.0 t at)), proper.1, (same proper.1).0 proper.2, proper.3) h,
+  λ few proper h. minimal.1 few
+      ((λ t at. (same t).0 (proper.0 t at)), proper.1, (same proper.1).0 proper.2, proper.3) h,
 )

@@ -1,5 +1,6 @@
 -- No two rows of a table have the same key.
-use Rattle.std.proofs.Common.{◌≡◌, ℕ, ◌+◌, ◌≤◌, Bool, true, false, cond, List, [], ◌∷◌, length, map, Option, Some, None, sym, refl, ap, ◌∙◌, subst, arith, inl, inr}
+use Rattle.std.proofs.Common.{◌≡◌, ℕ, ◌+◌, ◌≤◌, Bool, true, false, cond, List, [], ◌∷◌, length, map}
+use Rattle.std.proofs.Common.{Option, Some, None, sym, refl, ap, ◌∙◌, subst, arith, inl, inr}
 use Rattle.std.specs.Prelude.{IsTrue, is_some, filter, find, not, ◌||◌, nat_lt, if◌then◌else◌, Result, Ok, Err}
 use Rattle.std.specs.List.{list_any, enumerate_from}
 use Rattle.std.specs.Option.{option_and_then, option_map, option_map_or}
@@ -18,10 +19,13 @@ use Rattle.desk_base.specs.declared.profile.Profile.{Profile}
 use Rattle.desk_model.specs.Lists.{IsIn, put, replaced}
 use Rattle.desk_model.specs.Readings.{Readings}
 use Rattle.desk_model.specs.Texts.{text_below}
-use Rattle.desk_model.specs.Keys.{adoption_order, attached_order, below_by, choice_order, conclusion_order, frozen_order, has_namespace, is_adoption, is_attachment, is_conclusion, package_order}
+use Rattle.desk_model.specs.Keys.{adoption_order, attached_order, below_by, choice_order}
+use Rattle.desk_model.specs.Keys.{conclusion_order, frozen_order, has_namespace, is_adoption}
+use Rattle.desk_model.specs.Keys.{is_attachment, is_conclusion, package_order}
 use Rattle.desk_model.specs.History.{attached, documents, form_of, names, namespace_in, opened, place_in}
 use Rattle.desk_model.specs.Conclusions.{adoption_row, adoptions, conclusion_row, conclusions}
-use Rattle.desk_model.specs.Answers.{Attaching, attach_answer, attaching, import_answer, importing, Importing, is_recorded, IsHistory, taken, unless, unready}
+use Rattle.desk_model.specs.Answers.{Attaching, attach_answer, attaching, import_answer, importing}
+use Rattle.desk_model.specs.Answers.{Importing, is_recorded, IsHistory, taken, unless, unready}
 use Rattle.desk_model.specs.Moves.{all_changes, change_row, change_rows, changes, moves}
 use Rattle.desk_model.specs.Raised.{numbered, raised}
 use Rattle.desk_model.specs.declared.row.Owed.{Owed}
@@ -49,7 +53,9 @@ use Rattle.desk_history.proofs.Distinct.{from_filter, distinct-append, distinct-
 use Rattle.desk_history.proofs.Sorting.{change_within}
 use Rattle.desk_history.proofs.Recorded.{is_so, past}
 use Rattle.desk_history.proofs.Rows.{map-map}
-use Rattle.desk_history_laws.specs.OwnKeys.{adoption_key, attached_key, change_key, choice_key, conclusion_key, extracted_key, frozen_key, package_key, rule_key}
+use Rattle.desk_history_laws.specs.OwnKeys.{adoption_key, attached_key, change_key, choice_key}
+use Rattle.desk_history_laws.specs.OwnKeys.{conclusion_key, extracted_key, frozen_key, package_key}
+use Rattle.desk_history_laws.specs.OwnKeys.{rule_key}
 use Rattle.desk_history_laws.proofs.Lists.{in_numbers}
 use Rattle.desk_history_laws.proofs.Orders.{from_order, from_put}
 use Rattle.desk_history_laws.proofs.Recorded.{opened_form}
@@ -58,14 +64,19 @@ use Rattle.desk_history_laws.proofs.Concluded.{has_form}
 -- ---- lists whose keys are distinct
 
 -- rows that their keys determine
-pub distinct_by : {A B : Type 0} (key : A → B) (xs : List A) → ((x y : A) → IsIn x xs → IsIn y xs → key x ≡ key y → x ≡ y) → AreDistinct xs → AreDistinct (map key xs)
+pub distinct_by : {A B : Type 0} (key : A → B) (xs : List A)
+    → ((x y : A) → IsIn x xs → IsIn y xs → key x ≡ key y → x ≡ y) → AreDistinct xs
+    → AreDistinct (map key xs)
 distinct_by key [] same a = tt
 distinct_by key (x ∷ xs) same a = (
-  λ m. (let at = from_map key (key x) xs m in a.0 (subst (λ y. IsIn y xs) (same at.0 x (inr at.1) (inl refl) at.2) at.1)),
+  λ m. (let at = from_map key (key x) xs m in
+      a.0 (subst (λ y. IsIn y xs) (same at.0 x (inr at.1) (inl refl) at.2) at.1)),
   distinct_by key xs (λ y z m n. same y z (inr m) (inr n)) a.1,
 )
 
-distinct_put : {A B : Type 0} (key : A → B) (below : A → A → Bool) (x : A) (xs : List A) → (¬ IsIn (key x) (map key xs)) → AreDistinct (map key xs) → AreDistinct (map key (put below x xs))
+distinct_put : {A B : Type 0} (key : A → B) (below : A → A → Bool) (x : A) (xs : List A)
+    → (¬ IsIn (key x) (map key xs)) → AreDistinct (map key xs)
+    → AreDistinct (map key (put below x xs))
 distinct_put key below x [] new a = (λ m. m, tt)
 distinct_put key below x (y ∷ ys) new a =
     elim (below x y) as (λ b. AreDistinct (map key (if b then x ∷ y ∷ ys else y ∷ put below x ys))) [
@@ -80,19 +91,23 @@ distinct_put key below x (y ∷ ys) new a =
       )
     ]
 
-pub distinct_kept : {A B : Type 0} (key : A → B) (test : A → Bool) (xs : List A) → AreDistinct (map key xs) → AreDistinct (map key (filter test xs))
+pub distinct_kept : {A B : Type 0} (key : A → B) (test : A → Bool) (xs : List A)
+    → AreDistinct (map key xs) → AreDistinct (map key (filter test xs))
 distinct_kept key test [] a = tt
 distinct_kept key test (x ∷ xs) a =
     elim (test x) as (λ b. AreDistinct (map key (cond b (x ∷ filter test xs) (filter test xs)))) [
       | true ↦ (
-        λ m. (let at = from_map key (key x) (filter test xs) m in a.0 (subst (λ k. IsIn k (map key xs)) at.2 (in_map key at.0 xs (from_filter test at.0 xs at.1).0))),
+        λ m. (let at = from_map key (key x) (filter test xs) m in
+            a.0 (subst (λ k. IsIn k (map key xs)) at.2
+            (in_map key at.0 xs (from_filter test at.0 xs at.1).0))),
         distinct_kept key test xs a.1,
       )
       | false ↦ distinct_kept key test xs a.1
     ]
 
 -- a row in place of those with its key
-distinct_replaced : {A B : Type 0} (key : A → B) (below : A → A → Bool) (at : A → Bool) (x : A) (xs : List A) → ((y : A) → key y ≡ key x → at y ≡ true) → AreDistinct (map key xs)
+distinct_replaced : {A B : Type 0} (key : A → B) (below : A → A → Bool) (at : A → Bool) (x : A)
+    (xs : List A) → ((y : A) → key y ≡ key x → at y ≡ true) → AreDistinct (map key xs)
     → AreDistinct (map key (replaced below at x xs))
 distinct_replaced key below at x xs tells a =
     distinct_put key below x (filter (λ y. not (at y)) xs)
@@ -102,14 +117,18 @@ distinct_replaced key below at x xs tells a =
     let apart : at row.0 ≡ false = not_true (at row.0) gone in cc)
     (distinct_kept key (λ y. not (at y)) xs a)
 
-distinct_rises : {A B : Type 0} (key : A → B) (below : A → A → Bool) (xs : List A) → ((x y : A) → key x ≡ key y → below x y ≡ false) → Rises below xs → AreDistinct (map key xs)
+distinct_rises : {A B : Type 0} (key : A → B) (below : A → A → Bool) (xs : List A)
+    → ((x y : A) → key x ≡ key y → below x y ≡ false) → Rises below xs → AreDistinct (map key xs)
 distinct_rises key below [] never up = tt
 distinct_rises key below (x ∷ xs) never up = (
-  λ m. (let at = from_map key (key x) xs m in let less : below x at.0 ≡ true = up.0 at.0 at.1 in let none : below x at.0 ≡ false = never x at.0 (sym at.2) in cc),
+  λ m. (let at = from_map key (key x) xs m in let less : below x at.0 ≡ true = up.0 at.0 at.1 in
+      let none : below x at.0 ≡ false = never x at.0 (sym at.2) in cc),
   distinct_rises key below xs never up.1,
 )
 
-pub distinct_numbers : {A B : Type 0} (key : B → ℕ) (row : ℕ × A → B) → ((d : ℕ × A) → key (row d) ≡ d.0) → (n : ℕ) (xs : List A) → AreDistinct (map key (map row (enumerate_from n xs)))
+pub distinct_numbers : {A B : Type 0} (key : B → ℕ) (row : ℕ × A → B)
+    → ((d : ℕ × A) → key (row d) ≡ d.0) → (n : ℕ) (xs : List A)
+    → AreDistinct (map key (map row (enumerate_from n xs)))
 distinct_numbers key row same n [] = tt
 distinct_numbers key row same n (x ∷ xs) = (
   λ m. (let at = from_map key (key (row (n, x))) (map row (enumerate_from (n + 1) xs)) m in
@@ -120,7 +139,8 @@ distinct_numbers key row same n (x ∷ xs) = (
 
 -- ---- tables that are sorted by their keys
 
-pub distinct_rules : (rows : List RuleRow) → Rises (below_by rule_row_order) rows → AreDistinct (map rule_key rows)
+pub distinct_rules : (rows : List RuleRow) → Rises (below_by rule_row_order) rows
+    → AreDistinct (map rule_key rows)
 distinct_rules rows up = distinct_rises rule_key (below_by rule_row_order) rows never up
   where
     never : (x y : RuleRow) → rule_key x ≡ rule_key y → below_by rule_row_order x y ≡ false
@@ -128,7 +148,14 @@ distinct_rules rows up = distinct_rises rule_key (below_by rule_row_order) rows 
         let one : x.revision ≡ y.revision = ap (λ (k : ℕ × List ℕ × List ℕ). k.0) e in
         let two : x.term ≡ y.term = ap (λ (k : ℕ × List ℕ × List ℕ). k.1) e in
         let three : x.form ≡ y.form = ap (λ (k : ℕ × List ℕ × List ℕ). k.2) e in
-        rw (one, two, three, tied_itself nat_cmp_total y.revision, tied_itself nat_list_cmp_total y.term, tied_itself nat_list_cmp_total y.form) refl
+        rw (
+          one,
+          two,
+          three,
+          tied_itself nat_cmp_total y.revision,
+          tied_itself nat_list_cmp_total y.term,
+          tied_itself nat_list_cmp_total y.form,
+        ) refl
 
 -- rows whose key is a number and a text
 module _ {A : Type 0} (f : A → ℕ) (g : A → List ℕ) where
@@ -144,19 +171,25 @@ module _ {A : Type 0} (f : A → ℕ) (g : A → List ℕ) where
       let two : g x ≡ g y = ap (λ (k : ℕ × List ℕ). k.1) e in
       rw (one, two, tied_itself nat_cmp_total (f y), tied_itself nat_list_cmp_total (g y)) refl
 
-  distinct_pairs : (rows : List A) → Rises (below_by pair_order) rows → AreDistinct (map pair_key rows)
+  distinct_pairs : (rows : List A) → Rises (below_by pair_order) rows
+      → AreDistinct (map pair_key rows)
   distinct_pairs rows up = distinct_rises pair_key (below_by pair_order) rows not_below up
 
-pub distinct_packages : (rows : List PackageRow) → Rises (below_by package_order) rows → AreDistinct (map package_key rows)
-distinct_packages rows up = distinct_pairs (λ (row : PackageRow). row.document) (λ (row : PackageRow). row.id) rows up
+pub distinct_packages : (rows : List PackageRow) → Rises (below_by package_order) rows
+    → AreDistinct (map package_key rows)
+distinct_packages rows up = distinct_pairs (λ (row : PackageRow). row.document)
+    (λ (row : PackageRow). row.id) rows up
 
-pub distinct_extracted : (rows : List ExtractedRow) → Rises (below_by extracted_order) rows → AreDistinct (map extracted_key rows)
-distinct_extracted rows up = distinct_pairs (λ (row : ExtractedRow). row.document) (λ (row : ExtractedRow). row.reference) rows up
+pub distinct_extracted : (rows : List ExtractedRow) → Rises (below_by extracted_order) rows
+    → AreDistinct (map extracted_key rows)
+distinct_extracted rows up = distinct_pairs (λ (row : ExtractedRow). row.document)
+    (λ (row : ExtractedRow). row.reference) rows up
 
 -- rows whose key is a term of a package of a document in a release
 module _ {A : Type 0} (r : A → List ℕ) (d : A → ℕ) (p t : A → List ℕ) where
   abbrev term_order : A → A → Ordering
-  term_order = then_cmp (on r (slice_cmp nat_cmp)) (then_cmp (on d nat_cmp) (then_cmp (on p (slice_cmp nat_cmp)) (on t (slice_cmp nat_cmp))))
+  term_order = then_cmp (on r (slice_cmp nat_cmp))
+      (then_cmp (on d nat_cmp) (then_cmp (on p (slice_cmp nat_cmp)) (on t (slice_cmp nat_cmp))))
 
   abbrev term_key : A → List ℕ × ℕ × List ℕ × List ℕ
   term_key x = (r x, d x, p x, t x)
@@ -167,40 +200,59 @@ module _ {A : Type 0} (r : A → List ℕ) (d : A → ℕ) (p t : A → List ℕ
       let two : d x ≡ d y = ap (λ (k : List ℕ × ℕ × List ℕ × List ℕ). k.1) e in
       let three : p x ≡ p y = ap (λ (k : List ℕ × ℕ × List ℕ × List ℕ). k.2) e in
       let four : t x ≡ t y = ap (λ (k : List ℕ × ℕ × List ℕ × List ℕ). k.3) e in
-      rw (one, two, three, four, tied_itself nat_list_cmp_total (r y), tied_itself nat_cmp_total (d y), tied_itself nat_list_cmp_total (p y), tied_itself nat_list_cmp_total (t y)) refl
+      rw (
+        one,
+        two,
+        three,
+        four,
+        tied_itself nat_list_cmp_total (r y),
+        tied_itself nat_cmp_total (d y),
+        tied_itself nat_list_cmp_total (p y),
+        tied_itself nat_list_cmp_total (t y),
+      ) refl
 
-  distinct_terms : (rows : List A) → Rises (below_by term_order) rows → AreDistinct (map term_key rows)
+  distinct_terms : (rows : List A) → Rises (below_by term_order) rows
+      → AreDistinct (map term_key rows)
   distinct_terms rows up = distinct_rises term_key (below_by term_order) rows never_below up
 
-pub distinct_choices : (rows : List ChoiceRow) → Rises (below_by choice_order) rows → AreDistinct (map choice_key rows)
+pub distinct_choices : (rows : List ChoiceRow) → Rises (below_by choice_order) rows
+    → AreDistinct (map choice_key rows)
 distinct_choices rows up =
-    distinct_terms (λ (row : ChoiceRow). row.release) (λ (row : ChoiceRow). row.document) (λ (row : ChoiceRow). row.package_id) (λ (row : ChoiceRow). row.term) rows up
+    distinct_terms (λ (row : ChoiceRow). row.release) (λ (row : ChoiceRow). row.document)
+    (λ (row : ChoiceRow). row.package_id) (λ (row : ChoiceRow). row.term) rows up
 
-pub distinct_frozen_terms : (rows : List FrozenRow) → Rises (below_by frozen_order) rows → AreDistinct (map frozen_key rows)
+pub distinct_frozen_terms : (rows : List FrozenRow) → Rises (below_by frozen_order) rows
+    → AreDistinct (map frozen_key rows)
 distinct_frozen_terms rows up =
-    distinct_terms (λ (row : FrozenRow). row.release) (λ (row : FrozenRow). row.document) (λ (row : FrozenRow). row.package_id) (λ (row : FrozenRow). row.term) rows up
+    distinct_terms (λ (row : FrozenRow). row.release) (λ (row : FrozenRow). row.document)
+    (λ (row : FrozenRow). row.package_id) (λ (row : FrozenRow). row.term) rows up
 
 -- ---- conclusions and adoptions: the last one replaces those before it
 
 pub distinct_conclusions : (h : List Command) → AreDistinct (map conclusion_key (conclusions h))
 distinct_conclusions [] = tt
 distinct_conclusions (Conclude d p text ∷ h) =
-    distinct_replaced conclusion_key (below_by conclusion_order) (is_conclusion d p) (conclusion_row d p text) (conclusions h) tells (distinct_conclusions h)
+    distinct_replaced conclusion_key (below_by conclusion_order) (is_conclusion d p)
+    (conclusion_row d p text) (conclusions h) tells (distinct_conclusions h)
   where
-    tells : (y : ConclusionRow) → conclusion_key y ≡ conclusion_key (conclusion_row d p text) → is_conclusion d p y ≡ true
+    tells : (y : ConclusionRow) → conclusion_key y ≡ conclusion_key (conclusion_row d p text)
+        → is_conclusion d p y ≡ true
     tells y e =
         let one : y.document ≡ d = ap (λ (k : ℕ × List ℕ). k.0) e in
         let two : y.package_id ≡ p = ap (λ (k : ℕ × List ℕ). k.1) e in
         rw (one, two, same_number d, same_text p) refl
 distinct_conclusions (c ∷ h) = distinct_conclusions h
 
-pub distinct_adoptions : (w : Readings) (h : List Command) → AreDistinct (map adoption_key (adoptions w h))
+pub distinct_adoptions : (w : Readings) (h : List Command)
+    → AreDistinct (map adoption_key (adoptions w h))
 distinct_adoptions w [] = tt
 distinct_adoptions w (Adopt d reference licence ∷ h) =
     let row = adoption_row w d reference licence in
-    distinct_replaced adoption_key (below_by adoption_order) (is_adoption d row.reference) row (adoptions w h) (tells row refl) (distinct_adoptions w h)
+    distinct_replaced adoption_key (below_by adoption_order) (is_adoption d row.reference) row
+    (adoptions w h) (tells row refl) (distinct_adoptions w h)
   where
-    tells : (row : AdoptionRow) → row.document ≡ d → (y : AdoptionRow) → adoption_key y ≡ adoption_key row → is_adoption d row.reference y ≡ true
+    tells : (row : AdoptionRow) → row.document ≡ d → (y : AdoptionRow)
+        → adoption_key y ≡ adoption_key row → is_adoption d row.reference y ≡ true
     tells row own y e =
         let one : y.document ≡ d = ap (λ (k : ℕ × List ℕ). k.0) e ∙ own in
         let two : y.reference ≡ row.reference = ap (λ (k : ℕ × List ℕ). k.1) e in
@@ -209,7 +261,8 @@ distinct_adoptions w (c ∷ h) = distinct_adoptions w h
 
 -- ---- attached documents: none is attached twice
 
-attached_new : (found : Attaching) → IsTrue (is_recorded (attach_answer found)) → found.is_attached ≡ false
+attached_new : (found : Attaching) → IsTrue (is_recorded (attach_answer found))
+    → found.is_attached ≡ false
 attached_new found e =
     let one = past (unless (is_some found.state) why.UnknownRelease) _ e in
     let two = past (unless found.has_document why.UnknownDocument) _ one.1 in
@@ -217,68 +270,93 @@ attached_new found e =
     let four = past (unless (not found.is_attached) why.AlreadyAttached) _ three.1 in
     not_true found.is_attached (is_so (not found.is_attached) why.AlreadyAttached four.0)
 
-none_has : {A : Type 0} (test : A → Bool) (x : A) (xs : List A) → list_any test xs ≡ false → IsIn x xs → test x ≡ false
+none_has : {A : Type 0} (test : A → Bool) (x : A) (xs : List A) → list_any test xs ≡ false
+    → IsIn x xs → test x ≡ false
 none_has test x [] none m = absurd m
 none_has {A} test x (y ∷ ys) none m = go (test y) refl none m (none_has test x ys)
   where
-    go : (b : Bool) → test y ≡ b → (b || list_any test ys) ≡ false → IsIn x (y ∷ ys) → (list_any test ys ≡ false → IsIn x ys → test x ≡ false) → test x ≡ false
+    go : (b : Bool) → test y ≡ b → (b || list_any test ys) ≡ false → IsIn x (y ∷ ys)
+        → (list_any test ys ≡ false → IsIn x ys → test x ≡ false) → test x ≡ false
     go true is e n later = cc
     go false is e (inl same) later = ap test (sym same) ∙ is
     go false is e (inr n) later = later e n
 
-pub distinct_attached : (w : Readings) (h : List Command) → IsHistory w h → AreDistinct (map attached_key (attached h))
+pub distinct_attached : (w : Readings) (h : List Command) → IsHistory w h
+    → AreDistinct (map attached_key (attached h))
 distinct_attached w [] ok = tt
 distinct_attached w (Attach r d ∷ h) ok =
-    distinct_put attached_key (below_by attached_order) (record { release = r; document = d }) (attached h)
+    distinct_put attached_key (below_by attached_order) (record { release = r; document = d })
+    (attached h)
     (λ m. let at = from_map attached_key (r, d) (attached h) m in
     let one : at.0.release ≡ r = ap (λ (k : List ℕ × ℕ). k.0) at.2 in
     let two : at.0.document ≡ d = ap (λ (k : List ℕ × ℕ). k.1) at.2 in
-    let none : is_attachment r d at.0 ≡ false = none_has (is_attachment r d) at.0 (attached h) (attached_new (attaching w h r d) ok.0) at.1 in
+    let none : is_attachment r d at.0 ≡ false =
+    none_has (is_attachment r d) at.0 (attached h) (attached_new (attaching w h r d) ok.0) at.1 in
     let some : is_attachment r d at.0 ≡ true = rw (one, two, same_text r, same_number d) refl in cc)
     (distinct_attached w h ok.1)
 distinct_attached w (c ∷ h) ok = distinct_attached w h ok.1
 
 -- ---- documents: no namespace is imported twice
 
-none_named : (name : List ℕ) (rows : List DocumentRow) → find (has_namespace name) rows ≡ None → ¬ IsIn name (map (λ (row : DocumentRow). row.namespace) rows)
+none_named : (name : List ℕ) (rows : List DocumentRow) → find (has_namespace name) rows ≡ None
+    → ¬ IsIn name (map (λ (row : DocumentRow). row.namespace) rows)
 none_named name [] none m = m
-none_named name (row ∷ rows) none m = go (bytes_eq row.namespace name) refl none m (none_named name rows)
+none_named name (row ∷ rows) none m = go (bytes_eq row.namespace name) refl none m
+    (none_named name rows)
   where
-    go : (b : Bool) → bytes_eq row.namespace name ≡ b → cond b (Some row) (find (has_namespace name) rows) ≡ None → IsIn name (map (λ (row : DocumentRow). row.namespace) (row ∷ rows))
-        → (find (has_namespace name) rows ≡ None → ¬ IsIn name (map (λ (row : DocumentRow). row.namespace) rows)) → ⊥
+    go : (b : Bool) → bytes_eq row.namespace name ≡ b
+        → cond b (Some row) (find (has_namespace name) rows) ≡ None
+        → IsIn name (map (λ (row : DocumentRow). row.namespace) (row ∷ rows))
+        → (find (has_namespace name) rows ≡ None
+        → ¬ IsIn name (map (λ (row : DocumentRow). row.namespace) rows)) → ⊥
     go true is e n later = cc
-    go false is e (inl same) later = let own : bytes_eq row.namespace name ≡ true = ap (λ t. bytes_eq t name) same ∙ same_text name in cc
+    go false is e (inl same) later = let own : bytes_eq row.namespace name ≡ true =
+        ap (λ t. bytes_eq t name) same ∙ same_text name in cc
     go false is e (inr n) later = later e n
 
 -- an Import that is recorded is of a new document
-pub is_new : (bytes : List ℕ) (found : Importing) (read : Result Document DocumentFault) → IsTrue (is_recorded (import_answer read bytes found))
+pub is_new : (bytes : List ℕ) (found : Importing) (read : Result Document DocumentFault)
+    → IsTrue (is_recorded (import_answer read bytes found))
     → find (has_namespace (namespace_in (result_ok read))) found.documents ≡ None
 is_new bytes found (Err fault) e = cc
 is_new bytes found (Ok d) e =
     let old = find (has_namespace d.namespace) found.documents in
-    let one = past (option_map (λ (fault : DocumentFault). why.BadDocument fault) (result_err (Ok d))) _ e in
+    let one = past (option_map (λ (fault : DocumentFault). why.BadDocument fault)
+    (result_err (Ok d))) _ e in
     let two = past (option_and_then (taken bytes) old) _ one.1 in
-    let three = past (unless (is_some old || nat_lt (length found.documents) most.documents) (why.Full limit.Documents)) _ two.1 in
+    let three = past (unless (is_some old || nat_lt (length found.documents) most.documents)
+    (why.Full limit.Documents)) _ two.1 in
     go old refl three.1
   where
     go : (o : Option DocumentRow) → find (has_namespace d.namespace) found.documents ≡ o
-        → IsTrue (is_recorded (option_map_or (λ (row : DocumentRow). answered.Again row.number) (find (has_namespace d.namespace) found.documents) (answered.Imported (length found.documents + 1))))
+        → IsTrue (is_recorded (option_map_or (λ (row : DocumentRow). answered.Again row.number)
+        (find (has_namespace d.namespace) found.documents)
+        (answered.Imported (length found.documents + 1))))
         → find (has_namespace d.namespace) found.documents ≡ None
     go None is recorded = is
     go (Some row) is recorded = absurd (let no = rw is at recorded in cc)
 
 abbrev pub row_of : Readings → List Command → List ℕ → Profile → DocumentRow
-row_of w h bytes profile = record { number = length (documents w h) + 1; namespace = namespace_in (result_ok (w.document bytes)); bytes = bytes; profile = profile }
+row_of w h bytes profile = record {
+  number = length (documents w h) + 1;
+  namespace = namespace_in (result_ok (w.document bytes));
+  bytes = bytes;
+  profile = profile;
+}
 
-pub distinct_namespaces : (w : Readings) (h : List Command) → IsHistory w h → AreDistinct (map (λ (row : DocumentRow). row.namespace) (documents w h))
+pub distinct_namespaces : (w : Readings) (h : List Command) → IsHistory w h
+    → AreDistinct (map (λ (row : DocumentRow). row.namespace) (documents w h))
 distinct_namespaces w [] ok = tt
 distinct_namespaces w (Import bytes profile ∷ h) ok =
     let name = λ (row : DocumentRow). row.namespace in
     let row = row_of w h bytes profile in
     subst AreDistinct (sym (map-append name (documents w h) (row ∷ [])))
-    (distinct-append (map name (documents w h)) (row.namespace ∷ []) (distinct_namespaces w h ok.1) (λ m. m, tt)
+    (distinct-append (map name (documents w h)) (row.namespace ∷ []) (distinct_namespaces w h ok.1)
+    (λ m. m, tt)
     (λ k old new. elim new [
-      | inl same ↦ none_named row.namespace (documents w h) (is_new bytes (importing w h) (w.document bytes) ok.0) (subst (λ k. IsIn k (map name (documents w h))) (sym same) old)
+      | inl same ↦ none_named row.namespace (documents w h)
+          (is_new bytes (importing w h) (w.document bytes) ok.0)
+          (subst (λ k. IsIn k (map name (documents w h))) (sym same) old)
       | inr none ↦ absurd none
     ]))
 distinct_namespaces w (c ∷ h) ok = distinct_namespaces w h ok.1
@@ -298,34 +376,43 @@ distinct_names w h ok = unmapped (names h) (keyed h ok)
         distinct_put (λ (n : List ℕ). n) text_below r (names h)
         (λ m. let at = from_map (λ (n : List ℕ). n) r (names h) m in
         let none : is_some (form_of h r) ≡ false = (opened_form w h r form ok.0).1 in
-        let some : is_some (form_of h r) ≡ true = has_form h r (from_order text_below r (opened h) (subst (λ n. IsIn n (names h)) at.2 at.1)) in cc)
+        let some : is_some (form_of h r) ≡ true =
+        has_form h r (from_order text_below r (opened h)
+        (subst (λ n. IsIn n (names h)) at.2 at.1)) in cc)
         (keyed h ok.1)
     keyed (c ∷ h) ok = keyed h ok.1
 
-pub distinct_releases : (w : Readings) (h : List Command) → IsHistory w h → AreDistinct (map (λ (row : ReleaseRow). row.name) (release_rows h))
+pub distinct_releases : (w : Readings) (h : List Command) → IsHistory w h
+    → AreDistinct (map (λ (row : ReleaseRow). row.name) (release_rows h))
 distinct_releases w h ok =
-    subst AreDistinct (sym (map-map (λ (row : ReleaseRow). row.name) (release_row h) (names h))) (distinct_by (λ (r : List ℕ). r) (names h) (λ x y m n e. e) (distinct_names w h ok))
+    subst AreDistinct (sym (map-map (λ (row : ReleaseRow). row.name) (release_row h) (names h)))
+    (distinct_by (λ (r : List ℕ). r) (names h) (λ x y m n e. e) (distinct_names w h ok))
 
 pub place_within : (ns : List (List ℕ)) (r : List ℕ) → place_in ns r ≤ length ns
 place_within [] r = omega arith
 place_within (n ∷ ns) r = go (bytes_eq n r) (place_within ns r)
   where
-    go : (b : Bool) → place_in ns r ≤ length ns → (if b then length ns + 1 else place_in ns r) ≤ length (n ∷ ns)
+    go : (b : Bool) → place_in ns r ≤ length ns
+        → (if b then length ns + 1 else place_in ns r) ≤ length (n ∷ ns)
     go true le = omega arith
     go false le = omega (arith, le)
 
 -- two names that were opened at the same place are equal
-one_place : (ns : List (List ℕ)) (r s : List ℕ) → IsIn r ns → IsIn s ns → place_in ns r ≡ place_in ns s → r ≡ s
+one_place : (ns : List (List ℕ)) (r s : List ℕ) → IsIn r ns → IsIn s ns
+    → place_in ns r ≡ place_in ns s → r ≡ s
 one_place [] r s a b e = absurd a
 one_place (n ∷ ns) r s a b e =
     elim (text_tells n r) [
       | inl first ↦ (elim (text_tells n s) [
         | inl second ↦ sym first.1 ∙ second.1
-        | inr other ↦ absurd (let at = rw (first.0, other.0) at e in omega (arith, at, place_within ns s))
+        | inr other ↦ absurd (let at = rw (first.0, other.0) at e in
+            omega (arith, at, place_within ns s))
       ])
       | inr apart ↦ (elim (text_tells n s) [
-        | inl second ↦ absurd (let at = rw (apart.0, second.0) at e in omega (arith, at, place_within ns r))
-        | inr other ↦ (let at = rw (apart.0, other.0) at e in one_place ns r s (later r a apart.1) (later s b other.1) at)
+        | inl second ↦ absurd (let at = rw (apart.0, second.0) at e in
+            omega (arith, at, place_within ns r))
+        | inr other ↦ (let at = rw (apart.0, other.0) at e in
+            one_place ns r s (later r a apart.1) (later s b other.1) at)
       ])
     ]
   where
@@ -333,10 +420,13 @@ one_place (n ∷ ns) r s a b e =
     later x (inl same) apart = absurd (apart same)
     later x (inr m) apart = m
 
-pub distinct_places : (w : Readings) (h : List Command) → IsHistory w h → AreDistinct (map (λ (row : ReleaseRow). row.place) (release_rows h))
+pub distinct_places : (w : Readings) (h : List Command) → IsHistory w h
+    → AreDistinct (map (λ (row : ReleaseRow). row.place) (release_rows h))
 distinct_places w h ok =
     subst AreDistinct (sym (map-map (λ (row : ReleaseRow). row.place) (release_row h) (names h)))
-    (distinct_by (place_in (opened h)) (names h) (λ x y m n e. one_place (opened h) x y (from_order text_below x (opened h) m) (from_order text_below y (opened h) n) e) (distinct_names w h ok))
+    (distinct_by (place_in (opened h)) (names h)
+    (λ x y m n e. one_place (opened h) x y (from_order text_below x (opened h) m)
+    (from_order text_below y (opened h) n) e) (distinct_names w h ok))
 
 -- ---- changes: the steps of a duty are numbered
 
@@ -345,7 +435,8 @@ distinct_steps q [] = tt
 distinct_steps q (c ∷ ms) =
     let new = change_row q (length ms + 1) c in
     subst AreDistinct (sym (map-append change_key (change_rows q ms) (new ∷ [])))
-    (distinct-append (map change_key (change_rows q ms)) (change_key new ∷ []) (distinct_steps q ms) (λ m. m, tt)
+    (distinct-append (map change_key (change_rows q ms)) (change_key new ∷ []) (distinct_steps q ms)
+    (λ m. m, tt)
     (λ k old here. elim here [
       | inl same ↦ (let at = from_map change_key k (change_rows q ms) old in
           let step : at.0.step ≡ length ms + 1 = ap (λ (k : ℕ × ℕ). k.1) (at.2 ∙ sym same) in
@@ -353,14 +444,19 @@ distinct_steps q (c ∷ ms) =
       | inr none ↦ absurd none
     ]))
 
-pub distinct_changes : (w : Readings) (h : List Command) → AreDistinct (map change_key (all_changes w h))
+pub distinct_changes : (w : Readings) (h : List Command)
+    → AreDistinct (map change_key (all_changes w h))
 distinct_changes w h =
-    distinct-flat_map (λ (d : ℕ × Owed). changes w h d.0) change_key (λ (k : ℕ × ℕ). k.0) (λ (d : ℕ × Owed). d.0) (numbered w h)
-    (λ d row m. (change_within d.0 (moves w h d.0) row m).0) (numbers_of 1 (raised w h)) (λ d m. distinct_steps d.0 (moves w h d.0))
+    distinct-flat_map (λ (d : ℕ × Owed). changes w h d.0) change_key (λ (k : ℕ × ℕ). k.0)
+    (λ (d : ℕ × Owed). d.0) (numbered w h)
+    (λ d row m. (change_within d.0 (moves w h d.0) row m).0) (numbers_of 1 (raised w h))
+    (λ d m. distinct_steps d.0 (moves w h d.0))
   where
-    numbers_of : (n : ℕ) (xs : List Owed) → AreDistinct (map (λ (d : ℕ × Owed). d.0) (enumerate_from n xs))
+    numbers_of : (n : ℕ) (xs : List Owed)
+        → AreDistinct (map (λ (d : ℕ × Owed). d.0) (enumerate_from n xs))
     numbers_of n [] = tt
     numbers_of n (x ∷ xs) = (
-      λ m. (let at = from_map (λ (d : ℕ × Owed). d.0) n (enumerate_from (n + 1) xs) m in omega (arith, (in_numbers (n + 1) xs at.0 at.1).0, at.2)),
+      λ m. (let at = from_map (λ (d : ℕ × Owed). d.0) n (enumerate_from (n + 1) xs) m in
+          omega (arith, (in_numbers (n + 1) xs at.0 at.1).0, at.2)),
       numbers_of (n + 1) xs,
     )

@@ -14,10 +14,14 @@ use Rattle.desk_history_laws.specs.Standing.{IsDutyRow}
 
 from_numbers : (n : ℕ) (xs : List Owed) (d : ℕ × Owed) → IsIn d (enumerate_from n xs) → IsIn d.1 xs
 from_numbers n [] d m = absurd m
-from_numbers n (x ∷ xs) d m = elim m [ inl e ↦ inl (ap (λ (p : ℕ × Owed). p.1) e) | inr later ↦ inr (from_numbers (n + 1) xs d later) ]
+from_numbers n (x ∷ xs) d m = elim m [
+  | inl e ↦ inl (ap (λ (p : ℕ × Owed). p.1) e)
+  | inr later ↦ inr (from_numbers (n + 1) xs d later)
+]
 
 module _ (w : Readings) (h : List Command) where
-  pub in_duties : ((d : ℕ × Owed) → IsNumbered w h d → IsIn d (numbered w h)) → (row : DutyRow) → IsDutyRow w h row → IsIn row (duties w h)
+  pub in_duties : ((d : ℕ × Owed) → IsNumbered w h d → IsIn d (numbered w h)) → (row : DutyRow)
+      → IsDutyRow w h row → IsIn row (duties w h)
   in_duties held row is =
       let same : duty_row (place w h row.number) (row.number, is.duty) ≡ row = λ i. record {
         number = row.number;
@@ -30,9 +34,11 @@ module _ (w : Readings) (h : List Command) where
         state = sym is.state i;
       } in
       subst (λ (r : DutyRow). IsIn r (duties w h)) same
-      (in_map (λ (d : ℕ × Owed). duty_row (place w h d.0) d) (row.number, is.duty) (numbered w h) (held (row.number, is.duty) is.numbered))
+      (in_map (λ (d : ℕ × Owed). duty_row (place w h d.0) d) (row.number, is.duty) (numbered w h)
+      (held (row.number, is.duty) is.numbered))
 
-  pub from_duties : ((d : ℕ × Owed) → IsIn d (numbered w h) → IsNumbered w h d) → ((d : Owed) → IsIn d (raised w h) → IsRaised w h d)
+  pub from_duties : ((d : ℕ × Owed) → IsIn d (numbered w h) → IsNumbered w h d)
+      → ((d : Owed) → IsIn d (raised w h) → IsRaised w h d)
       → (row : DutyRow) → IsIn row (duties w h) → IsDutyRow w h row
   from_duties only known row m =
       let found = from_map (λ (d : ℕ × Owed). duty_row (place w h d.0) d) row (numbered w h) m in

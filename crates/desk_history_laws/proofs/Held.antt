@@ -15,10 +15,14 @@ use Rattle.desk_texts.specs.Terms.{AreTerms}
 
 -- what a verdict says, which a right reading gives
 abbrev pub Means : Readings → Type 0
-Means w = (profile : Profile) (text : List ℕ) (words : List (List ℕ)) → w.verdict profile text words ≡ Minimal
-    → (e : Tree) × (ts : List Term) × IsExpression profile text e × AreTerms words ts × IsMinimal ts e
+Means w = (profile : Profile) (text : List ℕ) (words : List (List ℕ))
+    → w.verdict profile text words ≡ Minimal
+    → (e : Tree) × (ts : List Term) × IsExpression profile text e × AreTerms words ts
+    × IsMinimal ts e
 
-pub held_set : (w : Readings) → Means w → (h : List Command) (d : ℕ) (p : List ℕ) (held : List (List ℕ)) → IsHeldMinimal w h d p held → AreMinimalFor w h d p held
+pub held_set : (w : Readings) → Means w
+    → (h : List Command) (d : ℕ) (p : List ℕ) (held : List (List ℕ)) → IsHeldMinimal w h d p held
+    → AreMinimalFor w h d p held
 held_set w means h d p held is =
     let found = means is.concluded.profile is.concluded.text is.listed is.minimal in
     let set = set_spells is.listed found.1 found.3 in

@@ -1,4 +1,5 @@
--- The sets of terms under which the expression of a value is true: each value has one listing, one list of terms, and by each cost one cheapest set or none.
+-- The sets of terms under which the expression of a value is true: each value has one listing, one
+-- list of terms, and by each cost one cheapest set or none.
 use Rattle.std.proofs.Common.{◌≡◌, ◌∙◌, ◌⊎◌, inl, inr, ℕ, List, [], map, Option, Some, None, sym, subst, ap, refl}
 use Rattle.std.specs.Prelude.{Result, Ok, Err}
 use Rattle.desk_base.specs.declared.profile.Profile.{Profile}
@@ -46,26 +47,37 @@ listed e = elim (listing_exists e) [
   | inr fault ↦ let told = fault_exists e fault in (Err told.0, told.1)
 ]
 
-listed_once : (e : Tree) (a b : Result (List (List (List ℕ))) ListFault) → IsListing e a → IsListing e b → a ≡ b
-listed_once e (Ok sets) (Ok others) h k = ap Ok (h.3 ∙ (ap (map (map printed_term)) (one_listing e h.1 k.1 h.2 k.2) ∙ sym k.3))
-listed_once e (Ok sets) (Err fault) h k = absurd (listable_has_no_fault e h.0 (some_fault e fault k))
-listed_once e (Err fault) (Ok sets) h k = absurd (listable_has_no_fault e k.0 (some_fault e fault h))
+listed_once : (e : Tree) (a b : Result (List (List (List ℕ))) ListFault) → IsListing e a
+    → IsListing e b → a ≡ b
+listed_once e (Ok sets) (Ok others) h k = ap Ok
+    (h.3 ∙ (ap (map (map printed_term)) (one_listing e h.1 k.1 h.2 k.2) ∙ sym k.3))
+listed_once e (Ok sets) (Err fault) h k = absurd (listable_has_no_fault e h.0
+    (some_fault e fault k))
+listed_once e (Err fault) (Ok sets) h k = absurd (listable_has_no_fault e k.0
+    (some_fault e fault h))
 listed_once e (Err f) (Err g) h k = ap Err (one_fault e f g h k)
 
 -- ---- the cheapest set of an expression
 
-priced_by : (cost : List ℕ → Option ℕ) (e : Tree) → IsListable e → ((price : ℕ) × (set : List Term) × IsCheapest (cost_of cost) e price set) ⊎ HasNoCosts (cost_of cost) e
+priced_by : (cost : List ℕ → Option ℕ) (e : Tree) → IsListable e
+    → ((price : ℕ) × (set : List Term) × IsCheapest (cost_of cost) e price set)
+    ⊎ HasNoCosts (cost_of cost) e
     → (r : Result (Option Cheapest) ListFault) × IsPriced cost e r
-priced_by cost e listable (inl found) = (Ok (Some (record { cost = found.0; terms = map printed_term found.1 })), (listable, found.1, found.2, refl))
+priced_by cost e listable (inl found) = (
+  Ok (Some (record { cost = found.0; terms = map printed_term found.1 })),
+  (listable, found.1, found.2, refl),
+)
 priced_by cost e listable (inr none) = (Ok None, (listable, none))
 
-priced : (cost : List ℕ → Option ℕ) (e : Tree) → (r : Result (Option Cheapest) ListFault) × IsPriced cost e r
+priced : (cost : List ℕ → Option ℕ) (e : Tree)
+    → (r : Result (Option Cheapest) ListFault) × IsPriced cost e r
 priced cost e = elim (listing_exists e) [
   | inl found ↦ priced_by cost e found.0 (cheapest_exists (cost_of cost) e)
   | inr fault ↦ let told = fault_exists e fault in (Err told.0, told.1)
 ]
 
-one_found : (cost : List ℕ → Option ℕ) (e : Tree) (a b : Cheapest) (s r : List Term) → IsCheapest (cost_of cost) e a.cost s → a.terms ≡ map printed_term s
+one_found : (cost : List ℕ → Option ℕ) (e : Tree) (a b : Cheapest) (s r : List Term)
+    → IsCheapest (cost_of cost) e a.cost s → a.terms ≡ map printed_term s
     → IsCheapest (cost_of cost) e b.cost r → b.terms ≡ map printed_term r → a ≡ b
 one_found cost e a b s r h told k told' =
     let same = one_cheapest (cost_of cost) e a.cost b.cost s r h k in
@@ -73,47 +85,68 @@ one_found cost e a b s r h told k told' =
     let price : a.cost ≡ b.cost = same.0 in
     λ i. record { cost = price i; terms = terms i }
 
-priced_once : (cost : List ℕ → Option ℕ) (e : Tree) (a b : Result (Option Cheapest) ListFault) → IsPriced cost e a → IsPriced cost e b → a ≡ b
-priced_once cost e (Ok (Some a)) (Ok (Some b)) h k = ap (λ (c : Cheapest). Ok (Some c)) (one_found cost e a b h.1 k.1 h.2 h.3 k.2 k.3)
-priced_once cost e (Ok (Some a)) (Ok None) h k = absurd (cheapest_has_costs (cost_of cost) e a.cost h.1 h.2 k.1)
-priced_once cost e (Ok None) (Ok (Some b)) h k = absurd (cheapest_has_costs (cost_of cost) e b.cost k.1 k.2 h.1)
+priced_once : (cost : List ℕ → Option ℕ) (e : Tree) (a b : Result (Option Cheapest) ListFault)
+    → IsPriced cost e a → IsPriced cost e b → a ≡ b
+priced_once cost e (Ok (Some a)) (Ok (Some b)) h k = ap (λ (c : Cheapest). Ok (Some c))
+    (one_found cost e a b h.1 k.1 h.2 h.3 k.2 k.3)
+priced_once cost e (Ok (Some a)) (Ok None) h k = absurd (cheapest_has_costs (cost_of cost) e a.cost
+    h.1 h.2 k.1)
+priced_once cost e (Ok None) (Ok (Some b)) h k = absurd (cheapest_has_costs (cost_of cost) e b.cost
+    k.1 k.2 h.1)
 priced_once cost e (Ok None) (Ok None) h k = refl
-priced_once cost e (Ok (Some a)) (Err fault) h k = absurd (listable_has_no_fault e h.0 (some_fault e fault k))
-priced_once cost e (Ok None) (Err fault) h k = absurd (listable_has_no_fault e h.0 (some_fault e fault k))
-priced_once cost e (Err fault) (Ok (Some b)) h k = absurd (listable_has_no_fault e k.0 (some_fault e fault h))
-priced_once cost e (Err fault) (Ok None) h k = absurd (listable_has_no_fault e k.0 (some_fault e fault h))
+priced_once cost e (Ok (Some a)) (Err fault) h k = absurd (listable_has_no_fault e h.0
+    (some_fault e fault k))
+priced_once cost e (Ok None) (Err fault) h k = absurd (listable_has_no_fault e h.0
+    (some_fault e fault k))
+priced_once cost e (Err fault) (Ok (Some b)) h k = absurd (listable_has_no_fault e k.0
+    (some_fault e fault h))
+priced_once cost e (Err fault) (Ok None) h k = absurd (listable_has_no_fault e k.0
+    (some_fault e fault h))
 priced_once cost e (Err f) (Err g) h k = ap Err (one_fault e f g h k)
 
 -- ---- those of a value
 
-pub listing_of : (profile : Profile) (text : List ℕ) (o : Option Tree) → IsRead profile text o → (r : Result (List (List (List ℕ))) ListFault) × Lists profile text r
+pub listing_of : (profile : Profile) (text : List ℕ) (o : Option Tree) → IsRead profile text o
+    → (r : Result (List (List (List ℕ))) ListFault) × Lists profile text r
 listing_of profile text (Some e) is = let found = listed e in (found.0, inl (e, is, found.1))
 listing_of profile text None none = (Ok [], inr (none, refl))
 
-pub listing_once : (profile : Profile) (text : List ℕ) (a b : Result (List (List (List ℕ))) ListFault) → Lists profile text a → Lists profile text b → a ≡ b
-listing_once profile text a b (inl (e, is, h)) (inl (f, is', k)) = listed_once e a b h (subst (λ (x : Tree). IsListing x b) (one_tree profile text f e is' is) k)
+pub listing_once : (profile : Profile) (text : List ℕ)
+    (a b : Result (List (List (List ℕ))) ListFault) → Lists profile text a → Lists profile text b
+    → a ≡ b
+listing_once profile text a b (inl (e, is, h)) (inl (f, is', k)) = listed_once e a b h
+    (subst (λ (x : Tree). IsListing x b) (one_tree profile text f e is' is) k)
 listing_once profile text a b (inl (e, is, h)) (inr (none, k)) = absurd (none e is)
 listing_once profile text a b (inr (none, h)) (inl (f, is', k)) = absurd (none f is')
 listing_once profile text a b (inr (none, h)) (inr (none', k)) = h ∙ sym k
 
-pub terms_of : (profile : Profile) (text : List ℕ) (o : Option Tree) → IsRead profile text o → (terms : List (List ℕ)) × HasTerms profile text terms
-terms_of profile text (Some e) is = let found = terms_exist e in (map printed_term found.0, inl (e, found.0, is, found.1, refl))
+pub terms_of : (profile : Profile) (text : List ℕ) (o : Option Tree) → IsRead profile text o
+    → (terms : List (List ℕ)) × HasTerms profile text terms
+terms_of profile text (Some e) is = let found = terms_exist e in
+    (map printed_term found.0, inl (e, found.0, is, found.1, refl))
 terms_of profile text None none = ([], inr (none, refl))
 
-pub terms_once : (profile : Profile) (text : List ℕ) (a b : List (List ℕ)) → HasTerms profile text a → HasTerms profile text b → a ≡ b
+pub terms_once : (profile : Profile) (text : List ℕ) (a b : List (List ℕ)) → HasTerms profile text a
+    → HasTerms profile text b → a ≡ b
 terms_once profile text a b (inl (e, ts, is, are, h)) (inl (f, us, is', are', k)) =
-    let same : us ≡ ts = one_list_of_terms f us ts are' (subst (λ (x : Tree). AreTermsOf x ts) (one_tree profile text e f is is') are) in
+    let same : us ≡ ts = one_list_of_terms f us ts are'
+    (subst (λ (x : Tree). AreTermsOf x ts) (one_tree profile text e f is is') are) in
     h ∙ (ap (map printed_term) (sym same) ∙ sym k)
 terms_once profile text a b (inl (e, ts, is, are, h)) (inr (none, k)) = absurd (none e is)
 terms_once profile text a b (inr (none, h)) (inl (f, us, is', are', k)) = absurd (none f is')
 terms_once profile text a b (inr (none, h)) (inr (none', k)) = h ∙ sym k
 
-pub price_of : (profile : Profile) (text : List ℕ) (cost : List ℕ → Option ℕ) (o : Option Tree) → IsRead profile text o → (r : Result (Option Cheapest) ListFault) × Prices profile text cost r
-price_of profile text cost (Some e) is = let found = priced cost e in (found.0, inl (e, is, found.1))
+pub price_of : (profile : Profile) (text : List ℕ) (cost : List ℕ → Option ℕ) (o : Option Tree)
+    → IsRead profile text o → (r : Result (Option Cheapest) ListFault) × Prices profile text cost r
+price_of profile text cost (Some e) is = let found = priced cost e in
+    (found.0, inl (e, is, found.1))
 price_of profile text cost None none = (Ok None, inr (none, refl))
 
-pub price_once : (profile : Profile) (text : List ℕ) (cost : List ℕ → Option ℕ) (a b : Result (Option Cheapest) ListFault) → Prices profile text cost a → Prices profile text cost b → a ≡ b
-price_once profile text cost a b (inl (e, is, h)) (inl (f, is', k)) = priced_once cost e a b h (subst (λ (x : Tree). IsPriced cost x b) (one_tree profile text f e is' is) k)
+pub price_once : (profile : Profile) (text : List ℕ) (cost : List ℕ → Option ℕ)
+    (a b : Result (Option Cheapest) ListFault) → Prices profile text cost a
+    → Prices profile text cost b → a ≡ b
+price_once profile text cost a b (inl (e, is, h)) (inl (f, is', k)) = priced_once cost e a b h
+    (subst (λ (x : Tree). IsPriced cost x b) (one_tree profile text f e is' is) k)
 price_once profile text cost a b (inl (e, is, h)) (inr (none, k)) = absurd (none e is)
 price_once profile text cost a b (inr (none, h)) (inl (f, is', k)) = absurd (none f is')
 price_once profile text cost a b (inr (none, h)) (inr (none', k)) = h ∙ sym k

@@ -1,5 +1,6 @@
 -- What is in a list, and what is found in it.
-use Rattle.std.proofs.Common.{◌≡◌, ℕ, ◌+◌, ◌<◌, ◌≤◌, Bool, true, false, cond, List, [], ◌∷◌, ◌++◌, length, Some, refl, ap, ◌∙◌, subst, arith, inl, inr}
+use Rattle.std.proofs.Common.{◌≡◌, ℕ, ◌+◌, ◌<◌, ◌≤◌, Bool, true, false, cond, List, [], ◌∷◌, ◌++◌}
+use Rattle.std.proofs.Common.{length, Some, refl, ap, ◌∙◌, subst, arith, inl, inr}
 use Rattle.std.specs.Prelude.{◌&&◌, ◌==◌, filter, find, pos}
 use Rattle.std.specs.List.{list_all, enumerate_from, AllByRecursion}
 use Rattle.std.specs.Ordering.{int_eq}
@@ -9,61 +10,81 @@ use Rattle.desk_model.specs.Lists.{IsIn}
 pub pos_eq : (a b : ℕ) → int_eq (pos a) (pos b) ≡ (a == b)
 pos_eq a b = grind (arith, nat_tests)
 
-pub all_in : {A : Type 0} (test : A → Bool) (xs : List A) → ((x : A) → IsIn x xs → test x ≡ true) → list_all test xs ≡ true
+pub all_in : {A : Type 0} (test : A → Bool) (xs : List A) → ((x : A) → IsIn x xs → test x ≡ true)
+    → list_all test xs ≡ true
 all_in test [] each = refl
 all_in test (x ∷ xs) each = rw (each x (inl refl), all_in test xs (λ y m. each y (inr m))) refl
 
-pub each_in : {A : Type 0} (P : A → Type 0) (xs : List A) → ((x : A) → IsIn x xs → P x) → AllByRecursion P xs
+pub each_in : {A : Type 0} (P : A → Type 0) (xs : List A) → ((x : A) → IsIn x xs → P x)
+    → AllByRecursion P xs
 each_in P [] each = tt
 each_in P (x ∷ xs) each = (each x (inl refl), each_in P xs (λ y m. each y (inr m)))
 
-by_head : {A : Type 0} (test : A → Bool) (x y : A) (ys : List A) → (b : Bool) → test y ≡ b → (find test ys ≡ Some x → IsIn x ys × (test x ≡ true)) → cond b (Some y) (find test ys) ≡ Some x → IsIn x (y ∷ ys) × (test x ≡ true)
-by_head test x y ys true is rest e = let same : y ≡ x = cc in (inl same, subst (λ z. test z ≡ true) same is)
+by_head : {A : Type 0} (test : A → Bool) (x y : A) (ys : List A) → (b : Bool) → test y ≡ b
+    → (find test ys ≡ Some x → IsIn x ys × (test x ≡ true))
+    → cond b (Some y) (find test ys) ≡ Some x → IsIn x (y ∷ ys) × (test x ≡ true)
+by_head test x y ys true is rest e = let same : y ≡ x = cc in
+    (inl same, subst (λ z. test z ≡ true) same is)
 by_head test x y ys false is rest e = let at = rest e in (inr at.0, at.1)
 
-pub found_in : {A : Type 0} (test : A → Bool) (xs : List A) (x : A) → find test xs ≡ Some x → IsIn x xs × (test x ≡ true)
+pub found_in : {A : Type 0} (test : A → Bool) (xs : List A) (x : A) → find test xs ≡ Some x
+    → IsIn x xs × (test x ≡ true)
 found_in test [] x e = cc
 found_in test (y ∷ ys) x e = by_head test x y ys (test y) refl (found_in test ys x) e
 
 -- what is filtered
 
-pub filter_same : {A : Type 0} (test other : A → Bool) → ((x : A) → test x ≡ other x) → (xs : List A) → filter test xs ≡ filter other xs
+pub filter_same : {A : Type 0} (test other : A → Bool) → ((x : A) → test x ≡ other x)
+    → (xs : List A) → filter test xs ≡ filter other xs
 filter_same test other same [] = refl
 filter_same test other same (x ∷ xs) = rw (same x, filter_same test other same xs) refl
 
-pub find_same : {A : Type 0} (test other : A → Bool) → ((x : A) → test x ≡ other x) → (xs : List A) → find test xs ≡ find other xs
+pub find_same : {A : Type 0} (test other : A → Bool) → ((x : A) → test x ≡ other x) → (xs : List A)
+    → find test xs ≡ find other xs
 find_same test other same [] = refl
 find_same test other same (x ∷ xs) = rw (same x, find_same test other same xs) refl
 
-pub find-filter : {A : Type 0} (test among : A → Bool) (xs : List A) → find test (filter among xs) ≡ find (λ x. among x && test x) xs
+pub find-filter : {A : Type 0} (test among : A → Bool) (xs : List A)
+    → find test (filter among xs) ≡ find (λ x. among x && test x) xs
 find-filter test among [] = refl
 find-filter test among (x ∷ xs) =
-    elim (among x) as (λ b. find test (cond b (x ∷ filter among xs) (filter among xs)) ≡ cond (b && test x) (Some x) (find (λ x. among x && test x) xs)) [
+    elim (among x) as (λ b. find test (cond b (x ∷ filter among xs) (filter among xs))
+    ≡ cond (b && test x) (Some x) (find (λ x. among x && test x) xs)) [
       | true ↦ ap (λ o. cond (test x) (Some x) o) (find-filter test among xs)
       | false ↦ find-filter test among xs
     ]
 
 -- what is numbered
 
-pub in_numbers : {A : Type 0} (n : ℕ) (xs : List A) (d : ℕ × A) → IsIn d (enumerate_from n xs) → (n ≤ d.0) × (d.0 < n + length xs) × IsIn d.1 xs
+pub in_numbers : {A : Type 0} (n : ℕ) (xs : List A) (d : ℕ × A) → IsIn d (enumerate_from n xs)
+    → (n ≤ d.0) × (d.0 < n + length xs) × IsIn d.1 xs
 in_numbers n [] d m = absurd m
 in_numbers {A} n (x ∷ xs) d m =
     elim m [
-      | inl same ↦ (let at : n ≡ d.0 = ap (λ (e : ℕ × A). e.0) same in (omega arith, omega arith, inl (ap (λ (e : ℕ × A). e.1) same)))
-      | inr later ↦ (let at = in_numbers (n + 1) xs d later in (omega (arith, at.0), omega (arith, at.1), inr at.2))
+      | inl same ↦ (let at : n ≡ d.0 = ap (λ (e : ℕ × A). e.0) same in
+          (omega arith, omega arith, inl (ap (λ (e : ℕ × A). e.1) same)))
+      | inr later ↦ (let at = in_numbers (n + 1) xs d later in
+          (omega (arith, at.0), omega (arith, at.1), inr at.2))
     ]
 
 -- a numbered item is found by its number
-pub at_own : {A : Type 0} (n : ℕ) (xs : List A) (d : ℕ × A) → IsIn d (enumerate_from n xs) → find (λ (e : ℕ × A). e.0 == d.0) (enumerate_from n xs) ≡ Some d
+pub at_own : {A : Type 0} (n : ℕ) (xs : List A) (d : ℕ × A) → IsIn d (enumerate_from n xs)
+    → find (λ (e : ℕ × A). e.0 == d.0) (enumerate_from n xs) ≡ Some d
 at_own n [] d m = absurd m
 at_own {A} n (x ∷ xs) d m =
     elim m [
-      | inl same ↦ (let at : (n == d.0) ≡ true = (let e : n ≡ d.0 = ap (λ (e : ℕ × A). e.0) same in grind (arith, nat_tests)) in rw at (ap (λ (e : ℕ × A). Some e) same))
+      | inl same ↦ (let at : (n == d.0) ≡ true =
+          (let e : n ≡ d.0 = ap (λ (e : ℕ × A). e.0) same in grind (arith, nat_tests)) in
+          rw at (ap (λ (e : ℕ × A). Some e) same))
       | inr later ↦ (let at = in_numbers (n + 1) xs d later in
-          let other : (n == d.0) ≡ false = (let less : n + 1 ≤ d.0 = at.0 in grind (arith, nat_tests)) in
+          let other : (n == d.0) ≡ false =
+          (let less : n + 1 ≤ d.0 = at.0 in grind (arith, nat_tests)) in
           rw other (at_own (n + 1) xs d later))
     ]
 
-pub numbers-append : {A : Type 0} (n : ℕ) (xs ys : List A) → enumerate_from n (xs ++ ys) ≡ enumerate_from n xs ++ enumerate_from (n + length xs) ys
+pub numbers-append : {A : Type 0} (n : ℕ) (xs ys : List A)
+    → enumerate_from n (xs ++ ys) ≡ enumerate_from n xs ++ enumerate_from (n + length xs) ys
 numbers-append n [] ys = ap (λ k. enumerate_from k ys) (omega arith)
-numbers-append n (x ∷ xs) ys = ap (λ zs. (n, x) ∷ zs) (numbers-append (n + 1) xs ys ∙ ap (λ k. enumerate_from (n + 1) xs ++ enumerate_from k ys) (omega arith))
+numbers-append n (x ∷ xs) ys = ap (λ zs. (n, x) ∷ zs)
+    (numbers-append (n + 1) xs ys
+    ∙ ap (λ k. enumerate_from (n + 1) xs ++ enumerate_from k ys) (omega arith))

@@ -41,15 +41,18 @@ use Rattle.desk_base.specs.Results.{then_read}
 
 pub each_in : {A : Type 0} (P : A → Type 0) (x : A) (xs : List A) → IsIn x xs → Each P xs → P x
 each_in P x [] m each = absurd m
-each_in P x (y ∷ ys) m each = elim m [ inl same ↦ subst P same each.0 | inr n ↦ each_in P x ys n each.1 ]
+each_in P x (y ∷ ys) m each = elim m
+    [ inl same ↦ subst P same each.0 | inr n ↦ each_in P x ys n each.1 ]
 
 not_true : true ≡ false → ⊥
 not_true e = cc
 
 rises_distinct : (xs : List (List ℕ)) → Rises xs → AreDistinct xs
 rises_distinct [] up = tt
-rises_distinct (x ∷ xs) up =
-    (λ m. not_true (below_self x true (each_in (λ y. text_below x y ≡ true) x xs m up.0)), rises_distinct xs up.1)
+rises_distinct (x ∷ xs) up = (
+  λ m. not_true (below_self x true (each_in (λ y. text_below x y ≡ true) x xs m up.0)),
+  rises_distinct xs up.1,
+)
 
 pub rises_sorted : {A : Type 0} (id : A → List ℕ) (xs : List A) → Rises (map id (sorted_by id xs))
 rises_sorted id [] = tt
@@ -57,15 +60,21 @@ rises_sorted id (x ∷ xs) = rises_put id x (sorted_by id xs) (rises_sorted id x
 
 -- a set of texts is the texts, sorted
 
-put-same : (x : List ℕ) (xs : List (List ℕ)) → map (λ y. y) (put_by (λ y. y) x xs) ≡ put_new x (map (λ y. y) xs)
+put-same : (x : List ℕ) (xs : List (List ℕ))
+    → map (λ y. y) (put_by (λ y. y) x xs) ≡ put_new x (map (λ y. y) xs)
 put-same x [] = refl
 put-same x (y ∷ ys) =
-    elim (text_below x y) as (λ b. map (λ z. z) (if b then x ∷ y ∷ ys else (if bytes_eq x y then y ∷ ys else y ∷ put_by (λ z. z) x ys)) ≡ (if b then x ∷ y ∷ map (λ z. z) ys else (if bytes_eq x y then y ∷ map (λ z. z) ys else y ∷ put_new x (map (λ z. z) ys)))) [
+    elim (text_below x y) as (λ b. map (λ z. z)
+    (if b then x ∷ y ∷ ys else (if bytes_eq x y then y ∷ ys else y ∷ put_by (λ z. z) x ys))
+    ≡ (if b then x ∷ y ∷ map (λ z. z) ys
+    else (if bytes_eq x y then y ∷ map (λ z. z) ys else y ∷ put_new x (map (λ z. z) ys)))) [
       | true ↦ refl
-      | false ↦ elim (bytes_eq x y) as (λ b. map (λ z. z) (if b then y ∷ ys else y ∷ put_by (λ z. z) x ys) ≡ (if b then y ∷ map (λ z. z) ys else y ∷ put_new x (map (λ z. z) ys))) [
-        | true ↦ refl
-        | false ↦ ap (λ l. y ∷ l) (put-same x ys)
-      ]
+      | false ↦ elim (bytes_eq x y) as
+          (λ b. map (λ z. z) (if b then y ∷ ys else y ∷ put_by (λ z. z) x ys)
+          ≡ (if b then y ∷ map (λ z. z) ys else y ∷ put_new x (map (λ z. z) ys))) [
+            | true ↦ refl
+            | false ↦ ap (λ l. y ∷ l) (put-same x ys)
+          ]
     ]
 
 pub sorted-same : (xs : List (List ℕ)) → map (λ y. y) (sorted_by (λ y. y) xs) ≡ sorted_set xs
@@ -73,7 +82,8 @@ sorted-same [] = refl
 sorted-same (x ∷ xs) = put-same x (sorted_by (λ y. y) xs) ∙ ap (put_new x) (sorted-same xs)
 
 set_distinct : (xs : List (List ℕ)) → AreDistinct (sorted_set xs)
-set_distinct xs = subst AreDistinct (sorted-same xs) (rises_distinct (map (λ y. y) (sorted_by (λ y. y) xs)) (rises_sorted (λ y. y) xs))
+set_distinct xs = subst AreDistinct (sorted-same xs)
+    (rises_distinct (map (λ y. y) (sorted_by (λ y. y) xs)) (rises_sorted (λ y. y) xs))
 
 -- ---- packages
 
@@ -83,20 +93,27 @@ id_in m = m.0.id
 abbrev pub id_of : Package → List ℕ
 id_of p = p.id
 
-ids_distinct : (ps : List (PackageText × Bool)) → AreDistinct (map id_of (map package_of (sorted_by id_in ps)))
+ids_distinct : (ps : List (PackageText × Bool))
+    → AreDistinct (map id_of (map package_of (sorted_by id_in ps)))
 ids_distinct ps =
-    subst AreDistinct (sym (map_map id_of package_of (sorted_by id_in ps))) (rises_distinct (map id_in (sorted_by id_in ps)) (rises_sorted id_in ps))
+    subst AreDistinct (sym (map_map id_of package_of (sorted_by id_in ps)))
+    (rises_distinct (map id_in (sorted_by id_in ps)) (rises_sorted id_in ps))
 
-of_document : (read : Result DocumentText DocFault) (document : Document) → Keeps read (Ok document) → AreDistinct (map id_of document.packages)
+of_document : (read : Result DocumentText DocFault) (document : Document) → Keeps read (Ok document)
+    → AreDistinct (map id_of document.packages)
 of_document (Ok d) document (marks, are, e) =
-    let same : document ≡ document_of marks d = cc in subst (λ x. AreDistinct (map id_of x.packages)) (sym same) (ids_distinct (marked d.packages marks))
+    let same : document ≡ document_of marks d = cc in
+    subst (λ x. AreDistinct (map id_of x.packages)) (sym same)
+    (ids_distinct (marked d.packages marks))
 of_document (Err f) document e = absurd (cc)
 
-packages_once : (w : Readings) → AreRight w → (bytes : List ℕ) (document : Document) → w.document bytes ≡ Ok document → AreDistinct (map id_of document.packages)
+packages_once : (w : Readings) → AreRight w → (bytes : List ℕ) (document : Document)
+    → w.document bytes ≡ Ok document → AreDistinct (map id_of document.packages)
 packages_once w right bytes document e =
     let read = each_document bytes in
     let kept = something_kept read.0 in
-    of_document read.0 document (subst (Keeps read.0) (sym (right.document bytes read.0 kept.0 read.1 kept.1) ∙ e) kept.1)
+    of_document read.0 document (subst (Keeps read.0)
+    (sym (right.document bytes read.0 kept.0 read.1 kept.1) ∙ e) kept.1)
 
 -- ---- codes
 
@@ -104,48 +121,75 @@ packages_once w right bytes document e =
 abbrev pub HasSet : Rule → Type 0
 HasSet rule = (texts : List (List ℕ)) × (rule.codes ≡ sorted_set texts)
 
-chosen : (a b c : Bool) (f g h : CatalogueFault) (x rule : Rule) → (if a then Err f else (if b then Err g else (if c then Err h else Ok x))) ≡ Ok rule → x ≡ rule
+chosen : (a b c : Bool) (f g h : CatalogueFault) (x rule : Rule)
+    → (if a then Err f else (if b then Err g else (if c then Err h else Ok x))) ≡ Ok rule → x ≡ rule
 chosen true b c f g h x rule e = cc
 chosen false true c f g h x rule e = cc
 chosen false false true f g h x rule e = cc
 chosen false false false f g h x rule e = same_read x rule e
 
-rule_has : (forms duties : List (List ℕ)) (index : ℕ) (texts : RuleTexts) (term : List ℕ) (rule : Rule) → rule_of forms duties index texts term ≡ Ok rule → HasSet rule
+rule_has : (forms duties : List (List ℕ)) (index : ℕ) (texts : RuleTexts) (term : List ℕ)
+    (rule : Rule) → rule_of forms duties index texts term ≡ Ok rule → HasSet rule
 rule_has forms duties index texts term rule e =
-    let same = chosen (not (is_among forms texts.form)) (not (list_all (is_among duties) texts.duties)) (not (stand_once texts.duties)) (UnknownForm part.Rule index) (UnknownDuty part.Rule index) (Twice part.Rule index)
-    (record { term = term; form = texts.form; spelled = texts.term; codes = sorted_set texts.duties }) rule e in
+    let same = chosen (not (is_among forms texts.form))
+    (not (list_all (is_among duties) texts.duties)) (not (stand_once texts.duties))
+    (UnknownForm part.Rule index) (UnknownDuty part.Rule index) (Twice part.Rule index)
+    (record {
+      term = term;
+      form = texts.form;
+      spelled = texts.term;
+      codes = sorted_set texts.duties;
+    }) rule e in
     (texts.duties, ap (λ r. r.codes) (sym same))
 
-entry_has : (terms : List ℕ → Option (List ℕ)) (forms duties : List (List ℕ)) (index : ℕ) (d : Data) (rule : Rule) → rule_at terms forms duties index d ≡ Ok rule → HasSet rule
+entry_has : (terms : List ℕ → Option (List ℕ)) (forms duties : List (List ℕ)) (index : ℕ) (d : Data)
+    (rule : Rule) → rule_at terms forms duties index d ≡ Ok rule → HasSet rule
 entry_has terms forms duties index d rule e =
-    let written = then_by (rule_written index d) (λ texts. then_read (ok_or (licence_of terms texts.term) (BadTerm part.Rule index)) (rule_of forms duties index texts)) rule e in
-    let term = then_by (ok_or (licence_of terms written.0.term) (BadTerm part.Rule index)) (rule_of forms duties index written.0) rule written.2 in
+    let written = then_by (rule_written index d)
+    (λ texts. then_read (ok_or (licence_of terms texts.term) (BadTerm part.Rule index))
+    (rule_of forms duties index texts)) rule e in
+    let term = then_by (ok_or (licence_of terms written.0.term) (BadTerm part.Rule index))
+    (rule_of forms duties index written.0) rule written.2 in
     rule_has forms duties index written.0 term.0 rule term.2
 
-pub put_keeps : (P : Rule → Type 0) (x : Rule) (rs : List Rule) → P x → Each P rs → Each P (put_rule x rs)
+pub put_keeps : (P : Rule → Type 0) (x : Rule) (rs : List Rule) → P x → Each P rs
+    → Each P (put_rule x rs)
 put_keeps P x [] p all = (p, tt)
 put_keeps P x (r ∷ rs) p all =
-    elim (rule_order x r) as (λ o. Each P (match_ordering o (x ∷ r ∷ rs) (x ∷ rs) (r ∷ put_rule x rs))) [
+    elim (rule_order x r) as (λ o. Each P
+    (match_ordering o (x ∷ r ∷ rs) (x ∷ rs) (r ∷ put_rule x rs))) [
       | Less ↦ (p, all)
       | Equal ↦ (p, all.1)
       | Greater ↦ (all.0, put_keeps P x rs p all.1)
     ]
 
-pub catalogue_has : (terms : List ℕ → Option (List ℕ)) (text : List ℕ) (catalogue : WholeCatalogue) → catalogue_of terms text ≡ Ok catalogue → Each HasSet catalogue.rules
+pub catalogue_has : (terms : List ℕ → Option (List ℕ)) (text : List ℕ) (catalogue : WholeCatalogue)
+    → catalogue_of terms text ≡ Ok catalogue → Each HasSet catalogue.rules
 catalogue_has terms text catalogue e =
     let read = rules_read terms text catalogue e in
-    rules_hold (Each HasSet) terms read.1 read.2 (get_member (codes "rule") read.0) catalogue.rules tt
-    (λ index d rule rs is all. put_keeps HasSet rule rs (entry_has terms read.1 read.2 index d rule is) all) read.3
+    rules_hold (Each HasSet) terms read.1 read.2 (get_member (codes "rule") read.0) catalogue.rules
+    tt
+    (λ index d rule rs is all. put_keeps HasSet rule rs
+    (entry_has terms read.1 read.2 index d rule is) all) read.3
 
 -- what the desk keeps of a catalogue has its rules
-pub of_whole : (read : Read WholeCatalogue) (catalogue : Catalogue) → kept_catalogue read ≡ Ok catalogue → (whole : WholeCatalogue) × (read ≡ Ok whole) × (catalogue.rules ≡ whole.rules)
-of_whole (Ok whole) catalogue e = (whole, refl, ap (λ c. c.rules) (sym (same_read (record { forms = whole.forms; rules = whole.rules }) catalogue e)))
+pub of_whole : (read : Read WholeCatalogue) (catalogue : Catalogue)
+    → kept_catalogue read ≡ Ok catalogue
+    → (whole : WholeCatalogue) × (read ≡ Ok whole) × (catalogue.rules ≡ whole.rules)
+of_whole (Ok whole) catalogue e = (
+  whole,
+  refl,
+  ap (λ c. c.rules) (sym (same_read (record { forms = whole.forms; rules = whole.rules }) catalogue
+      e)),
+)
 of_whole (Err fault) catalogue e = cc
 
-codes_once : (w : Readings) → AreRight w → (text : List ℕ) (catalogue : Catalogue) (rule : Rule) → w.catalogue text ≡ Ok catalogue → IsIn rule catalogue.rules → AreDistinct rule.codes
+codes_once : (w : Readings) → AreRight w → (text : List ℕ) (catalogue : Catalogue) (rule : Rule)
+    → w.catalogue text ≡ Ok catalogue → IsIn rule catalogue.rules → AreDistinct rule.codes
 codes_once w right text catalogue rule e m =
     let whole = of_whole (catalogue_of w.term text) catalogue (sym (right.catalogue text) ∙ e) in
-    let set = each_in HasSet rule whole.0.rules (subst (IsIn rule) whole.2 m) (catalogue_has w.term text whole.0 whole.1) in
+    let set = each_in HasSet rule whole.0.rules (subst (IsIn rule) whole.2 m)
+    (catalogue_has w.term text whole.0 whole.1) in
     subst AreDistinct (sym set.1) (set_distinct set.0)
 
 pub lists_once : (w : Readings) → AreRight w → ListsOnce w

@@ -23,19 +23,26 @@ use Rattle.desk_tagvalue.specs.Parts.{DocumentText, PackageText, ExtractedText}
 use Rattle.desk_texts.specs.Documents.{sorted_by, marked, package_of, reference_of, document_of, Keeps}
 use Rattle.desk_texts.specs.Rising.{Rises}
 use Rattle.desk_texts.specs.Right.{AreRight}
-use Rattle.desk_history_laws.proofs.Once.{each_in, rises_sorted, sorted-same, id_in, id_of, HasSet, catalogue_has, of_whole}
+use Rattle.desk_history_laws.proofs.Once.{each_in, rises_sorted, sorted-same, id_in, id_of, HasSet}
+use Rattle.desk_history_laws.proofs.Once.{catalogue_has, of_whole}
 use Rattle.desk_history_laws.proofs.Ships.{something_kept}
 use Rattle.desk_texts.proofs.Halving.{map_map}
 
 -- what is sorted by its ids
-by_ids : {A : Type 0} (id : A → List ℕ) (xs : List A) → Rises (map id xs) → law.Rises (λ a b. text_below (id a) (id b)) xs
+by_ids : {A : Type 0} (id : A → List ℕ) (xs : List A) → Rises (map id xs)
+    → law.Rises (λ a b. text_below (id a) (id b)) xs
 by_ids id [] up = tt
-by_ids id (x ∷ xs) up = (λ y m. each_in (λ t. text_below (id x) t ≡ true) (id y) (map id xs) (in_map id y xs m) up.0, by_ids id xs up.1)
+by_ids id (x ∷ xs) up = (
+  λ y m. each_in (λ t. text_below (id x) t ≡ true) (id y) (map id xs) (in_map id y xs m) up.0,
+  by_ids id xs up.1,
+)
 
 -- ---- packages and references
 
-packages_rise : (ps : List (PackageText × Bool)) → law.Rises package_below (map package_of (sorted_by id_in ps))
-packages_rise ps = by_ids id_of (map package_of (sorted_by id_in ps)) (subst Rises (sym (map_map id_of package_of (sorted_by id_in ps))) (rises_sorted id_in ps))
+packages_rise : (ps : List (PackageText × Bool))
+    → law.Rises package_below (map package_of (sorted_by id_in ps))
+packages_rise ps = by_ids id_of (map package_of (sorted_by id_in ps))
+    (subst Rises (sym (map_map id_of package_of (sorted_by id_in ps))) (rises_sorted id_in ps))
 
 abbrev named : ExtractedText → List ℕ
 named x = x.id
@@ -43,22 +50,29 @@ named x = x.id
 abbrev id_of_reference : Reference → List ℕ
 id_of_reference x = x.id
 
-references_rise : (xs : List ExtractedText) → law.Rises reference_below (map reference_of (sorted_by named xs))
-references_rise xs = by_ids id_of_reference (map reference_of (sorted_by named xs)) (subst Rises (sym (map_map id_of_reference reference_of (sorted_by named xs))) (rises_sorted named xs))
+references_rise : (xs : List ExtractedText)
+    → law.Rises reference_below (map reference_of (sorted_by named xs))
+references_rise xs = by_ids id_of_reference (map reference_of (sorted_by named xs))
+    (subst Rises (sym (map_map id_of_reference reference_of (sorted_by named xs)))
+    (rises_sorted named xs))
 
 abbrev Listed : Document → Type 0
 Listed d = law.Rises package_below d.packages × law.Rises reference_below d.references
 
-of_document : (read : Result DocumentText DocFault) (document : Document) → Keeps read (Ok document) → Listed document
+of_document : (read : Result DocumentText DocFault) (document : Document) → Keeps read (Ok document)
+    → Listed document
 of_document (Ok d) document (marks, are, e) =
-    let same : document ≡ document_of marks d = cc in subst Listed (sym same) (packages_rise (marked d.packages marks), references_rise d.extracted)
+    let same : document ≡ document_of marks d = cc in
+    subst Listed (sym same) (packages_rise (marked d.packages marks), references_rise d.extracted)
 of_document (Err f) document e = absurd (cc)
 
-document_listed : (w : Readings) → AreRight w → (bytes : List ℕ) (document : Document) → w.document bytes ≡ Ok document → Listed document
+document_listed : (w : Readings) → AreRight w → (bytes : List ℕ) (document : Document)
+    → w.document bytes ≡ Ok document → Listed document
 document_listed w right bytes document e =
     let read = each_document bytes in
     let kept = something_kept read.0 in
-    of_document read.0 document (subst (Keeps read.0) (sym (right.document bytes read.0 kept.0 read.1 kept.1) ∙ e) kept.1)
+    of_document read.0 document (subst (Keeps read.0)
+    (sym (right.document bytes read.0 kept.0 read.1 kept.1) ∙ e) kept.1)
 
 -- ---- rules and codes
 
@@ -66,15 +80,21 @@ all_in : {A : Type 0} (P : A → Type 0) (x : A) (xs : List A) → IsIn x xs →
 all_in P x [] m all = absurd m
 all_in P x (y ∷ ys) m all = elim m [ inl same ↦ subst P same all.0 | inr n ↦ all_in P x ys n all.1 ]
 
-rules_rise : (rules : List Rule) → IsStrictlySortedBy rule_order rules → law.Rises (below_by rule_order) rules
+rules_rise : (rules : List Rule) → IsStrictlySortedBy rule_order rules
+    → law.Rises (below_by rule_order) rules
 unfolding IsStrictlySortedBy
 rules_rise [] up = tt
-rules_rise (r ∷ rs) up = (λ x m. ap is_lt (all_in (λ s. rule_order r s ≡ Less) x rs m up.0), rules_rise rs up.1)
+rules_rise (r ∷ rs) up = (
+  λ x m. ap is_lt (all_in (λ s. rule_order r s ≡ Less) x rs m up.0),
+  rules_rise rs up.1,
+)
 
-rules_listed : (w : Readings) → AreRight w → (text : List ℕ) (catalogue : Catalogue) → w.catalogue text ≡ Ok catalogue → law.Rises (below_by rule_order) catalogue.rules
+rules_listed : (w : Readings) → AreRight w → (text : List ℕ) (catalogue : Catalogue)
+    → w.catalogue text ≡ Ok catalogue → law.Rises (below_by rule_order) catalogue.rules
 rules_listed w right text catalogue e =
     let whole = of_whole (catalogue_of w.term text) catalogue (sym (right.catalogue text) ∙ e) in
-    subst (law.Rises (below_by rule_order)) (sym whole.2) (rules_rise whole.0.rules (rules_sorted w.term text whole.0 whole.1))
+    subst (law.Rises (below_by rule_order)) (sym whole.2)
+    (rules_rise whole.0.rules (rules_sorted w.term text whole.0 whole.1))
 
 unmapped : (xs : List (List ℕ)) → map (λ x. x) xs ≡ xs
 unmapped [] = refl
@@ -82,13 +102,16 @@ unmapped (x ∷ xs) = ap (λ l. x ∷ l) (unmapped xs)
 
 set_rises : (texts : List (List ℕ)) → law.Rises text_below (sorted_set texts)
 set_rises texts =
-    let up : Rises (sorted_set texts) = subst Rises (sorted-same texts) (rises_sorted (λ x. x) texts) in
+    let up : Rises (sorted_set texts) =
+    subst Rises (sorted-same texts) (rises_sorted (λ x. x) texts) in
     by_ids (λ x. x) (sorted_set texts) (subst Rises (sym (unmapped (sorted_set texts))) up)
 
-codes_listed : (w : Readings) → AreRight w → (text : List ℕ) (catalogue : Catalogue) (rule : Rule) → w.catalogue text ≡ Ok catalogue → IsIn rule catalogue.rules → law.Rises text_below rule.codes
+codes_listed : (w : Readings) → AreRight w → (text : List ℕ) (catalogue : Catalogue) (rule : Rule)
+    → w.catalogue text ≡ Ok catalogue → IsIn rule catalogue.rules → law.Rises text_below rule.codes
 codes_listed w right text catalogue rule e m =
     let whole = of_whole (catalogue_of w.term text) catalogue (sym (right.catalogue text) ∙ e) in
-    let set = each_in HasSet rule whole.0.rules (subst (IsIn rule) whole.2 m) (catalogue_has w.term text whole.0 whole.1) in
+    let set = each_in HasSet rule whole.0.rules (subst (IsIn rule) whole.2 m)
+    (catalogue_has w.term text whole.0 whole.1) in
     subst (law.Rises text_below) (sym set.1) (set_rises set.0)
 
 pub lists_in_order : (w : Readings) → AreRight w → ListsInOrder w

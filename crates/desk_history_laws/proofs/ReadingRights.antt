@@ -34,24 +34,39 @@ use Rattle.desk_history_laws.proofs.Spelled.{rule_spells}
 -- ---- rules
 
 -- what the desk keeps of a catalogue has its rules
-of_whole : (read : Result WholeCatalogue CatalogueFault) (catalogue : Catalogue) → kept_catalogue read ≡ Ok catalogue → (whole : WholeCatalogue) × (read ≡ Ok whole) × (catalogue.rules ≡ whole.rules)
-of_whole (Ok whole) catalogue e = let same : record { forms = whole.forms; rules = whole.rules } ≡ catalogue = cc in (whole, refl, ap (λ (c : Catalogue). c.rules) (sym same))
+of_whole : (read : Result WholeCatalogue CatalogueFault) (catalogue : Catalogue)
+    → kept_catalogue read ≡ Ok catalogue
+    → (whole : WholeCatalogue) × (read ≡ Ok whole) × (catalogue.rules ≡ whole.rules)
+of_whole (Ok whole) catalogue e = let same : record {
+  forms = whole.forms;
+  rules = whole.rules;
+} ≡ catalogue = cc in (whole, refl, ap (λ (c : Catalogue). c.rules) (sym same))
 of_whole (Err fault) catalogue e = cc
 
-spelled : (w : Readings) → AreRight w → (text : List ℕ) (catalogue : Catalogue) (rule : Rule) → w.catalogue text ≡ Ok catalogue → IsIn rule catalogue.rules → w.term rule.spelled ≡ Some rule.term
+spelled : (w : Readings) → AreRight w → (text : List ℕ) (catalogue : Catalogue) (rule : Rule)
+    → w.catalogue text ≡ Ok catalogue → IsIn rule catalogue.rules
+    → w.term rule.spelled ≡ Some rule.term
 spelled w right text catalogue rule e m =
     let whole = of_whole (catalogue_of w.term text) catalogue (sym (right.catalogue text) ∙ e) in
-    rule_spells w.term text whole.0 whole.1 rule (subst (λ (rules : List Rule). IsIn rule rules) whole.2 m)
+    rule_spells w.term text whole.0 whole.1 rule
+    (subst (λ (rules : List Rule). IsIn rule rules) whole.2 m)
 
-pub reads_rules : ((w : Readings) → AreRight w → ListsInOrder w) → ((w : Readings) → AreRight w → ListsIds w) → (w : Readings) → AreRight w → ReadsRules w
-reads_rules in_order ids w right = record { in_order = in_order w right; ids = ids w right; spelled = spelled w right }
+pub reads_rules : ((w : Readings) → AreRight w → ListsInOrder w)
+    → ((w : Readings) → AreRight w → ListsIds w) → (w : Readings) → AreRight w → ReadsRules w
+reads_rules in_order ids w right = record {
+  in_order = in_order w right;
+  ids = ids w right;
+  spelled = spelled w right;
+}
 
 -- ---- terms
 
 abbrev pub TermsTold : Type 0
-TermsTold = (w : Readings) → AreRight w → (text : List ℕ) (t : Term) → SpellsTermWithin text t → (w.term text ≡ Some (printed_term t)) × IsTrue (is_term t)
+TermsTold = (w : Readings) → AreRight w → (text : List ℕ) (t : Term) → SpellsTermWithin text t
+    → (w.term text ≡ Some (printed_term t)) × IsTrue (is_term t)
 
-printed_by : TermsTold → (w : Readings) → AreRight w → (text term : List ℕ) (o : Option (List ℕ)) → IsTermOf text o → o ≡ Some term → w.term term ≡ Some term
+printed_by : TermsTold → (w : Readings) → AreRight w → (text term : List ℕ) (o : Option (List ℕ))
+    → IsTermOf text o → o ≡ Some term → w.term term ≡ Some term
 printed_by told w right text term None none e = cc
 printed_by told w right text term (Some printed) (t, spells, prints) e =
     let same : printed ≡ term = cc in
@@ -59,24 +74,35 @@ printed_by told w right text term (Some printed) (t, spells, prints) e =
     let again = told w right (printed_term t) t (spells_itself text t first.1 spells) in
     subst (λ (u : List ℕ). w.term u ≡ Some u) (prints ∙ same) again.0
 
-printed : TermsTold → (w : Readings) → AreRight w → (text term : List ℕ) → w.term text ≡ Some term → w.term term ≡ Some term
-printed told w right text term e = printed_by told w right text term (w.term text) (right.term text) e
+printed : TermsTold → (w : Readings) → AreRight w → (text term : List ℕ) → w.term text ≡ Some term
+    → w.term term ≡ Some term
+printed told w right text term e = printed_by told w right text term (w.term text) (right.term text)
+    e
 
 -- ---- expressions
 
 abbrev pub MinimalSets : Type 0
-MinimalSets = (w : Readings) → AreRight w → (profile : Profile) (text : List ℕ) (words : List (List ℕ)) → w.verdict profile text words ≡ Minimal → (e : Tree) × (ts : List Term) × IsExpression profile text e × AreTerms words ts × IsMinimal ts e
+MinimalSets = (w : Readings) → AreRight w
+    → (profile : Profile) (text : List ℕ) (words : List (List ℕ))
+    → w.verdict profile text words ≡ Minimal
+    → (e : Tree) × (ts : List Term) × IsExpression profile text e × AreTerms words ts
+    × IsMinimal ts e
 
-sets : MinimalSets → (w : Readings) → AreRight w → (profile : Profile) (text : List ℕ) (terms : List (List ℕ)) → w.verdict profile text terms ≡ Minimal → w.verdict profile text (sorted_set terms) ≡ Minimal
+sets : MinimalSets → (w : Readings) → AreRight w
+    → (profile : Profile) (text : List ℕ) (terms : List (List ℕ))
+    → w.verdict profile text terms ≡ Minimal → w.verdict profile text (sorted_set terms) ≡ Minimal
 sets minimal w right profile text terms e =
     let of = minimal w right profile text terms e in
     let spells = set_spells terms of.1 of.3 in
-    right.verdict profile text (sorted_set terms) Minimal (inl (of.0, spells.0, of.2, spells.1, minimal_alike of.1 spells.0 of.0 spells.2 of.4))
+    right.verdict profile text (sorted_set terms) Minimal
+    (inl (of.0, spells.0, of.2, spells.1, minimal_alike of.1 spells.0 of.0 spells.2 of.4))
 
 abbrev pub NoFault : Type 0
-NoFault = (w : Readings) → AreRight w → (profile : Profile) (text : List ℕ) → w.is_expression profile text ≡ is_none (w.expression_fault profile text)
+NoFault = (w : Readings) → AreRight w → (profile : Profile) (text : List ℕ)
+    → w.is_expression profile text ≡ is_none (w.expression_fault profile text)
 
-pub reads_choices : TermsTold → MinimalSets → NoFault → ((w : Readings) → AreRight w → ListsOnce w) → (w : Readings) → AreRight w → ReadsChoices w
+pub reads_choices : TermsTold → MinimalSets → NoFault → ((w : Readings) → AreRight w → ListsOnce w)
+    → (w : Readings) → AreRight w → ReadsChoices w
 reads_choices told minimal no_fault once w right = record {
   faultless = λ text e. no_fault w right Capitals text ∙ ap is_none e;
   printed = printed told w right;

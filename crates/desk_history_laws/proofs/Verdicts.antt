@@ -17,13 +17,16 @@ use Rattle.desk_model.specs.declared.reading.Verdict.TheVariants.{NotEnough, Sup
 use Rattle.desk_texts.specs.Expressions.{IsExpression, IsVerdict, Judges}
 use Rattle.desk_texts.specs.Terms.{AreTerms}
 
-pub one_tree : (profile : Profile) (text : List ℕ) (e f : Tree) → IsExpression profile text e → IsExpression profile text f → e ≡ f
+pub one_tree : (profile : Profile) (text : List ℕ) (e f : Tree) → IsExpression profile text e
+    → IsExpression profile text f → e ≡ f
 one_tree profile text e f (some, spells) (some', spells') = one text spells spells'
   where
     one : (t : List ℕ) → SpellsWithinBy profile t e → SpellsWithinBy profile t f → e ≡ f
-    one t (short, ts, are, h, keeps) (short', us, are', k, keeps') = spells_once profile t e f (ts, are, h) (us, are', k)
+    one t (short, ts, are, h, keeps) (short', us, are', k, keeps') = spells_once profile t e f
+        (ts, are, h) (us, are', k)
 
-pub same_terms : (texts : List (List ℕ)) (ts us : List Term) → AreTerms texts ts → AreTerms texts us → ts ≡ us
+pub same_terms : (texts : List (List ℕ)) (ts us : List Term) → AreTerms texts ts → AreTerms texts us
+    → ts ≡ us
 same_terms [] [] [] h k = refl
 same_terms [] [] (u ∷ us) h k = absurd k
 same_terms [] (t ∷ ts) us h k = absurd h
@@ -41,7 +44,8 @@ module _ (e : Tree) (ts : List Term) where
   one_first : (i j : ℕ) → IsFirst (CanGo ts e) i → IsFirst (CanGo ts e) j → i ≡ j
   one_first i j h k = elim (cases_lt i j) [
     | inl less ↦ absurd (k.1 i less h.0)
-    | inr more ↦ elim (eq-or-lt_of_le more) [ inl same ↦ sym same | inr less ↦ absurd (h.1 j less k.0) ]
+    | inr more ↦ elim (eq-or-lt_of_le more)
+        [ inl same ↦ sym same | inr less ↦ absurd (h.1 j less k.0) ]
   ]
 
   pub one_verdict : (a b : Verdict) → IsVerdict e ts a → IsVerdict e ts b → a ≡ b
@@ -56,11 +60,15 @@ module _ (e : Tree) (ts : List Term) where
   one_verdict (Superfluous i) (Superfluous j) h k = ap Superfluous (one_first i j h k)
 
 -- a value and texts are judged in only one way
-pub judged_once : (profile : Profile) (text : List ℕ) (words : List (List ℕ)) (a b : Verdict) → Judges profile text words a → Judges profile text words b → a ≡ b
+pub judged_once : (profile : Profile) (text : List ℕ) (words : List (List ℕ)) (a b : Verdict)
+    → Judges profile text words a → Judges profile text words b → a ≡ b
 judged_once profile text words a b (inl (e, ts, is, are, v)) (inl (f, us, is', are', v')) =
     let tree : f ≡ e = one_tree profile text f e is' is in
     let terms : us ≡ ts = same_terms words us ts are' are in
-    one_verdict e ts a b v (subst (λ x. IsVerdict x ts b) tree (subst (λ l. IsVerdict f l b) terms v'))
-judged_once profile text words a b (inl (e, ts, is, are, v)) (inr (none, is')) = absurd (none e ts is are)
-judged_once profile text words a b (inr (none, is)) (inl (e, ts, is', are, v)) = absurd (none e ts is' are)
+    one_verdict e ts a b v (subst (λ x. IsVerdict x ts b) tree
+    (subst (λ l. IsVerdict f l b) terms v'))
+judged_once profile text words a b (inl (e, ts, is, are, v)) (inr (none, is')) = absurd (none e ts
+    is are)
+judged_once profile text words a b (inr (none, is)) (inl (e, ts, is', are, v)) = absurd (none e ts
+    is' are)
 judged_once profile text words a b (inr (none, is)) (inr (none', is')) = is ∙ sym is'

@@ -20,24 +20,39 @@ not_blank b e =
     ]
 
 no_blanks : (word : List ℕ) → is_idstring word ≡ true → All (λ b. is_blank b ≡ false) word
-no_blanks word e = All-from_recursion (λ b. is_blank b ≡ false) word (each word (and_right (nat_lt 0 (length word)) (list_all is_idstring_byte word) e))
+no_blanks word e = All-from_recursion (λ b. is_blank b ≡ false) word
+    (each word (and_right (nat_lt 0 (length word)) (list_all is_idstring_byte word) e))
   where
-    each : (bytes : List ℕ) → list_all is_idstring_byte bytes ≡ true → AllByRecursion (λ b. is_blank b ≡ false) bytes
+    each : (bytes : List ℕ) → list_all is_idstring_byte bytes ≡ true
+        → AllByRecursion (λ b. is_blank b ≡ false) bytes
     each [] e = tt
-    each (b ∷ bs) e = (not_blank b (and_left (is_idstring_byte b) (list_all is_idstring_byte bs) e), each bs (and_right (is_idstring_byte b) (list_all is_idstring_byte bs) e))
+    each (b ∷ bs) e = (
+      not_blank b (and_left (is_idstring_byte b) (list_all is_idstring_byte bs) e),
+      each bs (and_right (is_idstring_byte b) (list_all is_idstring_byte bs) e),
+    )
 
-split_joined : (word : List ℕ) (words : List (List ℕ)) → list_all is_idstring (word ∷ words) ≡ true → slice_split is_blank (join_with_byte 32 (word ∷ words)) ≡ word ∷ words
-split_joined word [] e = slice_split_none is_blank word (no_blanks word (and_left (is_idstring word) true e))
+split_joined : (word : List ℕ) (words : List (List ℕ)) → list_all is_idstring (word ∷ words) ≡ true
+    → slice_split is_blank (join_with_byte 32 (word ∷ words)) ≡ word ∷ words
+split_joined word [] e = slice_split_none is_blank word
+    (no_blanks word (and_left (is_idstring word) true e))
 split_joined word (next ∷ words) e =
-    slice_split_at is_blank word 32 (join_with_byte 32 (next ∷ words)) (no_blanks word (and_left (is_idstring word) (list_all is_idstring (next ∷ words)) e)) refl
-    ∙ ap (λ ws. word ∷ ws) (split_joined next words (and_right (is_idstring word) (list_all is_idstring (next ∷ words)) e))
+    slice_split_at is_blank word 32 (join_with_byte 32 (next ∷ words))
+    (no_blanks word (and_left (is_idstring word) (list_all is_idstring (next ∷ words)) e)) refl
+    ∙ ap (λ ws. word ∷ ws) (split_joined next words
+    (and_right (is_idstring word) (list_all is_idstring (next ∷ words)) e))
 
-all_kept : (words : List (List ℕ)) → list_all is_idstring words ≡ true → filter (λ (word : List ℕ). nat_lt 0 (length word)) words ≡ words
+all_kept : (words : List (List ℕ)) → list_all is_idstring words ≡ true
+    → filter (λ (word : List ℕ). nat_lt 0 (length word)) words ≡ words
 all_kept [] e = refl
 all_kept (word ∷ words) e =
-    let some : nat_lt 0 (length word) ≡ true = and_left (nat_lt 0 (length word)) (list_all is_idstring_byte word) (and_left (is_idstring word) (list_all is_idstring words) e) in
-    rw some (ap (λ ws. word ∷ ws) (all_kept words (and_right (is_idstring word) (list_all is_idstring words) e)))
+    let some : nat_lt 0 (length word) ≡ true =
+    and_left (nat_lt 0 (length word)) (list_all is_idstring_byte word)
+    (and_left (is_idstring word) (list_all is_idstring words) e) in
+    rw some (ap (λ ws. word ∷ ws)
+    (all_kept words (and_right (is_idstring word) (list_all is_idstring words) e)))
 
-pub codes-joined : (words : List (List ℕ)) → list_all is_idstring words ≡ true → codes_in (join_with_byte 32 words) ≡ words
+pub codes-joined : (words : List (List ℕ)) → list_all is_idstring words ≡ true
+    → codes_in (join_with_byte 32 words) ≡ words
 codes-joined [] e = refl
-codes-joined (word ∷ words) e = ap (filter (λ (word : List ℕ). nat_lt 0 (length word))) (split_joined word words e) ∙ all_kept (word ∷ words) e
+codes-joined (word ∷ words) e = ap (filter (λ (word : List ℕ). nat_lt 0 (length word)))
+    (split_joined word words e) ∙ all_kept (word ∷ words) e

@@ -1,4 +1,5 @@
--- Dates: a written day `YYYY-MM-DD` (ISO 8601-1, 5.2.2.1, the extended format) by its year, month and day as numbers.
+-- Dates: a written day `YYYY-MM-DD` (ISO 8601-1, 5.2.2.1, the extended format) by its year, month
+-- and day as numbers.
 use Rattle.std.specs.Prelude.{ℕ, List, take, drop}
 use Rattle.std.specs.Ordering.{nat_cmp, on, then_cmp}
 use Rattle.std.specs.declared.cmp.Ordering.{Ordering}

@@ -1,10 +1,12 @@
--- What a history says by filters and last entries, with its commands in the order in which they were recorded.
+-- What a history says by filters and last entries, with its commands in the order in which they
+-- were recorded.
 use Rattle.std.specs.Prelude.{ℕ, Bool, false, List, [], map, filter, reverse, Option, Some, None}
 use Rattle.std.specs.List.{filter_map, last_or}
 use Rattle.std.specs.Result.{result_ok}
 use Rattle.std.specs.Str.{bytes_eq}
 use Rattle.desk_model.specs.Readings.{Readings}
-use Rattle.desk_model.specs.History.{rules_in, rule_row, namespace_in, packages_in, references_in, package_row, extracted_row, is_package_of, term_set}
+use Rattle.desk_model.specs.History.{rules_in, rule_row, namespace_in, packages_in, references_in}
+use Rattle.desk_model.specs.History.{package_row, extracted_row, is_package_of, term_set}
 use Rattle.desk_base.specs.declared.profile.Profile.{Profile}
 use Rattle.desk_model.specs.declared.row.CatalogueRow.{CatalogueRow}
 use Rattle.desk_model.specs.declared.row.RuleRow.{RuleRow}
@@ -12,7 +14,8 @@ use Rattle.desk_model.specs.declared.row.DocumentRow.{DocumentRow}
 use Rattle.desk_model.specs.declared.row.PackageRow.{PackageRow}
 use Rattle.desk_model.specs.declared.row.ExtractedRow.{ExtractedRow}
 use Rattle.desk_model.specs.declared.command.Command.{Command}
-use Rattle.desk_model.specs.declared.command.Command.TheVariants.{Import, OpenRelease, Choose, Unchoose, Freeze, Withdraw}
+use Rattle.desk_model.specs.declared.command.Command.TheVariants.{Import, OpenRelease, Choose}
+use Rattle.desk_model.specs.declared.command.Command.TheVariants.{Unchoose, Freeze, Withdraw}
 
 -- what the commands give, in the order in which they were recorded
 abbrev pub given : {A : Type 0} → (Command → Option A) → List Command → List A
@@ -50,7 +53,8 @@ abbrev pub packages_of : Readings → DocumentRow → List PackageRow
 packages_of w row = map (package_row row.number) (packages_in (result_ok (w.document row.bytes)))
 
 abbrev pub references_of : Readings → DocumentRow → List ExtractedRow
-references_of w row = map (extracted_row row.number) (references_in (result_ok (w.document row.bytes)))
+references_of w row = map (extracted_row row.number)
+    (references_in (result_ok (w.document row.bytes)))
 
 -- Releases
 
@@ -65,7 +69,8 @@ freezes r _ = false
 
 -- Choices
 
--- a command that decides what is chosen for a package in a release: a Choose or an Unchoose of it, or a withdrawal of the release
+-- a command that decides what is chosen for a package in a release: a Choose or an Unchoose of it,
+-- or a withdrawal of the release
 abbrev pub decides : List ℕ → ℕ → List ℕ → Command → Bool
 decides r d p (Choose r' d' p' texts) = is_package_of r d p r' d' p'
 decides r d p (Unchoose r' d' p') = is_package_of r d p r' d' p'

@@ -1,4 +1,5 @@
--- What a right reading says about printed terms, by the terms themselves (SPDX 2.3, Annex D.2 to D.4).
+-- What a right reading says about printed terms, by the terms themselves (SPDX 2.3, Annex D.2 to
+-- D.4).
 use Rattle.std.specs.Prelude.{ℕ, ◌&&◌, not, Bool, false, List, Option, Some, None, is_none, if◌then◌else◌}
 use Rattle.desk_expr.specs.declared.term.Term.{Term}
 use Rattle.desk_expr.specs.Words.{is_folded_id, is_reference}

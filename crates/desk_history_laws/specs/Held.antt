@@ -13,9 +13,10 @@ use Rattle.desk_model.specs.declared.row.PackageRow.{PackageRow}
 use Rattle.desk_texts.specs.Expressions.{IsExpression}
 use Rattle.desk_texts.specs.Terms.{AreTerms}
 
--- Texts that are held for a package after these commands: the package has a conclusion now, its text spells a tree, and the texts
--- spell terms that are, as a set, minimal for it.
-pub record AreMinimalFor (w : Readings) (h : List Command) (d : ℕ) (p : List ℕ) (held : List (List ℕ)) : Type 0 where
+-- Texts that are held for a package after these commands: the package has a conclusion now, its
+-- text spells a tree, and the texts spell terms that are, as a set, minimal for it.
+pub record AreMinimalFor (w : Readings) (h : List Command) (d : ℕ) (p : List ℕ)
+    (held : List (List ℕ)) : Type 0 where
   pub row : PackageRow
   pub concluded : Conclusion
   pub tree : Tree

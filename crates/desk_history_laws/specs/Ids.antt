@@ -9,4 +9,5 @@ use Rattle.desk_model.specs.declared.reading.Rule.{Rule}
 
 -- a reading by which each code of a rule is an idstring (SPDX 2.3, Annex D.2)
 abbrev pub ListsIds : Readings → Type 0
-ListsIds w = (text : List ℕ) (catalogue : Catalogue) (rule : Rule) → w.catalogue text ≡ Ok catalogue → IsIn rule catalogue.rules → list_all is_idstring rule.codes ≡ true
+ListsIds w = (text : List ℕ) (catalogue : Catalogue) (rule : Rule) → w.catalogue text ≡ Ok catalogue
+    → IsIn rule catalogue.rules → list_all is_idstring rule.codes ≡ true

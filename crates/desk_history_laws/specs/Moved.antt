@@ -1,4 +1,5 @@
--- The moves of a duty by a filter of the commands, each considered together with those that were recorded before it.
+-- The moves of a duty by a filter of the commands, each considered together with those that were
+-- recorded before it.
 use Rattle.std.specs.Prelude.{◌≡◌, ℕ, List, [], ◌∷◌, ◌++◌, reverse, Option, Some}
 use Rattle.std.specs.List.{filter_map}
 use Rattle.std.specs.Option.{option_map_or}

@@ -39,7 +39,8 @@ frozen_key row = (row.release, row.document, row.package_id, row.term)
 abbrev pub change_key : ChangeRow → ℕ × ℕ
 change_key row = (row.duty, row.step)
 
--- No two rows of a table have the same key. Besides, a document's namespace, a release's place, and what a duty is owed for are unique.
+-- No two rows of a table have the same key. Besides, a document's namespace, a release's place, and
+-- what a duty is owed for are unique.
 pub record HaveOwnKeys (t : Tables) : Type 0 where
   pub revisions : AreDistinct (map (λ row. row.revision) t.catalogue)
   pub rules : AreDistinct (map rule_key t.rule)

@@ -7,7 +7,8 @@ use Rattle.desk_model.specs.declared.row.PackageRow.{PackageRow}
 use Rattle.desk_model.specs.declared.command.Command.{Command}
 use Rattle.desk_model.specs.declared.command.Command.TheVariants.{Attach}
 
--- a package that a release ships: its document was attached to the release, has the package and ships it
+-- a package that a release ships: its document was attached to the release, has the package and
+-- ships it
 pub record IsShipped (w : Readings) (h : List Command) (r : List ℕ) (p : PackageRow) : Type 0 where
   pub attached : IsIn (Attach r p.document) h
   pub listed : IsIn p (packages w h)

@@ -9,8 +9,9 @@ use Rattle.desk_model.specs.declared.row.FrozenRow.{FrozenRow}
 use Rattle.desk_model.specs.declared.command.Command.{Command}
 use Rattle.desk_history.specs.Laws.{IsNumbered}
 
--- A row of the duty table: a freeze raised this duty, and it has the row's number. The row has the duty's release, document, package, term and code and the
--- rule as it is spelled, and the state in which the moves of the duty with this number left it.
+-- A row of the duty table: a freeze raised this duty, and it has the row's number. The row has the
+-- duty's release, document, package, term and code and the rule as it is spelled, and the state in
+-- which the moves of the duty with this number left it.
 pub record IsDutyRow (w : Readings) (h : List Command) (row : DutyRow) : Type 0 where
   pub duty : Owed
   pub raised : IsRaised w h duty
@@ -25,4 +26,10 @@ pub record IsDutyRow (w : Readings) (h : List Command) (row : DutyRow) : Type 0 
 
 -- a term that a release was frozen with for a package of a document, and its rule as it was spelled
 abbrev pub frozen_row : List ℕ → ℕ → List ℕ → List ℕ → List ℕ → FrozenRow
-frozen_row r d p term rule = record { release = r; document = d; package_id = p; term = term; rule = rule }
+frozen_row r d p term rule = record {
+  release = r;
+  document = d;
+  package_id = p;
+  term = term;
+  rule = rule;
+}

@@ -5,8 +5,9 @@ use Rattle.desk_base.specs.Day.{is_day}
 use Rattle.desk_base.specs.Limits as most
 use Rattle.desk_model.specs.Tables.{Tables}
 
--- There are no more revisions, documents, releases and duties than may be, and each row names one that exists, by its number. A duty has at most two changes
--- past the limit, the end of a waiver and a withdrawal. The days of changes exist.
+-- There are no more revisions, documents, releases and duties than may be, and each row names one
+-- that exists, by its number. A duty has at most two changes past the limit, the end of a waiver
+-- and a withdrawal. The days of changes exist.
 pub record AreWithin (t : Tables) : Type 0 where
   pub revisions : length t.catalogue ≤ most.revisions
   pub documents : length t.document ≤ most.documents

@@ -18,12 +18,17 @@ use Rattle.desk_script.proofs.OneLine.{no_request}
 use Rattle.desk_script.specs.declared.answer.Reply as script_reply
 use Rattle.desk_script.specs.declared.answer.Reply.TheVariants as script
 
-module _ (is_right : Readings → Type 0) (tells : StoreFault → Type 0) {Left Desk : Type 0} (stands : Left → Tables → Type 0) (seen : Desk → Seen Left) where
-  unasked : (before after : Desk) → after ≡ before → Replies is_right tells stands (seen before) line.BadCommand script.NoRequest (seen after)
-  unasked before after same = subst (λ (d : Desk). Replies is_right tells stands (seen before) line.BadCommand script.NoRequest (seen d)) (sym same) (no_request is_right tells stands (seen before))
+module _ (is_right : Readings → Type 0) (tells : StoreFault → Type 0) {Left Desk : Type 0}
+    (stands : Left → Tables → Type 0) (seen : Desk → Seen Left) where
+  unasked : (before after : Desk) → after ≡ before
+      → Replies is_right tells stands (seen before) line.BadCommand script.NoRequest (seen after)
+  unasked before after same = subst (λ (d : Desk). Replies is_right tells stands (seen before)
+      line.BadCommand script.NoRequest (seen d)) (sym same)
+      (no_request is_right tells stands (seen before))
 
   -- a request of a connection gets the reply of a line
-  as_line : (before after : Desk) (get : Bool) (r : Reply) (q : Request) → Answers is_right tells stands seen get before r q after
+  as_line : (before after : Desk) (get : Bool) (r : Reply) (q : Request)
+      → Answers is_right tells stands seen get before r q after
       → Replies is_right tells stands (seen before) (line_of q) (line_reply r) (seen after)
   as_line before after get (Became o s short) (request.Act c) a = a.2
   as_line before after get (Became o s short) (request.Ask c shape) a = a.2
@@ -48,33 +53,58 @@ module _ (is_right : Readings → Type 0) (tells : StoreFault → Type 0) {Left 
   as_line before after get Memory q a = absurd a
   as_line before after get (Bad status) q a = absurd a
 
-  one : (before after : Desk) (bytes : List ℕ) (r : Reply) → IsReply is_right tells stands seen before bytes r after
-      → (q : json_request.Request) × IsLineOf bytes r q × Replies is_right tells stands (seen before) q (line_reply r) (seen after)
+  one : (before after : Desk) (bytes : List ℕ) (r : Reply)
+      → IsReply is_right tells stands seen before bytes r after
+      → (q : json_request.Request) × IsLineOf bytes r q
+      × Replies is_right tells stands (seen before) q (line_reply r) (seen after)
   one before after bytes Memory a = (line.BadCommand, refl, unasked before after a)
   one before after bytes (Bad status) a = (line.BadCommand, (a.0, refl), unasked before after a.1)
-  one before after bytes (Became o s short) (m, t, b, x, a) =
-      (line_of (request_for m t b), (m, t, b, x, refl), as_line before after (is_get m) (Became o s short) (request_for m t b) a)
-  one before after bytes NoRoute (m, t, b, x, a) =
-      (line_of (request_for m t b), (m, t, b, x, refl), as_line before after (is_get m) NoRoute (request_for m t b) a)
-  one before after bytes BadCommand (m, t, b, x, a) =
-      (line_of (request_for m t b), (m, t, b, x, refl), as_line before after (is_get m) BadCommand (request_for m t b) a)
-  one before after bytes NotText (m, t, b, x, a) =
-      (line_of (request_for m t b), (m, t, b, x, refl), as_line before after (is_get m) NotText (request_for m t b) a)
+  one before after bytes (Became o s short) (m, t, b, x, a) = (
+    line_of (request_for m t b),
+    (m, t, b, x, refl),
+    as_line before after (is_get m) (Became o s short) (request_for m t b) a,
+  )
+  one before after bytes NoRoute (m, t, b, x, a) = (
+    line_of (request_for m t b),
+    (m, t, b, x, refl),
+    as_line before after (is_get m) NoRoute (request_for m t b) a,
+  )
+  one before after bytes BadCommand (m, t, b, x, a) = (
+    line_of (request_for m t b),
+    (m, t, b, x, refl),
+    as_line before after (is_get m) BadCommand (request_for m t b) a,
+  )
+  one before after bytes NotText (m, t, b, x, a) = (
+    line_of (request_for m t b),
+    (m, t, b, x, refl),
+    as_line before after (is_get m) NotText (request_for m t b) a,
+  )
 
   -- connections as lines
-  lines_of : (before : Desk) (cs : List Connection) (after : Desk) → AreAnswered is_right tells stands seen before cs after
-      → (qs : List json_request.Request) × (ps : List script_reply.Reply) × AreLines cs qs ps × AreReplied is_right tells stands seen before qs ps after
+  lines_of : (before : Desk) (cs : List Connection) (after : Desk)
+      → AreAnswered is_right tells stands seen before cs after
+      → (qs : List json_request.Request) × (ps : List script_reply.Reply) × AreLines cs qs ps
+      × AreReplied is_right tells stands seen before qs ps after
   lines_of before [] after same = ([], [], tt, same)
   lines_of before (c ∷ cs) after (between, first, rest) =
       let line = one before between c.bytes first.reply first.is_reply in
       let more = lines_of between cs after rest in (
         line.0 ∷ more.0,
         line_reply first.reply ∷ more.1,
-        (record { reply = first.reply; is_told = first.is_told; is_line = line.1; is_reply = refl }, more.2),
+        (
+          record {
+            reply = first.reply;
+            is_told = first.is_told;
+            is_line = line.1;
+            is_reply = refl;
+          },
+          more.2,
+        ),
         (between, line.2, more.3),
       )
 
-  pub AreServed-of : (before : Desk) (cs : List Connection) (after : Desk) → AreAnswered is_right tells stands seen before cs after
+  pub AreServed-of : (before : Desk) (cs : List Connection) (after : Desk)
+      → AreAnswered is_right tells stands seen before cs after
       → AreServed is_right tells stands seen before cs after
   AreServed-of before cs after answered =
       let lines = lines_of before cs after answered in

@@ -1,12 +1,15 @@
 -- Bytes that are settled, and bytes that await more.
-use Rattle.std.proofs.Common.{◌≡◌, ℕ, ◌++◌, List, [], length, inl, inr, refl, sym, ap, ◌∙◌, subst, append-nil, append_assoc, arith}
+use Rattle.std.proofs.Common.{◌≡◌, ℕ, ◌++◌, List, [], length, inl, inr, refl, sym, ap, ◌∙◌, subst}
+use Rattle.std.proofs.Common.{append-nil, append_assoc, arith}
 use Rattle.std.specs.Prelude.{◌≢◌, ◌<◌}
 use Rattle.httparse.specs.Grammar.{RequestHead}
 use Rattle.desk_http.specs.Heads.{HasNoHead, NeverHasHead, AreLineEnds}
-use Rattle.desk_http.specs.Framings.{Framed, part, bad, whole, after_head, IsFraming, refused, closed, IsAsked, IsUnread, IsAwaited, AwaitsMore}
+use Rattle.desk_http.specs.Framings.{Framed, part, bad, whole, after_head, IsFraming, refused}
+use Rattle.desk_http.specs.Framings.{closed, IsAsked, IsUnread, IsAwaited, AwaitsMore}
 use Rattle.desk_http.specs.declared.framing.Awaited.{Awaited}
 use Rattle.desk_http.specs.declared.framing.Awaited.TheVariants.{Start, Head, Body}
-use Rattle.desk_http.proofs.Stability.{BeginsWith-unique, IsAsked-settled, IsAsked-ended, NeverHasHead-long, NeverHasHead-over}
+use Rattle.desk_http.proofs.Stability.{BeginsWith-unique, IsAsked-settled, IsAsked-ended}
+use Rattle.desk_http.proofs.Stability.{NeverHasHead-long, NeverHasHead-over}
 use Rattle.std.specs.Prelude.{Option, ◌≤◌}
 use Rattle.std.specs.Io.KnownBytes.{Consumes}
 use Rattle.std.proofs.KnownBytes.{Consumes-trans}
@@ -16,47 +19,62 @@ use Rattle.desk_http.specs.Receiving.{IsPrompt, IsUndue}
 use Rattle.desk_http.specs.declared.status.Status.TheVariants.{BadRequest}
 
 -- bytes without a head that are read as settled never begin with one
-hopeless : (bytes more : List ℕ) (r : Framed) → HasNoHead bytes → IsUnread bytes r → r ≢ part → NeverHasHead bytes
+hopeless : (bytes more : List ℕ) (r : Framed) → HasNoHead bytes → IsUnread bytes r → r ≢ part
+    → NeverHasHead bytes
 hopeless bytes more part none unread settled = absurd (settled refl)
 hopeless bytes more (whole a b c d) none unread settled = absurd unread
 hopeless bytes more (bad status) none (is, inl long) settled = NeverHasHead-long bytes none long
 hopeless bytes more (bad status) none (is, inr over) settled = NeverHasHead-over bytes over
 
 -- if bytes are read as settled and also as awaiting more, they are refused whatever follows
-IsAsked-part : (bytes more : List ℕ) (r : Framed) → IsFraming bytes r → r ≢ part → IsFraming bytes part → IsAsked (bytes ++ more) (refused BadRequest)
+IsAsked-part : (bytes more : List ℕ) (r : Framed) → IsFraming bytes r → r ≢ part
+    → IsFraming bytes part → IsAsked (bytes ++ more) (refused BadRequest)
 IsAsked-part bytes more r (inl (h, after, b, e)) settled (inl (k, later, d, i)) =
     let same = BeginsWith-unique bytes h k after later b d in
-    absurd (settled (e ∙ (ap (λ (x : RequestHead). after_head x after) same.0 ∙ (ap (λ (x : List ℕ). after_head k x) same.1 ∙ sym i))))
+    absurd (settled (e ∙ (ap (λ (x : RequestHead). after_head x after) same.0
+    ∙ (ap (λ (x : List ℕ). after_head k x) same.1 ∙ sym i))))
 IsAsked-part bytes more r (inl (h, after, b, e)) settled (inr y) = absurd (y.0 h after b)
 IsAsked-part bytes more r (inr x) settled (inl (k, later, d, i)) = absurd (x.0 k later d)
-IsAsked-part bytes more r (inr x) settled (inr y) = inr (hopeless bytes more r x.0 x.1 settled more, refl)
+IsAsked-part bytes more r (inr x) settled (inr y) = inr (
+  hopeless bytes more r x.0 x.1 settled more,
+  refl,
+)
 
 -- two readings of the same bytes, one of which is settled
-pub IsAsked-of : (bytes more : List ℕ) (r s : Framed) → IsFraming bytes r → r ≢ part → IsFraming bytes s → IsAsked (bytes ++ more) (closed s)
-IsAsked-of bytes more r (bad status) x settled y = IsAsked-settled bytes more (bad status) y (λ e. cc)
-IsAsked-of bytes more r (whole a b c d) x settled y = IsAsked-settled bytes more (whole a b c d) y (λ e. cc)
+pub IsAsked-of : (bytes more : List ℕ) (r s : Framed) → IsFraming bytes r → r ≢ part
+    → IsFraming bytes s → IsAsked (bytes ++ more) (closed s)
+IsAsked-of bytes more r (bad status) x settled y = IsAsked-settled bytes more (bad status) y
+    (λ e. cc)
+IsAsked-of bytes more r (whole a b c d) x settled y = IsAsked-settled bytes more (whole a b c d) y
+    (λ e. cc)
 IsAsked-of bytes more r part x settled y = IsAsked-part bytes more r x settled y
 
 -- if the reader ends, each reading says what is asked for
 pub IsAsked-end : (bytes : List ℕ) (s : Framed) → IsFraming bytes s → IsAsked bytes (closed s)
 IsAsked-end bytes part x = IsAsked-ended bytes x
-IsAsked-end bytes (bad status) x = subst (λ (l : List ℕ). IsAsked l (refused status)) (append-nil bytes) (IsAsked-settled bytes [] (bad status) x (λ e. cc))
-IsAsked-end bytes (whole a b c d) x = subst (λ (l : List ℕ). IsAsked l (closed (whole a b c d))) (append-nil bytes) (IsAsked-settled bytes [] (whole a b c d) x (λ e. cc))
+IsAsked-end bytes (bad status) x = subst (λ (l : List ℕ). IsAsked l (refused status))
+    (append-nil bytes) (IsAsked-settled bytes [] (bad status) x (λ e. cc))
+IsAsked-end bytes (whole a b c d) x = subst (λ (l : List ℕ). IsAsked l (closed (whole a b c d)))
+    (append-nil bytes) (IsAsked-settled bytes [] (whole a b c d) x (λ e. cc))
 
 -- while something is awaited, no request is whole
-pub AwaitsMore-of : (bytes : List ℕ) (awaited : Awaited) → IsAwaited bytes awaited → AwaitsMore bytes
+pub AwaitsMore-of : (bytes : List ℕ) (awaited : Awaited) → IsAwaited bytes awaited
+    → AwaitsMore bytes
 AwaitsMore-of bytes Start x = λ h after b. absurd (HasNoHead-ends bytes x.0 h after b)
 AwaitsMore-of bytes Head x = λ h after b. absurd (x.0 h after b)
-AwaitsMore-of bytes (Body count) x = subst AwaitsMore (append-nil bytes) (x.2 [] (subst (λ (l : List ℕ). length l < count) (sym (append-nil bytes)) x.0))
+AwaitsMore-of bytes (Body count) x = subst AwaitsMore (append-nil bytes)
+    (x.2 [] (subst (λ (l : List ℕ). length l < count) (sym (append-nil bytes)) x.0))
 
 -- as long as something is awaited, there are fewer bytes than a request may have
-pub IsAwaited-few : (bytes : List ℕ) (awaited : Awaited) → IsAwaited bytes awaited → length bytes < request_bytes
+pub IsAwaited-few : (bytes : List ℕ) (awaited : Awaited) → IsAwaited bytes awaited
+    → length bytes < request_bytes
 IsAwaited-few bytes Start x = omega arith
 IsAwaited-few bytes Head x = omega arith
 IsAwaited-few bytes (Body count) x = omega arith
 
 -- bytes that can't complete what is awaited leave it awaited
-pub IsAwaited-undue : (front came bytes : List ℕ) (awaited : Awaited) → bytes ≡ front ++ came → IsUndue came (length bytes) awaited → IsAwaited front awaited → IsAwaited bytes awaited
+pub IsAwaited-undue : (front came bytes : List ℕ) (awaited : Awaited) → bytes ≡ front ++ came
+    → IsUndue came (length bytes) awaited → IsAwaited front awaited → IsAwaited bytes awaited
 IsAwaited-undue front came bytes Start e undue x =
     (subst AreLineEnds (sym e) (AreLineEnds-append front came x.0 undue.1), undue.0)
 IsAwaited-undue front came bytes Head e undue x =
@@ -65,8 +83,10 @@ IsAwaited-undue front came bytes (Body count) e undue x = (
   undue,
   x.1,
   λ more few.
-      let same : front ++ (came ++ more) ≡ bytes ++ more = sym (append_assoc front came more) ∙ ap (λ (l : List ℕ). l ++ more) (sym e) in
-      subst AwaitsMore same (x.2 (came ++ more) (subst (λ (l : List ℕ). length l < count) (sym same) few)),
+      let same : front ++ (came ++ more) ≡ bytes ++ more = sym (append_assoc front came more)
+      ∙ ap (λ (l : List ℕ). l ++ more) (sym e) in
+      subst AwaitsMore same (x.2 (came ++ more)
+      (subst (λ (l : List ℕ). length l < count) (sym same) few)),
 )
 
 -- nothing came: a first byte is awaited
@@ -76,7 +96,8 @@ IsAwaited-nil = (refl, omega arith)
 -- ---- how far a reader was read
 
 -- a reader that was read this far, and no further
-pub IsPrompt-still : (old new : Option (List ℕ)) (bytes : List ℕ) (awaited : Awaited) → Consumes old new bytes → IsAwaited bytes awaited → IsPrompt old new
+pub IsPrompt-still : (old new : Option (List ℕ)) (bytes : List ℕ) (awaited : Awaited)
+    → Consumes old new bytes → IsAwaited bytes awaited → IsPrompt old new
 IsPrompt-still old new bytes awaited read x = record {
   before = bytes;
   piece = [];
@@ -87,7 +108,8 @@ IsPrompt-still old new bytes awaited read x = record {
 }
 
 -- a reader that gave one more piece
-pub IsPrompt-piece : (old mid new : Option (List ℕ)) (bytes piece : List ℕ) (awaited : Awaited) → Consumes old mid bytes → Consumes mid new piece → length piece ≤ piece_bytes
+pub IsPrompt-piece : (old mid new : Option (List ℕ)) (bytes piece : List ℕ) (awaited : Awaited)
+    → Consumes old mid bytes → Consumes mid new piece → length piece ≤ piece_bytes
     → IsAwaited bytes awaited → IsPrompt old new
 IsPrompt-piece old mid new bytes piece awaited first second short x = record {
   before = bytes;

@@ -6,6 +6,7 @@ use Rattle.desk_http.specs.declared.asking.Reply.TheVariants.{Became}
 use Rattle.desk_http.specs.declared.asking.Shape.{Shape}
 use Rattle.desk_model.specs.declared.command.Outcome.{Outcome}
 
-pub IsTold-short : (o : Outcome) (s : Shape) (get : Bool) → IsTold (Became o s get) (if get then no_memory else no_text)
+pub IsTold-short : (o : Outcome) (s : Shape) (get : Bool)
+    → IsTold (Became o s get) (if get then no_memory else no_text)
 IsTold-short o s true = inr refl
 IsTold-short o s false = inr refl

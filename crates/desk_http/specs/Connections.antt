@@ -23,7 +23,8 @@ pub record Connection : Type 0 where
   pub bytes : List ℕ
   pub told : Told
 
--- a request and a reply as those of a line; what the desk isn't asked counts as a line that is no request
+-- a request and a reply as those of a line; what the desk isn't asked counts as a line that is no
+-- request
 abbrev pub line_of : Request → json_request.Request
 line_of (Act c) = line.Act c
 line_of (Ask q shape) = line.Ask q
@@ -33,16 +34,18 @@ abbrev pub line_reply : Reply → script_reply.Reply
 line_reply (reply.Became o shape short) = script.Became o
 line_reply _ = script.NoRequest
 
--- the request of these bytes as that of a line, which is no request if they are refused or no memory was left
--- to read them
+-- the request of these bytes as that of a line, which is no request if they are refused or no
+-- memory was left to read them
 abbrev pub IsLineOf : List ℕ → Reply → json_request.Request → Type 0
 IsLineOf bytes reply.Memory q = q ≡ line.BadCommand
 IsLineOf bytes (reply.Bad status) q = IsAsked bytes (refused status) × (q ≡ line.BadCommand)
 IsLineOf bytes r q =
-    (method : List ℕ) × (target : List ℕ) × (body : List ℕ) × IsAsked bytes (asked method target body) × (q ≡ line_of (request_for method target body))
+    (method : List ℕ) × (target : List ℕ) × (body : List ℕ)
+    × IsAsked bytes (asked method target body) × (q ≡ line_of (request_for method target body))
 
 -- the line of a connection: its request, and the reply that it got
-pub record IsLine (c : Connection) (q : json_request.Request) (p : script_reply.Reply) : Type 0 where
+pub record IsLine (c : Connection) (q : json_request.Request)
+    (p : script_reply.Reply) : Type 0 where
   pub reply : Reply
   pub is_told : IsTold reply c.told
   pub is_line : IsLineOf c.bytes reply q
@@ -53,12 +56,14 @@ AreLines [] [] [] = Unit {0}
 AreLines (c ∷ cs) (q ∷ qs) (p ∷ ps) = IsLine c q p × AreLines cs qs ps
 AreLines _ _ _ = ⊥
 
-module _ (is_right : Readings → Type 0) (tells : StoreFault → Type 0) {Left Desk : Type 0} (stands : Left → Tables → Type 0) (seen : Desk → Seen Left) where
+module _ (is_right : Readings → Type 0) (tells : StoreFault → Type 0) {Left Desk : Type 0}
+    (stands : Left → Tables → Type 0) (seen : Desk → Seen Left) where
   -- connections are answered one after another, each by the desk as the ones before it left it
   abbrev pub AreAnswered : Desk → List Connection → Desk → Type 0
   AreAnswered before [] after = before ≡ after
   AreAnswered before (c ∷ cs) after =
-      (between : Desk) × IsAnswered is_right tells stands seen before c.bytes c.told between × AreAnswered between cs after
+      (between : Desk) × IsAnswered is_right tells stands seen before c.bytes c.told between
+      × AreAnswered between cs after
 
   -- connections get the replies of the lines of a script, whose commands are a run of the desk
   pub record AreServed (before : Desk) (cs : List Connection) (after : Desk) : Type 0 where

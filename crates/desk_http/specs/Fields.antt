@@ -1,5 +1,6 @@
 -- What the fields of a head say about the body (RFC 9112, sections 6.1 and 6.2).
-use Rattle.std.specs.Prelude.{ℕ, ◌+◌, ◌-◌, ◌*◌, ◌||◌, ◌&&◌, ◌==◌, nat_lt, nat_le, Bool, false, List, [], ◌∷◌, length, map, codes, if◌then◌else◌, Option, Some, None}
+use Rattle.std.specs.Prelude.{ℕ, ◌+◌, ◌-◌, ◌*◌, ◌||◌, ◌&&◌, ◌==◌, nat_lt, nat_le, Bool, false, List}
+use Rattle.std.specs.Prelude.{[], ◌∷◌, length, map, codes, if◌then◌else◌, Option, Some, None}
 use Rattle.std.specs.Char.{is_ascii_digit, to_ascii_lowercase}
 use Rattle.std.specs.Str.{bytes_eq}
 use Rattle.desk_http.specs.declared.fields.BodyLength.{BodyLength}
@@ -27,7 +28,8 @@ number_from n (c ∷ cs) = if is_ascii_digit c then number_from (n * 10 + (c - 4
 
 -- the number that is written in 1 to 18 digits
 abbrev pub number_text : List ℕ → Option ℕ
-number_text text = if nat_lt 0 (length text) && nat_le (length text) 18 then number_from 0 text else None
+number_text text = if nat_lt 0 (length text) && nat_le (length text) 18 then number_from 0 text
+    else None
 
 -- a length that a field gives, after what the fields before it gave: two different lengths are bad
 abbrev pub agreed : BodyLength → Option ℕ → BodyLength
@@ -37,7 +39,8 @@ agreed (Bytes m) (Some n) = if m == n then Bytes m else Bad
 agreed Bad (Some n) = Bad
 
 abbrev pub after_field : BodyLength → Field → BodyLength
-after_field said field = if is_named (codes "content-length") field.0 then agreed said (number_text field.1) else said
+after_field said field = if is_named (codes "content-length") field.0
+    then agreed said (number_text field.1) else said
 
 -- what the fields `Content-Length` say, after what was said before
 abbrev pub length_from : BodyLength → List Field → BodyLength

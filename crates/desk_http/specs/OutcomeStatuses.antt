@@ -14,12 +14,14 @@ is_absent number = number == 4 || number == 5 || number == 12 || number == 23
 
 -- what the desk holds doesn't allow the request
 abbrev pub is_conflict : ℕ → Bool
-is_conflict number = number == 3 || number == 7 || number == 10 || number == 13 || number == 14 || number == 20 || number == 24
+is_conflict number = number == 3 || number == 7 || number == 10 || number == 13 || number == 14
+    || number == 20 || number == 24
 
 -- the status of a refusal, by its number
 abbrev pub refusal_status : ℕ → Status
 refusal_status number =
-    if is_absent number then status.NotFound else if is_conflict number then status.Conflict else status.UnprocessableContent
+    if is_absent number then status.NotFound else if is_conflict number then status.Conflict
+    else status.UnprocessableContent
 
 abbrev pub outcome_status : Outcome → Status
 outcome_status (Answered (Refused why)) = refusal_status (refusal_number why)

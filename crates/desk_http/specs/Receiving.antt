@@ -13,16 +13,18 @@ use Rattle.desk_http.specs.declared.receiving.ServeFault.TheVariants.{Read, Writ
 
 -- each reading of these bytes says what any bytes that begin with them ask for
 abbrev pub IsSettled : List ℕ → Type 0
-IsSettled front = (more : List ℕ) (f : Framed) → IsFraming front f → IsAsked (front ++ more) (closed f)
+IsSettled front = (more : List ℕ) (f : Framed) → IsFraming front f
+    → IsAsked (front ++ more) (closed f)
 
 -- what was received of these bytes: each reading of what was kept says what they ask for
 abbrev pub IsReceived : List ℕ → Received → Type 0
 IsReceived bytes Nothing = length bytes ≡ 0
 IsReceived bytes Memory = 0 < length bytes
-IsReceived bytes (Bytes kept) = (0 < length bytes) × ((f : Framed) → IsFraming kept.items f → IsAsked bytes (closed f))
+IsReceived bytes (Bytes kept) = (0 < length bytes)
+    × ((f : Framed) → IsFraming kept.items f → IsAsked bytes (closed f))
 
--- A reader isn't read past the piece that completes the request: without the last piece no request was whole,
--- and there were fewer bytes than a request may have.
+-- A reader isn't read past the piece that completes the request: without the last piece no request
+-- was whole, and there were fewer bytes than a request may have.
 pub record IsPrompt (old new : Option (List ℕ)) : Type 0 where
   pub before : List ℕ
   pub piece : List ℕ
@@ -31,14 +33,15 @@ pub record IsPrompt (old new : Option (List ℕ)) : Type 0 where
   pub few : length before < most.request_bytes
   pub short : length piece ≤ most.piece_bytes
 
--- a fault of a reader that gave this many bytes: if it was asked too often, it gave at least one byte each
--- time
+-- a fault of a reader that gave this many bytes: if it was asked too often, it gave at least one
+-- byte each time
 abbrev pub IsOfReader : ServeFault → ℕ → Type 0
 IsOfReader Read count = Unit {0}
 IsOfReader Turns count = most.reads ≤ count
 IsOfReader Write count = ⊥
 
--- with this piece there are this many bytes, which can't complete what was awaited: a head ends with LF
+-- with this piece there are this many bytes, which can't complete what was awaited: a head ends
+-- with LF
 abbrev pub IsUndue : List ℕ → ℕ → Awaited → Type 0
 IsUndue came count Start = (count < most.head_bytes) × AreLineEnds came
 IsUndue came count Head = (count < most.head_bytes) × All (λ b. b ≢ 10) came

@@ -44,8 +44,8 @@ head_bytes status media_type length =
 unfoldable pub reply_bytes : Told → List ℕ
 reply_bytes (status, (media_type, body)) = head_bytes status media_type (length body) ++ body
 
--- How an outcome is written: notices or a table of duties if they are asked for, and anything else as its
--- line of JSON.
+-- How an outcome is written: notices or a table of duties if they are asked for, and anything else
+-- as its line of JSON.
 abbrev pub content_of : Outcome → Shape → Content
 content_of (Answered (Bill bill)) Notices = (codes "text/plain; charset=utf-8", notices_text bill)
 content_of (Answered (Duties lines)) Csv = (codes "text/csv; charset=utf-8", table_text lines)
@@ -71,20 +71,23 @@ no_text = (status.ServiceUnavailable, json (codes "{\"fault\":\"reply\"}"))
 abbrev pub no_store : Told
 no_store = (status.InternalServerError, json (compact_text (fault_reply (codes "store"))))
 
--- What is written for a reply. If no memory is left for its text, then `no_memory` after a GET or if the desk
--- wasn't asked, and else `no_text`, because its command may have been applied.
+-- What is written for a reply. If no memory is left for its text, then `no_memory` after a GET or
+-- if the desk wasn't asked, and else `no_text`, because its command may have been applied.
 abbrev pub IsTold : Reply → Told → Type 0
 IsTold (Became outcome shape true) told = (told ≡ told_of outcome shape) ⊎ (told ≡ no_memory)
 IsTold (Became outcome shape false) told = (told ≡ told_of outcome shape) ⊎ (told ≡ no_text)
-IsTold (Bad status) told = (told ≡ (status, json (codes "{\"fault\":\"request\"}"))) ⊎ (told ≡ no_memory)
-IsTold NoRoute told = (told ≡ (status.NotFound, json (codes "{\"fault\":\"route\"}"))) ⊎ (told ≡ no_memory)
+IsTold (Bad status) told = (told ≡ (status, json (codes "{\"fault\":\"request\"}")))
+    ⊎ (told ≡ no_memory)
+IsTold NoRoute told = (told ≡ (status.NotFound, json (codes "{\"fault\":\"route\"}")))
+    ⊎ (told ≡ no_memory)
 IsTold BadCommand told = (told ≡ (status.BadRequest, json bad_command_text)) ⊎ (told ≡ no_memory)
 IsTold NotText told = (told ≡ told_of not_toml Json) ⊎ (told ≡ no_memory)
 IsTold Memory told = told ≡ no_memory
 
 -- the message for this reply
 abbrev pub IsMessage : Told → Message → Type 0
-IsMessage told (message.Made status front rest) = (told.0 ≡ status) × (front.items ++ rest.items ≡ reply_bytes told)
+IsMessage told (message.Made status front rest) = (told.0 ≡ status)
+    × (front.items ++ rest.items ≡ reply_bytes told)
 IsMessage told message.NoMemory = told ≡ no_memory
 IsMessage told message.NoText = told ≡ no_text
 IsMessage told message.NoStore = told ≡ no_store

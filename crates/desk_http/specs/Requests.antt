@@ -34,7 +34,8 @@ of_line json.BadCommand = BadCommand
 abbrev pub posted_request : Posted → List ℕ → Request
 posted_request posted.Request body = of_line (request_in body)
 posted_request posted.Document body = Act (command.Import body Capitals)
-posted_request posted.Catalogue body = if is_utf8 body then Act (command.LoadCatalogue body) else NotText
+posted_request posted.Catalogue body = if is_utf8 body then Act (command.LoadCatalogue body)
+    else NotText
 
 -- a query that needs a number of 1 to 18 digits
 abbrev pub with_number : List ℕ → (ℕ → Query) → Request
@@ -43,8 +44,10 @@ with_number text ask = unwrap_or (option_map (λ n. Ask (ask n) Json) (number_te
 -- what is shown at a path, whose parts take the place of the names in its pattern
 abbrev pub shown_request : Shown → List ℕ → Request
 shown_request shown.Findings path = with_number (part_at 2 path) (λ n. query.Findings n)
-shown_request shown.Alternatives path = with_number (part_at 2 path) (λ n. query.Alternatives n (part_at 4 path))
-shown_request shown.Cheapest path = with_number (part_at 2 path) (λ n. query.Cheapest n (part_at 4 path) (part_at 6 path))
+shown_request shown.Alternatives path = with_number (part_at 2 path)
+    (λ n. query.Alternatives n (part_at 4 path))
+shown_request shown.Cheapest path = with_number (part_at 2 path)
+    (λ n. query.Cheapest n (part_at 4 path) (part_at 6 path))
 shown_request shown.Release path = Ask (query.Release (part_at 2 path)) Json
 shown_request shown.Duties path = Ask (query.Duties (part_at 2 path)) Json
 shown_request shown.Totals path = Ask (query.Totals (part_at 2 path)) Json
@@ -60,11 +63,13 @@ route_request (Some (Get what)) path body = shown_request what path
 -- What is asked for. By the grammar of a head each target is UTF-8.
 abbrev pub request_for : (method target body : List ℕ) → Request
 request_for method target body =
-    if is_utf8 target then route_request (route_of method (path_of target)) (path_of target) body else NoRoute
+    if is_utf8 target then route_request (route_of method (path_of target)) (path_of target) body
+    else NoRoute
 
 -- a reading, which owns its request, shows what bytes begin with
 abbrev pub Shows : Reading → Framed → Type 0
-Shows (reading.Whole request rest) (whole method target body left) = (request ≡ request_for method target body) × (rest.now ≡ left)
+Shows (reading.Whole request rest) (whole method target body left) = (request
+    ≡ request_for method target body) × (rest.now ≡ left)
 Shows reading.Part part = Unit {0}
 Shows (reading.Bad status) (bad given) = status ≡ given
 Shows _ _ = ⊥

@@ -14,7 +14,8 @@ use Rattle.desk_http.specs.declared.table.Posted.TheVariants as posted
 use Rattle.desk_http.specs.declared.table.Shown.TheVariants as shown
 
 -- the rows of `matchit` with one more: a pattern, and what it leads to
-abbrev pub with_scan : Result Scan InsertError → Route → RowsOf (RouteOf Route) → RowsOf (RouteOf Route)
+abbrev pub with_scan : Result Scan InsertError → Route → RowsOf (RouteOf Route)
+    → RowsOf (RouteOf Route)
 with_scan (Ok s) route rows = placed ((route_from s route).pattern, route_from s route) rows
 with_scan (Err e) route rows = rows
 

@@ -32,32 +32,37 @@ is_get method = bytes_eq method (codes "GET")
 
 -- what is wanted is what bytes ask for, unless no memory was left to find that out
 abbrev pub Wants : Wanted → Asked → Type 0
-Wants (wanted.Request request get) (asked method target body) = (request ≡ request_for method target body) × (get ≡ is_get method)
+Wants (wanted.Request request get) (asked method target body) = (request
+    ≡ request_for method target body) × (get ≡ is_get method)
 Wants (wanted.Bad status) (refused given) = status ≡ given
 Wants wanted.Memory asks = Unit {0}
 Wants _ _ = ⊥
 
-module _ (is_right : Readings → Type 0) (tells : StoreFault → Type 0) {Left Desk : Type 0} (stands : Left → Tables → Type 0) (seen : Desk → Seen Left) where
-  -- A request gets this reply, and leads from one desk to the other: a command or a query does so as a line
-  -- of a script, and anything else leaves the desk as it is. An answer is written in the shape that is asked
-  -- for, and that of a command in JSON.
+module _ (is_right : Readings → Type 0) (tells : StoreFault → Type 0) {Left Desk : Type 0}
+    (stands : Left → Tables → Type 0) (seen : Desk → Seen Left) where
+  -- A request gets this reply, and leads from one desk to the other: a command or a query does so
+  -- as a line of a script, and anything else leaves the desk as it is. An answer is written in the
+  -- shape that is asked for, and that of a command in JSON.
   abbrev pub Answers : Bool → Desk → Reply → Request → Desk → Type 0
   Answers get before (reply.Became o given short) (Act c) after =
-      (given ≡ Json) × (short ≡ get) × Replies is_right tells stands (seen before) (line.Act c) (script.Became o) (seen after)
+      (given ≡ Json) × (short ≡ get)
+      × Replies is_right tells stands (seen before) (line.Act c) (script.Became o) (seen after)
   Answers get before (reply.Became o given short) (Ask q shape) after =
-      (given ≡ shape) × (short ≡ get) × Replies is_right tells stands (seen before) (line.Ask q) (script.Became o) (seen after)
+      (given ≡ shape) × (short ≡ get)
+      × Replies is_right tells stands (seen before) (line.Ask q) (script.Became o) (seen after)
   Answers get before reply.NoRoute NoRoute after = after ≡ before
   Answers get before reply.BadCommand BadCommand after = after ≡ before
   Answers get before reply.NotText NotText after = after ≡ before
   Answers get before _ _ after = ⊥
 
-  -- The reply to these bytes, and the desk after it. If no memory was left before the request was known, it
-  -- isn't applied.
+  -- The reply to these bytes, and the desk after it. If no memory was left before the request was
+  -- known, it isn't applied.
   abbrev pub IsReply : Desk → List ℕ → Reply → Desk → Type 0
   IsReply before bytes reply.Memory after = after ≡ before
   IsReply before bytes (reply.Bad status) after = IsAsked bytes (refused status) × (after ≡ before)
   IsReply before bytes r after =
-      (method : List ℕ) × (target : List ℕ) × (body : List ℕ) × IsAsked bytes (asked method target body)
+      (method : List ℕ) × (target : List ℕ) × (body : List ℕ)
+      × IsAsked bytes (asked method target body)
       × Answers (is_get method) before r (request_for method target body) after
 
   -- the reply that the bytes of a connection get
@@ -67,18 +72,24 @@ module _ (is_right : Readings → Type 0) (tells : StoreFault → Type 0) {Left 
     pub is_reply : IsReply before bytes reply after
     pub is_told : IsTold reply told
 
-  -- a connection that was served: its reply was written, with this status, or nothing if no byte came
+  -- a connection that was served: its reply was written, with this status, or nothing if no byte
+  -- came
   abbrev pub IsServed : Desk → List ℕ → Desk → Option (List ℕ) → Option (List ℕ) → Served → Type 0
   IsServed before bytes after old new (Replied status) =
-      (told : Told) × IsAnswered before bytes told after × (status ≡ told.0) × Appends old new (reply_bytes told)
-  IsServed before bytes after old new Nothing = (length bytes ≡ 0) × (after ≡ before) × Keeps old new
+      (told : Told) × IsAnswered before bytes told after × (status ≡ told.0)
+      × Appends old new (reply_bytes told)
+  IsServed before bytes after old new Nothing = (length bytes ≡ 0) × (after ≡ before)
+      × Keeps old new
 
-  -- A connection that wasn't. After a fault of the reader nothing was written, and the desk is as it was; a
-  -- reader that was asked too often gave at least one byte each time. After a fault of the writer a prefix of
-  -- the reply was written, and what was done stays done.
-  abbrev pub IsStopped : Option (List ℕ) → Option (List ℕ) → Desk → Desk → Option (List ℕ) → Option (List ℕ) → ServeFault → Type 0
+  -- A connection that wasn't. After a fault of the reader nothing was written, and the desk is as
+  -- it was; a reader that was asked too often gave at least one byte each time. After a fault of
+  -- the writer a prefix of the reply was written, and what was done stays done.
+  abbrev pub IsStopped : Option (List ℕ) → Option (List ℕ) → Desk → Desk → Option (List ℕ)
+      → Option (List ℕ) → ServeFault → Type 0
   IsStopped from to before after old new fault.Write =
-      (bytes : List ℕ) × (told : Told) × AreLeft from bytes × IsAnswered before bytes told after × AppendsFront old new (reply_bytes told)
+      (bytes : List ℕ) × (told : Told) × AreLeft from bytes × IsAnswered before bytes told after
+      × AppendsFront old new (reply_bytes told)
   IsStopped from to before after old new fault.Read = (after ≡ before) × Keeps old new
   IsStopped from to before after old new fault.Turns =
-      (after ≡ before) × Keeps old new × ((bytes : List ℕ) × Consumes from to bytes × (most.reads ≤ length bytes))
+      (after ≡ before) × Keeps old new
+      × ((bytes : List ℕ) × Consumes from to bytes × (most.reads ≤ length bytes))

@@ -1,5 +1,6 @@
 -- The value of a text, the faults of a document, and the fields of its text.
-use Rattle.std.proofs.Common.{◌≡◌, ◌⊎◌, inl, inr, ℕ, List, [], ◌∷◌, ◌++◌, Bool, true, false, Some, None, Ok, refl, sym, subst, arith, IsUtf8, codes, append_assoc}
+use Rattle.std.proofs.Common.{◌≡◌, ◌⊎◌, inl, inr, ℕ, List, [], ◌∷◌, ◌++◌, Bool, true, false, Some}
+use Rattle.std.proofs.Common.{None, Ok, refl, sym, subst, arith, IsUtf8, codes, append_assoc}
 use Rattle.std.specs.Prelude.{All, if◌then◌else◌}
 use Rattle.std.specs.Str.{is_utf8}
 use Rattle.std.proofs.lemmas.Str.{IsUtf8-from_is_utf8, is_utf8-from_IsUtf8}
@@ -21,10 +22,12 @@ use Rattle.desk_import.specs.Results.{Goes, Passes, FailsAt, FailsFirst, IsRefus
 
 -- ---- the value of a text
 
-pub json_of-json : (bytes : List ℕ) (d : Data) → IsUtf8 bytes → read bytes ≡ Some d → json_of bytes ≡ Some d
+pub json_of-json : (bytes : List ℕ) (d : Data) → IsUtf8 bytes → read bytes ≡ Some d
+    → json_of bytes ≡ Some d
 json_of-json bytes d utf8 is = rw (is_utf8-from_IsUtf8 bytes utf8) is
 
-by_test : (bytes : List ℕ) (b : Bool) → is_utf8 bytes ≡ b → (IsUtf8 bytes → read bytes ≡ None) → (if b then read bytes else None) ≡ None
+by_test : (bytes : List ℕ) (b : Bool) → is_utf8 bytes ≡ b → (IsUtf8 bytes → read bytes ≡ None)
+    → (if b then read bytes else None) ≡ None
 by_test bytes true is none = none (IsUtf8-from_is_utf8 bytes is)
 by_test bytes false is none = refl
 
@@ -40,7 +43,9 @@ not_json at missing h = cc
 not_json at bad_type h = cc
 not_json at bad_value h = cc
 
-pub refused : (bytes : List ℕ) (d : Data) (fault : ConvertFault) → json_of bytes ≡ Some d → (fault ≡ faults.Memory) ⊎ FailsFirst (document_steps d) fault → (fault ≡ faults.Memory) ⊎ IsRefused bytes fault
+pub refused : (bytes : List ℕ) (d : Data) (fault : ConvertFault) → json_of bytes ≡ Some d
+    → (fault ≡ faults.Memory) ⊎ FailsFirst (document_steps d) fault
+    → (fault ≡ faults.Memory) ⊎ IsRefused bytes fault
 refused bytes d fault is (inl m) = inl m
 refused bytes d faults.Memory is (inr f) = inl refl
 refused bytes d faults.NotJson is (inr f) = absurd (not_json f.failing.at f.failing.what f.fails)
@@ -60,24 +65,34 @@ line_stands bad_value h = absurd h
 all_stand : (steps : List StepText) → All Passes steps → All Stands (lines_of steps)
 all_stand [] h = All-nil Stands
 all_stand (s ∷ steps) h =
-    All-append Stands (line_in s.what) (lines_of steps) (line_stands s.what (All-get_or Passes (s ∷ steps) 0 s (omega arith) h)) (all_stand steps (All-tail Passes s steps h))
+    All-append Stands (line_in s.what) (lines_of steps)
+    (line_stands s.what (All-get_or Passes (s ∷ steps) 0 s (omega arith) h))
+    (all_stand steps (All-tail Passes s steps h))
 
 -- no tag begins with a byte order mark
-tag_unmarked : (tag : Tag) (rest : List ℕ) → behind_mark rest ≡ rest → behind_mark (tag_name tag ++ rest) ≡ tag_name tag ++ rest
+tag_unmarked : (tag : Tag) (rest : List ℕ) → behind_mark rest ≡ rest
+    → behind_mark (tag_name tag ++ rest) ≡ tag_name tag ++ rest
 tag_unmarked tags.ReadOver rest h = h
 tag_unmarked tags.Unknown rest h = h
 tag_unmarked tag rest h = refl
 
-tagged : (tag : Tag) (inner rest : List ℕ) → behind_mark (inner ++ rest) ≡ inner ++ rest → behind_mark ((tag_name tag ++ inner) ++ rest) ≡ (tag_name tag ++ inner) ++ rest
-tagged tag inner rest h = subst (λ t. behind_mark t ≡ t) (sym (append_assoc (tag_name tag) inner rest)) (tag_unmarked tag (inner ++ rest) h)
+tagged : (tag : Tag) (inner rest : List ℕ) → behind_mark (inner ++ rest) ≡ inner ++ rest
+    → behind_mark ((tag_name tag ++ inner) ++ rest) ≡ (tag_name tag ++ inner) ++ rest
+tagged tag inner rest h = subst (λ t. behind_mark t ≡ t)
+    (sym (append_assoc (tag_name tag) inner rest)) (tag_unmarked tag (inner ++ rest) h)
 
 unmarked : (ls : List LineText) → behind_mark (text_of_lines ls) ≡ text_of_lines ls
 unmarked [] = refl
 unmarked (blank ∷ ls) = refl
-unmarked (one_line tag value ∷ ls) = tagged tag (codes ": " ++ (value ++ (10 ∷ []))) (text_of_lines ls) refl
-unmarked (in_text tag value ∷ ls) = tagged tag (codes ": <text>" ++ (value ++ (codes "</text>" ++ (10 ∷ [])))) (text_of_lines ls) refl
+unmarked (one_line tag value ∷ ls) = tagged tag (codes ": " ++ (value ++ (10 ∷ [])))
+    (text_of_lines ls) refl
+unmarked (in_text tag value ∷ ls) = tagged tag
+    (codes ": <text>" ++ (value ++ (codes "</text>" ++ (10 ∷ [])))) (text_of_lines ls) refl
 
-pub fields_again : (steps : List StepText) (text : List ℕ) → text ≡ text_of_lines (lines_of steps) → All Passes steps → Reads 1 (behind_mark text) (Ok (fields_of_lines 1 (lines_of steps)))
+pub fields_again : (steps : List StepText) (text : List ℕ) → text ≡ text_of_lines (lines_of steps)
+    → All Passes steps → Reads 1 (behind_mark text) (Ok (fields_of_lines 1 (lines_of steps)))
 fields_again steps text is pass =
     subst (λ t. Reads 1 (behind_mark t) (Ok (fields_of_lines 1 (lines_of steps)))) (sym is)
-    (subst (λ t. Reads 1 t (Ok (fields_of_lines 1 (lines_of steps)))) (sym (unmarked (lines_of steps))) (lines_again (lines_of steps) (all_stand steps pass) 1 (omega arith)))
+    (subst (λ t. Reads 1 t (Ok (fields_of_lines 1 (lines_of steps))))
+    (sym (unmarked (lines_of steps)))
+    (lines_again (lines_of steps) (all_stand steps pass) 1 (omega arith)))

@@ -1,4 +1,5 @@
--- The conclusions that are proposed for the packages of a document, from their declared licences (SPDX 2.3, clause 7.15).
+-- The conclusions that are proposed for the packages of a document, from their declared licences
+-- (SPDX 2.3, clause 7.15).
 use Rattle.std.specs.Prelude.{◌≡◌, ◌++◌, ℕ, List, [], ◌∷◌, Bool, Option, Some, codes, count_by, option_and_then}
 use Rattle.std.specs.String.{string_bytes}
 use Rattle.serde_json.specs.Data.{Data, number, unsigned, string, object, no_members, member}
@@ -29,29 +30,34 @@ request_line document id expression = compact_text (request document id expressi
 abbrev pub declared_tree : (List ℕ → Option Tree) → PackageText → Option Tree
 declared_tree reads p = option_and_then reads p.declared
 
--- a line that proposes the declared licence of a package: the expression in it spells the same tree with operators in capitals
-pub record Proposes (reads : List ℕ → Option Tree) (document : ℕ) (p : PackageText) (line : List ℕ) : Type 0 where
+-- a line that proposes the declared licence of a package: the expression in it spells the same tree
+-- with operators in capitals
+pub record Proposes (reads : List ℕ → Option Tree) (document : ℕ) (p : PackageText)
+    (line : List ℕ) : Type 0 where
   pub tree : Tree
   pub declared : declared_tree reads p ≡ Some tree
   pub spells : Spells (printed tree) tree
   pub is_line : line ≡ request_line document p.id (printed tree)
 
--- the line of a package by its standing: one for a package that ships with only a declared licence, and none
--- for any other
+-- the line of a package by its standing: one for a package that ships with only a declared licence,
+-- and none for any other
 abbrev pub IsLine : (List ℕ → Option Tree) → ℕ → PackageText → Standing → List ℕ → Type 0
 IsLine reads document p Declared line = Proposes reads document p line
 IsLine reads document p _ line = line ≡ []
 
 -- the lines of packages by their standings, in order
-abbrev pub AreLines : (List ℕ → Option Tree) → ℕ → List PackageText → List Standing → List ℕ → Type 0
+abbrev pub AreLines : (List ℕ → Option Tree) → ℕ → List PackageText → List Standing → List ℕ
+    → Type 0
 AreLines reads document (p ∷ ps) (s ∷ ss) text =
-    (line rest : List ℕ) × IsLine reads document p s line × AreLines reads document ps ss rest × (text ≡ line ++ rest)
+    (line rest : List ℕ) × IsLine reads document p s line × AreLines reads document ps ss rest
+    × (text ≡ line ++ rest)
 AreLines reads document _ _ text = text ≡ []
 
 -- proposals have the standing of each package of a document, and the lines of these packages
 abbrev pub AreProposals : (List ℕ → Option Tree) → ℕ → DocumentText → Proposals → Type 0
 AreProposals reads document d p =
-    ((marks : List Bool) × AreShippingMarks d marks × (p.standings.items ≡ standings_of reads d.packages marks))
+    ((marks : List Bool) × AreShippingMarks d marks
+    × (p.standings.items ≡ standings_of reads d.packages marks))
     × AreLines reads document d.packages p.standings.items (string_bytes p.lines)
 
 -- how many packages have this standing

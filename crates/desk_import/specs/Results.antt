@@ -1,5 +1,6 @@
 -- The text that steps give, and how they pass or fail.
-use Rattle.std.specs.Prelude.{◌≡◌, ◌⊎◌, ◌==◌, ℕ, Bool, false, List, [], ◌∷◌, ◌++◌, All, Option, Some, None, Ok, count_by, if◌then◌else◌}
+use Rattle.std.specs.Prelude.{◌≡◌, ◌⊎◌, ◌==◌, ℕ, Bool, false, List, [], ◌∷◌, ◌++◌, All, Option}
+use Rattle.std.specs.Prelude.{Some, None, Ok, count_by, if◌then◌else◌}
 use Rattle.std.specs.List.{flat_map}
 use Rattle.std.specs.Str.{is_utf8}
 use Rattle.std.specs.String.{string_bytes}
@@ -110,7 +111,8 @@ IsConverted bytes c = (d : Data) × (json_of bytes ≡ Some d) × IsOf (document
 
 -- the text is read as the fields of the lines, in order, and as no others
 abbrev pub AreFields : List ℕ → List ℕ → Type 0
-AreFields bytes text = (d : Data) × (json_of bytes ≡ Some d) × Reads 1 (behind_mark text) (Ok (fields_of_lines 1 (lines_of (document_steps d))))
+AreFields bytes text = (d : Data) × (json_of bytes ≡ Some d)
+    × Reads 1 (behind_mark text) (Ok (fields_of_lines 1 (lines_of (document_steps d))))
 
 -- the bytes are no JSON, or some step of the document fails
 abbrev pub IsRefused : List ℕ → ConvertFault → Type 0

@@ -1,5 +1,6 @@
 -- What a desk finds in a document that it takes in.
-use Rattle.std.specs.Prelude.{◌≡◌, ◌&&◌, ◌==◌, ℕ, List, [], ◌∷◌, Bool, true, false, not, Option, None, Some, is_some, drop, count_by, slice_index_or, if◌then◌else◌}
+use Rattle.std.specs.Prelude.{◌≡◌, ◌&&◌, ◌==◌, ℕ, List, [], ◌∷◌, Bool, true, false, not, Option}
+use Rattle.std.specs.Prelude.{None, Some, is_some, drop, count_by, slice_index_or, if◌then◌else◌}
 use Rattle.desk_expr.specs.Tree.{Tree}
 use Rattle.desk_tagvalue.specs.Parts.{DocumentText, PackageText}
 use Rattle.desk_bom.specs.Shipping.{AreShippingMarks}
@@ -19,16 +20,20 @@ is_licence reads (Some value) = not (is_no_licence value) && is_some (reads valu
 abbrev pub standing_of : (List ℕ → Option Tree) → PackageText → Bool → Standing
 standing_of reads p false = Aside
 standing_of reads p true =
-    if is_licence reads p.concluded then Concluded else if is_licence reads p.declared then Declared else Neither
+    if is_licence reads p.concluded then Concluded else if is_licence reads p.declared then Declared
+    else Neither
 
 abbrev pub standings_of : (List ℕ → Option Tree) → List PackageText → List Bool → List Standing
 standings_of reads [] marks = []
-standings_of reads (p ∷ ps) marks = standing_of reads p (slice_index_or marks 0 false) ∷ standings_of reads ps (drop 1 marks)
+standings_of reads (p ∷ ps) marks = standing_of reads p (slice_index_or marks 0 false)
+    ∷ standings_of reads ps (drop 1 marks)
 
 -- a summary has the standing of each package of a document, and all findings
 abbrev pub IsSummary : (List ℕ → Option Tree) → DocumentText → Summary → Type 0
 IsSummary reads d s =
-    ((marks : List Bool) × AreShippingMarks d marks × (s.standings.items ≡ standings_of reads d.packages marks)) × AreFindings reads d s.findings.items
+    ((marks : List Bool) × AreShippingMarks d marks
+    × (s.standings.items ≡ standings_of reads d.packages marks))
+    × AreFindings reads d s.findings.items
 
 abbrev pub same_standing : Standing → Standing → Bool
 same_standing Aside Aside = true

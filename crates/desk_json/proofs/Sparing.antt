@@ -1,11 +1,14 @@
 -- A request needs no more of an object than what is kept of it.
-use Rattle.std.proofs.Common.{◌≡◌, ℕ, ◌+◌, ◌<◌, ◌≤◌, ◌==◌, ◌∷◌, Bool, true, false, List, Option, Some, None, is_some, option_map, option_and_then, codes, Ordering, Less, Equal, Greater, nat_cmp, refl, sym, ap, ◌∙◌, add-one, arith}
+use Rattle.std.proofs.Common.{◌≡◌, ℕ, ◌+◌, ◌<◌, ◌≤◌, ◌==◌, ◌∷◌, Bool, true, false, List, Option}
+use Rattle.std.proofs.Common.{Some, None, is_some, option_map, option_and_then, codes, Ordering}
+use Rattle.std.proofs.Common.{Less, Equal, Greater, nat_cmp, refl, sym, ap, ◌∙◌, add-one, arith}
 use Rattle.std.specs.Prelude.{unwrap_or, ◌&&◌, if◌then◌else◌}
 use Rattle.std.specs.Str.{is_utf8}
 use Rattle.std.specs.Ordering.{match_ordering}
 use Rattle.std.specs.Cmp.Lexicographic.{slice_cmp}
 use Rattle.std.proofs.lemmas.Str.{IsUtf8-from_is_utf8}
-use Rattle.serde_json.specs.Data.{Data, null, boolean, number, string, array, object, Items, no_items, item, Members, no_members, member}
+use Rattle.serde_json.specs.Data.{Data, null, boolean, number, string, array, object, Items}
+use Rattle.serde_json.specs.Data.{no_items, item, Members, no_members, member}
 use Rattle.serde_json.specs.Events.{members_len}
 use Rattle.serde_json.specs.Find.{get_member, as_str, as_number, as_u64, as_array}
 use Rattle.serde_json.specs.Read.{read}
@@ -21,27 +24,72 @@ use Rattle.desk_json.proofs.FormLemmas.{commands, queries, named_in, command_nam
 
 -- ---- two objects in which the same is found are one request
 
-by_words : (f g : List ℕ → Request) (other more : Request) (word : Option (List ℕ)) → ((w : List ℕ) → f w ≡ g w) → other ≡ more
+by_words : (f g : List ℕ → Request) (other more : Request) (word : Option (List ℕ))
+    → ((w : List ℕ) → f w ≡ g w) → other ≡ more
     → unwrap_or (option_map f word) other ≡ unwrap_or (option_map g word) more
 by_words f g other more None each rest = rest
 by_words f g other more (Some w) each rest = each w
 
-module _ (d e : Data) (sizes : size e ≡ size d) (found : (key : List ℕ) → text_in key e ≡ text_in key d) (numbers : (key : List ℕ) → number_in key e ≡ number_in key d)
+module _ (d e : Data) (sizes : size e ≡ size d)
+    (found : (key : List ℕ) → text_in key e ≡ text_in key d)
+    (numbers : (key : List ℕ) → number_in key e ≡ number_in key d)
     (lists : (key : List ℕ) → texts_in key e ≡ texts_in key d) where
   same_form : (f : Form) → form_request f e ≡ form_request f d
   same_form form.Catalogue = rw (sizes, found (codes "text")) refl
   same_form form.Import = rw (sizes, numbers (codes "profile"), found (codes "text")) refl
   same_form form.Open = rw (sizes, found (codes "release"), found (codes "form")) refl
   same_form form.Attach = rw (sizes, found (codes "release"), numbers (codes "document")) refl
-  same_form form.Choose = rw (sizes, found (codes "release"), numbers (codes "document"), found (codes "package"), lists (codes "terms")) refl
+  same_form form.Choose = rw (
+    sizes,
+    found (codes "release"),
+    numbers (codes "document"),
+    found (codes "package"),
+    lists (codes "terms"),
+  ) refl
   same_form form.Freeze = rw (sizes, found (codes "release"), found (codes "day")) refl
-  same_form form.Unchoose = rw (sizes, found (codes "release"), numbers (codes "document"), found (codes "package")) refl
-  same_form form.Conclude = rw (sizes, numbers (codes "document"), found (codes "package"), found (codes "expression")) refl
-  same_form form.Adopt = rw (sizes, numbers (codes "document"), found (codes "reference"), found (codes "licence")) refl
-  same_form form.Meet = rw (sizes, numbers (codes "duty"), found (codes "day"), found (codes "text")) refl
-  same_form form.Waive = rw (sizes, found (codes "until"), numbers (codes "duty"), found (codes "day"), found (codes "text")) refl
-  same_form form.Reopen = rw (sizes, numbers (codes "duty"), found (codes "day"), found (codes "text")) refl
-  same_form form.Withdraw = rw (sizes, found (codes "release"), found (codes "day"), found (codes "text")) refl
+  same_form form.Unchoose = rw (
+    sizes,
+    found (codes "release"),
+    numbers (codes "document"),
+    found (codes "package"),
+  ) refl
+  same_form form.Conclude = rw (
+    sizes,
+    numbers (codes "document"),
+    found (codes "package"),
+    found (codes "expression"),
+  ) refl
+  same_form form.Adopt = rw (
+    sizes,
+    numbers (codes "document"),
+    found (codes "reference"),
+    found (codes "licence"),
+  ) refl
+  same_form form.Meet = rw (
+    sizes,
+    numbers (codes "duty"),
+    found (codes "day"),
+    found (codes "text"),
+  ) refl
+  same_form form.Waive = rw (
+    sizes,
+    found (codes "until"),
+    numbers (codes "duty"),
+    found (codes "day"),
+    found (codes "text"),
+  ) refl
+  same_form form.Reopen = rw (
+    sizes,
+    numbers (codes "duty"),
+    found (codes "day"),
+    found (codes "text"),
+  ) refl
+  same_form form.Withdraw = rw (
+    sizes,
+    found (codes "release"),
+    found (codes "day"),
+    found (codes "text"),
+  ) refl
   same_form form.Close = rw (sizes, found (codes "day")) refl
   same_form form.Duties = rw (sizes, found (codes "release")) refl
   same_form form.Totals = rw (sizes, found (codes "release")) refl
@@ -49,7 +97,12 @@ module _ (d e : Data) (sizes : size e ≡ size d) (found : (key : List ℕ) → 
   same_form form.Findings = rw (sizes, numbers (codes "document")) refl
   same_form form.Release = rw (sizes, found (codes "release")) refl
   same_form form.Alternatives = rw (sizes, numbers (codes "document"), found (codes "package")) refl
-  same_form form.Cheapest = rw (sizes, numbers (codes "document"), found (codes "package"), found (codes "form")) refl
+  same_form form.Cheapest = rw (
+    sizes,
+    numbers (codes "document"),
+    found (codes "package"),
+    found (codes "form"),
+  ) refl
   same_form form.Releases = rw (sizes) refl
   same_form form.Documents = rw (sizes) refl
   same_form form.OpenDuties = rw (sizes) refl
@@ -62,10 +115,13 @@ module _ (d e : Data) (sizes : size e ≡ size d) (found : (key : List ℕ) → 
   same_request : request_of e ≡ request_of d
   same_request =
       rw (found (codes "do"), found (codes "ask"))
-      (by_words (λ word. command_request word e) (λ word. command_request word d) _ _ (text_in (codes "do") d)
+      (by_words (λ word. command_request word e) (λ word. command_request word d) _ _
+      (text_in (codes "do") d)
       (λ word. sym (command_named word e) ∙ same_by (named_in word commands) ∙ command_named word d)
-      (by_words (λ word. query_request word e) (λ word. query_request word d) BadCommand BadCommand (text_in (codes "ask") d)
-      (λ word. sym (query_named word e) ∙ same_by (named_in word queries) ∙ query_named word d) refl))
+      (by_words (λ word. query_request word e) (λ word. query_request word d) BadCommand BadCommand
+      (text_in (codes "ask") d)
+      (λ word. sym (query_named word e) ∙ same_by (named_in word queries) ∙ query_named word d)
+      refl))
 
 -- ---- what is kept is what is found
 
@@ -78,16 +134,20 @@ count_spared no_members = refl
 count_spared (member key d ms) = ap (λ n. n + 1) (count_spared ms)
 
 here : (o : Ordering) (d : Data) (rest more : Option Data) → more ≡ option_map spared rest
-    → match_ordering o more (Some (spared d)) more ≡ option_map spared (match_ordering o rest (Some d) rest)
+    → match_ordering o more (Some (spared d)) more
+    ≡ option_map spared (match_ordering o rest (Some d) rest)
 here Less d rest more is = is
 here Equal d rest more is = refl
 here Greater d rest more is = is
 
-get_spared : (key : List ℕ) (ms : Members) → get_member key (spared_members ms) ≡ option_map spared (get_member key ms)
+get_spared : (key : List ℕ) (ms : Members)
+    → get_member key (spared_members ms) ≡ option_map spared (get_member key ms)
 get_spared key no_members = refl
-get_spared key (member name d ms) = here (slice_cmp nat_cmp key name) d (get_member key ms) (get_member key (spared_members ms)) (get_spared key ms)
+get_spared key (member name d ms) = here (slice_cmp nat_cmp key name) d (get_member key ms)
+    (get_member key (spared_members ms)) (get_spared key ms)
 
-as_if : {X : Type 0} (f : Data → Option X) (b : Bool) (ds : Items) → f null ≡ None → f (array ds) ≡ None → f (if b then array ds else null) ≡ None
+as_if : {X : Type 0} (f : Data → Option X) (b : Bool) (ds : Items) → f null ≡ None
+    → f (array ds) ≡ None → f (if b then array ds else null) ≡ None
 as_if f true ds none other = other
 as_if f false ds none other = none
 
@@ -108,7 +168,8 @@ number_spared (array ds) = as_if as_number (are_texts ds) ds refl refl
 number_spared (object ms) = refl
 
 -- a list of anything but texts has no texts
-one_text : (s : Option (List ℕ)) (rest : Bool) (more : Option (List (List ℕ))) → (is_some s && rest) ≡ false → (rest ≡ false → more ≡ None)
+one_text : (s : Option (List ℕ)) (rest : Bool) (more : Option (List (List ℕ)))
+    → (is_some s && rest) ≡ false → (rest ≡ false → more ≡ None)
     → option_and_then (λ text. option_map (λ others. text ∷ others) more) s ≡ None
 one_text None rest more none others = refl
 one_text (Some s) true more none others = absurd (cc)
@@ -118,11 +179,13 @@ no_texts : (ds : Items) → are_texts ds ≡ false → texts ds ≡ None
 no_texts no_items none = absurd (cc)
 no_texts (item d ds) none = one_text (as_str d) (are_texts ds) (texts ds) none (no_texts ds)
 
-listed : (b : Bool) (ds : Items) → are_texts ds ≡ b → option_and_then texts (as_array (if b then array ds else null)) ≡ texts ds
+listed : (b : Bool) (ds : Items) → are_texts ds ≡ b
+    → option_and_then texts (as_array (if b then array ds else null)) ≡ texts ds
 listed true ds are = refl
 listed false ds are = sym (no_texts ds are)
 
-texts_spared : (d : Data) → option_and_then texts (as_array (spared d)) ≡ option_and_then texts (as_array d)
+texts_spared : (d : Data) → option_and_then texts (as_array (spared d))
+    ≡ option_and_then texts (as_array d)
 texts_spared null = refl
 texts_spared (boolean b) = refl
 texts_spared (number n) = refl
@@ -131,20 +194,29 @@ texts_spared (array ds) = listed (are_texts ds) ds refl
 texts_spared (object ms) = refl
 
 -- a look into a member that may be there
-into : {X : Type 0} (f : Data → Option X) (d : Option Data) → ((d : Data) → f (spared d) ≡ f d) → option_and_then f (option_map spared d) ≡ option_and_then f d
+into : {X : Type 0} (f : Data → Option X) (d : Option Data) → ((d : Data) → f (spared d) ≡ f d)
+    → option_and_then f (option_map spared d) ≡ option_and_then f d
 into f None each = refl
 into f (Some d) each = each d
 
-twice : {X Y : Type 0} (f : Y → Option X) (g : Data → Option Y) (d : Option Data) → option_and_then f (option_and_then g d) ≡ option_and_then (λ d. option_and_then f (g d)) d
+twice : {X Y : Type 0} (f : Y → Option X) (g : Data → Option Y) (d : Option Data)
+    → option_and_then f (option_and_then g d) ≡ option_and_then (λ d. option_and_then f (g d)) d
 twice f g None = refl
 twice f g (Some d) = refl
 
-pub request_spared : (ms : Members) → request_of (object (spared_members ms)) ≡ request_of (object ms)
+pub request_spared : (ms : Members)
+    → request_of (object (spared_members ms)) ≡ request_of (object ms)
 request_spared ms =
     same_request (object ms) (object (spared_members ms)) (count_spared ms)
-    (λ key. ap (option_and_then as_str) (get_spared key ms) ∙ into as_str (get_member key ms) str_spared)
-    (λ key. ap (λ n. option_and_then if_small (option_and_then as_u64 n)) (ap (option_and_then as_number) (get_spared key ms) ∙ into as_number (get_member key ms) number_spared))
-    (λ key. twice texts as_array (get_member key (spared_members ms)) ∙ ap (option_and_then (λ d. option_and_then texts (as_array d))) (get_spared key ms) ∙ into (λ d. option_and_then texts (as_array d)) (get_member key ms) texts_spared ∙ sym (twice texts as_array (get_member key ms)))
+    (λ key. ap (option_and_then as_str) (get_spared key ms)
+    ∙ into as_str (get_member key ms) str_spared)
+    (λ key. ap (λ n. option_and_then if_small (option_and_then as_u64 n))
+    (ap (option_and_then as_number) (get_spared key ms)
+    ∙ into as_number (get_member key ms) number_spared))
+    (λ key. twice texts as_array (get_member key (spared_members ms))
+    ∙ ap (option_and_then (λ d. option_and_then texts (as_array d))) (get_spared key ms)
+    ∙ into (λ d. option_and_then texts (as_array d)) (get_member key ms) texts_spared
+    ∙ sym (twice texts as_array (get_member key ms)))
 
 -- ---- what has more members than any request isn't one
 
@@ -183,18 +255,21 @@ module _ (d : Data) (many : 5 < size d) where
   none_by None = refl
   none_by (Some f) = no_form f
 
-  one_word : (word : Option (List ℕ)) (rest : Request) → rest ≡ BadCommand → unwrap_or (option_map (λ word. command_request word d) word) rest ≡ BadCommand
+  one_word : (word : Option (List ℕ)) (rest : Request) → rest ≡ BadCommand
+      → unwrap_or (option_map (λ word. command_request word d) word) rest ≡ BadCommand
   one_word None rest bad = bad
   one_word (Some word) rest bad = sym (command_named word d) ∙ none_by (named_in word commands)
 
-  other_word : (word : Option (List ℕ)) → unwrap_or (option_map (λ word. query_request word d) word) BadCommand ≡ BadCommand
+  other_word : (word : Option (List ℕ))
+      → unwrap_or (option_map (λ word. query_request word d) word) BadCommand ≡ BadCommand
   other_word None = refl
   other_word (Some word) = sym (query_named word d) ∙ none_by (named_in word queries)
 
   no_request : request_of d ≡ BadCommand
   no_request = one_word (text_in (codes "do") d) _ (other_word (text_in (codes "ask") d))
 
-no_request_in : (d : Data) → ((ms : Members) → d ≡ object ms → 5 < members_len ms) → request_of d ≡ BadCommand
+no_request_in : (d : Data) → ((ms : Members) → d ≡ object ms → 5 < members_len ms)
+    → request_of d ≡ BadCommand
 no_request_in null many = refl
 no_request_in (boolean b) many = refl
 no_request_in (number n) many = refl
@@ -202,14 +277,18 @@ no_request_in (string s) many = refl
 no_request_in (array ds) many = refl
 no_request_in (object ms) many = no_request (object ms) (omega (arith, count_len ms, many ms refl))
 
-by_value : (value : Option Data) → ((ms : Members) → value ≡ Some (object ms) → 5 < members_len ms) → unwrap_or (option_map request_of value) BadCommand ≡ BadCommand
+by_value : (value : Option Data) → ((ms : Members) → value ≡ Some (object ms) → 5 < members_len ms)
+    → unwrap_or (option_map request_of value) BadCommand ≡ BadCommand
 by_value None many = refl
 by_value (Some d) many = no_request_in d (λ ms is. many ms (ap Some is))
 
-by_text : (bytes : List ℕ) (is : Bool) → is_utf8 bytes ≡ is → ((ms : Members) → IsObject bytes ms → 5 < members_len ms)
+by_text : (bytes : List ℕ) (is : Bool) → is_utf8 bytes ≡ is
+    → ((ms : Members) → IsObject bytes ms → 5 < members_len ms)
     → unwrap_or (option_map request_of (if is then read bytes else None)) BadCommand ≡ BadCommand
-by_text bytes true is many = by_value (read bytes) (λ ms found. many ms (IsUtf8-from_is_utf8 bytes is, found))
+by_text bytes true is many = by_value (read bytes)
+    (λ ms found. many ms (IsUtf8-from_is_utf8 bytes is, found))
 by_text bytes false is many = refl
 
-pub request_in-many : (bytes : List ℕ) → ((ms : Members) → IsObject bytes ms → 5 < members_len ms) → request_in bytes ≡ BadCommand
+pub request_in-many : (bytes : List ℕ) → ((ms : Members) → IsObject bytes ms → 5 < members_len ms)
+    → request_in bytes ≡ BadCommand
 request_in-many bytes many = by_text bytes (is_utf8 bytes) refl many

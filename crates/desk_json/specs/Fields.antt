@@ -1,5 +1,6 @@
 -- The members of a JSON object (RFC 8259, section 4), as requests have them.
-use Rattle.std.specs.Prelude.{ℕ, ◌+◌, ◌^◌, List, [], ◌∷◌, nat_lt, if◌then◌else◌, Option, Some, None, unwrap_or, option_map, option_and_then}
+use Rattle.std.specs.Prelude.{ℕ, ◌+◌, ◌^◌, List, [], ◌∷◌, nat_lt, if◌then◌else◌, Option, Some, None}
+use Rattle.std.specs.Prelude.{unwrap_or, option_map, option_and_then}
 use Rattle.desk_base.specs.Profiles.{profile_numbered}
 use Rattle.desk_base.specs.declared.profile.Profile.{Profile}
 use Rattle.serde_json.specs.Data.{Data, Items, no_items, item, Members, no_members, member}
@@ -22,7 +23,8 @@ if_small n = if nat_lt n (2 ^ 63) then Some n else None
 
 -- the whole number of a member, 0 to 9,223,372,036,854,775,807
 abbrev pub number_in : List ℕ → Data → Option ℕ
-number_in key d = option_and_then if_small (option_and_then as_u64 (option_and_then as_number (get key d)))
+number_in key d = option_and_then if_small
+    (option_and_then as_u64 (option_and_then as_number (get key d)))
 
 -- the profile of operators whose number is a member's value
 abbrev pub profile_in : List ℕ → Data → Option Profile

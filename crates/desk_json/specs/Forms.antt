@@ -2,7 +2,14 @@
 use Rattle.std.specs.Prelude.{ℕ, List, [], ◌∷◌, if◌then◌else◌, Option, None, Some}
 use Rattle.std.specs.Str.{bytes_eq}
 use Rattle.serde_json.specs.Data.{Data}
-use Rattle.desk_json.specs.Requests.{catalogue_request, import_request, open_request, attach_request, choose_request, freeze_request, unchoose_request, conclude_request, adopt_request, meet_request, waive_request, reopen_request, withdraw_request, close_request, duties_request, totals_request, changes_request, findings_request, release_request, alternatives_request, cheapest_request, releases_request, documents_request, open_duties_request, wanting_request}
+use Rattle.desk_json.specs.Requests.{catalogue_request, import_request, open_request}
+use Rattle.desk_json.specs.Requests.{attach_request, choose_request, freeze_request}
+use Rattle.desk_json.specs.Requests.{unchoose_request, conclude_request, adopt_request}
+use Rattle.desk_json.specs.Requests.{meet_request, waive_request, reopen_request, withdraw_request}
+use Rattle.desk_json.specs.Requests.{close_request, duties_request, totals_request, changes_request}
+use Rattle.desk_json.specs.Requests.{findings_request, release_request, alternatives_request}
+use Rattle.desk_json.specs.Requests.{cheapest_request, releases_request, documents_request}
+use Rattle.desk_json.specs.Requests.{open_duties_request, wanting_request}
 use Rattle.desk_json.specs.declared.forms.Form.{Form}
 use Rattle.desk_json.specs.declared.forms.Form.TheVariants as form
 use Rattle.desk_json.specs.declared.forms.Name.{Name}
@@ -11,7 +18,8 @@ use Rattle.desk_json.specs.declared.request.Request.TheVariants.{BadCommand}
 
 abbrev pub form_named : List ℕ → List Name → Option Form
 form_named word [] = None
-form_named word (name ∷ more) = if bytes_eq word name.word.now then Some name.form else form_named word more
+form_named word (name ∷ more) = if bytes_eq word name.word.now then Some name.form
+    else form_named word more
 
 -- the request that a value is in a form
 abbrev pub form_request : Form → Data → Request

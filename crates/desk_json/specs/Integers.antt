@@ -17,7 +17,8 @@ use Rattle.desk_model.specs.declared.refusal.DocumentFault.TheVariants as docume
 use Rattle.desk_model.specs.declared.refusal.Refusal.{Refusal}
 use Rattle.desk_model.specs.declared.refusal.Refusal.TheVariants as why
 
-change_and_end : (row : ChangeRow) (last : Option (List ℕ)) → items_have_float (items_of (change_values row ++ ending last)) ≡ false
+change_and_end : (row : ChangeRow) (last : Option (List ℕ))
+    → items_have_float (items_of (change_values row ++ ending last)) ≡ false
 change_and_end row None = refl
 change_and_end row (Some day) = refl
 
@@ -36,7 +37,8 @@ cheapest_has_integers c = rw (terms_have_integers c.terms) refl
 
 -- Refusals
 
-catalogue_fault_has_integers : (fault : CatalogueFault) → items_have_float (items_of (catalogue_fault_values fault)) ≡ false
+catalogue_fault_has_integers : (fault : CatalogueFault)
+    → items_have_float (items_of (catalogue_fault_values fault)) ≡ false
 catalogue_fault_has_integers catalogue.NotToml = refl
 catalogue_fault_has_integers (catalogue.Missing part index) = refl
 catalogue_fault_has_integers (catalogue.BadKind part index) = refl
@@ -46,7 +48,8 @@ catalogue_fault_has_integers (catalogue.UnknownDuty part index) = refl
 catalogue_fault_has_integers (catalogue.Twice part index) = refl
 catalogue_fault_has_integers catalogue.TooLarge = refl
 
-document_fault_has_integers : (fault : DocumentFault) → items_have_float (items_of (document_fault_values fault)) ≡ false
+document_fault_has_integers : (fault : DocumentFault)
+    → items_have_float (items_of (document_fault_values fault)) ≡ false
 document_fault_has_integers document.NotUtf8 = refl
 document_fault_has_integers (document.NoColon line) = refl
 document_fault_has_integers (document.OpenText line) = refl
@@ -60,7 +63,8 @@ document_fault_has_integers (document.BadRelationship line) = refl
 document_fault_has_integers document.TooLarge = refl
 document_fault_has_integers (document.TooManyElements line) = refl
 
-values_have_integers : (refusal : Refusal) → items_have_float (items_of (refusal_values refusal)) ≡ false
+values_have_integers : (refusal : Refusal)
+    → items_have_float (items_of (refusal_values refusal)) ≡ false
 values_have_integers (why.BadCatalogue fault) = catalogue_fault_has_integers fault
 values_have_integers (why.BadDocument fault) = document_fault_has_integers fault
 values_have_integers (why.NamespaceTaken document) = refl

@@ -23,19 +23,21 @@ whole n = number (unsigned n)
 abbrev pub list : List Data → Data
 list ds = array (items_of ds)
 
--- The day of a line as it is written. It is empty if a line has no day, which doesn't happen in a history, and if its bytes are not text, which is never so for
--- a written day.
+-- The day of a line as it is written. It is empty if a line has no day, which doesn't happen in a
+-- history, and if its bytes are not text, which is never so for a written day.
 abbrev pub day_text : Option (List ℕ) → List ℕ
 day_text None = []
 day_text (Some day) = if is_utf8 day then day else []
 
 abbrev pub duty_row : DutyLine → Data
-duty_row line = list (whole line.number ∷ whole line.document ∷ string line.package_id ∷ string line.term ∷ string line.rule ∷ string line.code
+duty_row line = list (whole line.number ∷ whole line.document ∷ string line.package_id
+    ∷ string line.term ∷ string line.rule ∷ string line.code
     ∷ string (duty_state_name line.state) ∷ string (day_text line.day) ∷ [])
 
 -- the step, the day, the word and the text; for a waiver that ends, its last day too
 abbrev pub change_values : ChangeRow → List Data
-change_values row = whole row.step ∷ string (day_text (Some row.day)) ∷ string (word_name row.word) ∷ string row.body ∷ []
+change_values row = whole row.step ∷ string (day_text (Some row.day)) ∷ string (word_name row.word)
+    ∷ string row.body ∷ []
 
 abbrev pub ending : Option (List ℕ) → List Data
 ending None = []
@@ -45,24 +47,31 @@ abbrev pub change_line : ChangeRow → Data
 change_line row = list (change_values row ++ ending row.last_day)
 
 abbrev pub totals_row : Totals → Data
-totals_row t = list (whole t.raised ∷ whole t.still_open ∷ whole t.met ∷ whole t.waived ∷ whole t.withdrawn ∷ [])
+totals_row t = list (whole t.raised ∷ whole t.still_open ∷ whole t.met ∷ whole t.waived
+    ∷ whole t.withdrawn ∷ [])
 
 -- the release, its form and state, and the revision of the catalogue at its freeze
 abbrev pub release_line : ReleaseRow → Data
-release_line row = list (string row.name ∷ string row.form ∷ string (release_state_name row.state) ∷ whole row.revision ∷ [])
+release_line row = list (string row.name ∷ string row.form ∷ string (release_state_name row.state)
+    ∷ whole row.revision ∷ [])
 
 -- a release in the list of all: as above, and its duties counted by state
 abbrev pub listed_release : ReleaseLine → Data
-listed_release line = list (string line.release.name ∷ string line.release.form ∷ string (release_state_name line.release.state) ∷ whole line.release.revision
-    ∷ whole line.totals.raised ∷ whole line.totals.still_open ∷ whole line.totals.met ∷ whole line.totals.waived ∷ whole line.totals.withdrawn ∷ [])
+listed_release line = list (string line.release.name ∷ string line.release.form
+    ∷ string (release_state_name line.release.state) ∷ whole line.release.revision
+    ∷ whole line.totals.raised ∷ whole line.totals.still_open ∷ whole line.totals.met
+    ∷ whole line.totals.waived ∷ whole line.totals.withdrawn ∷ [])
 
 -- a document in the list of all: its number, namespace and profile, and how many packages it ships
 abbrev pub listed_document : DocumentLine → Data
-listed_document line = list (whole line.head.number ∷ string line.head.namespace ∷ whole (profile_number line.head.profile) ∷ whole line.shipped ∷ [])
+listed_document line = list (whole line.head.number ∷ string line.head.namespace
+    ∷ whole (profile_number line.head.profile) ∷ whole line.shipped ∷ [])
 
--- an open duty in the list of all: its number, its release, what it is owed for, and the day of its last change
+-- an open duty in the list of all: its number, its release, what it is owed for, and the day of its
+-- last change
 abbrev pub open_row : OpenDuty → Data
-open_row line = list (whole line.duty.number ∷ string line.duty.release ∷ whole line.duty.document ∷ string line.duty.package_id ∷ string line.duty.term
+open_row line = list (whole line.duty.number ∷ string line.duty.release ∷ whole line.duty.document
+    ∷ string line.duty.package_id ∷ string line.duty.term
     ∷ string line.duty.rule ∷ string line.duty.code ∷ string (day_text line.day) ∷ [])
 
 abbrev pub term_list : List (List ℕ) → Data
@@ -70,7 +79,8 @@ term_list terms = list (map string terms)
 
 -- a package: an empty text if it has no conclusion
 abbrev pub package_values : PackageLine → Data
-package_values line = list (whole line.document ∷ string line.package_id ∷ string line.name ∷ string (unwrap_or line.conclusion []) ∷ term_list line.terms ∷ [])
+package_values line = list (whole line.document ∷ string line.package_id ∷ string line.name
+    ∷ string (unwrap_or line.conclusion []) ∷ term_list line.terms ∷ [])
 
 -- a finding: its line, and the number and the name of its kind
 abbrev pub finding_line : Finding → Data

@@ -44,18 +44,23 @@ catalogue_fault_values catalogue.NotToml = []
 catalogue_fault_values (catalogue.Missing part index) = string (part_name part) ∷ whole index ∷ []
 catalogue_fault_values (catalogue.BadKind part index) = string (part_name part) ∷ whole index ∷ []
 catalogue_fault_values (catalogue.BadTerm part index) = string (part_name part) ∷ whole index ∷ []
-catalogue_fault_values (catalogue.UnknownForm part index) = string (part_name part) ∷ whole index ∷ []
-catalogue_fault_values (catalogue.UnknownDuty part index) = string (part_name part) ∷ whole index ∷ []
+catalogue_fault_values (catalogue.UnknownForm part index) = string (part_name part) ∷ whole index
+    ∷ []
+catalogue_fault_values (catalogue.UnknownDuty part index) = string (part_name part) ∷ whole index
+    ∷ []
 catalogue_fault_values (catalogue.Twice part index) = string (part_name part) ∷ whole index ∷ []
 catalogue_fault_values catalogue.TooLarge = []
 
 abbrev pub refusal_values : Refusal → List Data
-refusal_values (why.BadCatalogue fault) = whole (catalogue_fault_number fault) ∷ catalogue_fault_values fault
-refusal_values (why.BadDocument fault) = whole (document_fault_number fault) ∷ document_fault_values fault
+refusal_values (why.BadCatalogue fault) = whole (catalogue_fault_number fault)
+    ∷ catalogue_fault_values fault
+refusal_values (why.BadDocument fault) = whole (document_fault_number fault)
+    ∷ document_fault_values fault
 refusal_values (why.NamespaceTaken document) = whole document ∷ []
 refusal_values why.UnknownDocument = []
 refusal_values why.UnknownPackage = []
-refusal_values (why.BadExpression fault) = whole (expression_fault_number fault) ∷ whole (expression_fault_place fault) ∷ []
+refusal_values (why.BadExpression fault) = whole (expression_fault_number fault)
+    ∷ whole (expression_fault_place fault) ∷ []
 refusal_values (why.Chosen release) = string release ∷ []
 refusal_values (why.BadTerm index) = whole index ∷ []
 refusal_values why.BadName = []
@@ -71,7 +76,8 @@ refusal_values (why.NotMinimal term) = string term ∷ []
 refusal_values (why.NoChoice document package_id) = whole document ∷ string package_id ∷ []
 refusal_values why.EmptyRelease = []
 refusal_values (why.NotAdopted document reference) = whole document ∷ string reference ∷ []
-refusal_values (why.NoRule document package_id term) = whole document ∷ string package_id ∷ string term ∷ []
+refusal_values (why.NoRule document package_id term) = whole document ∷ string package_id
+    ∷ string term ∷ []
 refusal_values why.UnknownDuty = []
 refusal_values (why.DutyState state) = string (duty_state_name state) ∷ []
 refusal_values why.BadText = []

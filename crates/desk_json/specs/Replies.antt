@@ -1,8 +1,11 @@
--- The reply to an outcome: a JSON text (RFC 8259) without blanks, the members of each object in the order of their keys.
+-- The reply to an outcome: a JSON text (RFC 8259) without blanks, the members of each object in the
+-- order of their keys.
 use Rattle.std.specs.Prelude.{ℕ, Bool, true, false, List, [], ◌∷◌, codes, map}
 use Rattle.serde_json.specs.Data.{Data, boolean, string, object, no_members, member}
 use Rattle.serde_json.specs.Written.{compact_text}
-use Rattle.desk_json.specs.Parts.{whole, list, duty_row, totals_row, change_line, finding_line, release_line, package_values, term_list, cheapest_rows, listed_release, listed_document, open_row}
+use Rattle.desk_json.specs.Parts.{whole, list, duty_row, totals_row, change_line, finding_line}
+use Rattle.desk_json.specs.Parts.{release_line, package_values, term_list, cheapest_rows}
+use Rattle.desk_json.specs.Parts.{listed_release, listed_document, open_row}
 use Rattle.desk_json.specs.Refusals.{refusal_values}
 use Rattle.desk_model.specs.Names.{refusal_name}
 use Rattle.desk_model.specs.Numbers.{refusal_number}
@@ -20,13 +23,15 @@ revision_reply n = object (member (codes "revision") (whole n) no_members)
 
 -- a document is new if this import stored it
 abbrev pub document_reply : ℕ → Bool → Data
-document_reply n new = object (member (codes "document") (whole n) (member (codes "new") (boolean new) no_members))
+document_reply n new = object
+    (member (codes "document") (whole n) (member (codes "new") (boolean new) no_members))
 
 abbrev pub done_reply : Data
 done_reply = object (member (codes "done") (boolean true) no_members)
 
 abbrev pub frozen_reply : ℕ → ℕ → Data
-frozen_reply first count = object (member (codes "count") (whole count) (member (codes "first") (whole first) no_members))
+frozen_reply first count = object
+    (member (codes "count") (whole count) (member (codes "first") (whole first) no_members))
 
 abbrev pub closed_reply : ℕ → Data
 closed_reply count = object (member (codes "closed") (whole count) no_members)

@@ -11,7 +11,8 @@ use Rattle.desk_base.specs.declared.profile.Profile.TheVariants.{Capitals}
 use Rattle.desk_json.specs.declared.request.Request.{Request}
 use Rattle.desk_json.specs.declared.request.Request.TheVariants.{Act, Ask, BadCommand}
 
--- a request from an object with this many members. Each key is in an object once, so if that many keys are found in it, it has no others.
+-- a request from an object with this many members. Each key is in an object once, so if that many
+-- keys are found in it, it has no others.
 abbrev pub with_members : ℕ → Data → Request → Request
 with_members n d request = if size d == n then request else BadCommand
 
@@ -30,13 +31,16 @@ abbrev pub catalogue_request : Data → Request
 catalogue_request d = with_members 2 d
     (with_text (codes "text") d (λ text. Act (command.LoadCatalogue text)))
 
--- the profile of an import: capitals if it has no member for it, or else the one whose number the member is
+-- the profile of an import: capitals if it has no member for it, or else the one whose number the
+-- member is
 abbrev pub import_profile : Data → Option Profile
-import_profile d = if size d == 2 then Some Capitals else if size d == 3 then profile_in (codes "profile") d else None
+import_profile d = if size d == 2 then Some Capitals else if size d == 3
+    then profile_in (codes "profile") d else None
 
 abbrev pub import_request : Data → Request
 import_request d = unwrap_or (option_map (λ profile.
-    with_text (codes "text") d (λ bytes. Act (command.Import bytes profile))) (import_profile d)) BadCommand
+    with_text (codes "text") d (λ bytes. Act (command.Import bytes profile))) (import_profile d))
+    BadCommand
 
 abbrev pub open_request : Data → Request
 open_request d = with_members 3 d
@@ -73,7 +77,8 @@ meet_request d = with_members 4 d
 
 -- a waiver may have a member for its last day
 abbrev pub waive_until : Data → Option (Option (List ℕ))
-waive_until d = if size d == 4 then Some None else if size d == 5 then option_map Some (text_in (codes "until") d) else None
+waive_until d = if size d == 4 then Some None else if size d == 5
+    then option_map Some (text_in (codes "until") d) else None
 
 abbrev pub waive_request : Data → Request
 waive_request d = unwrap_or (option_map (λ until.

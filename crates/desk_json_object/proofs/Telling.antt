@@ -1,10 +1,13 @@
 -- What the first token of a value says about it.
-use Rattle.std.proofs.Common.{◌≡◌, ℕ, zero, suc, ◌-◌, ◌∷◌, List, Bor, Option, Some, None, option_map, refl, sym, ap, ◌∙◌, arith}
+use Rattle.std.proofs.Common.{◌≡◌, ℕ, zero, suc, ◌-◌, ◌∷◌, List, Bor, Option, Some, None}
+use Rattle.std.proofs.Common.{option_map, refl, sym, ap, ◌∙◌, arith}
 use Rattle.json.specs.Json.{parse_map}
 use Rattle.json.specs.Reads.{token_of}
 use Rattle.json.specs.Token.{Token}
 use Rattle.json.specs.declared.token.Token.{Token as Read}
-use Rattle.json.specs.declared.token.Token.TheVariants.{BeginObject, EndObject, BeginArray, EndArray, Key, String, Number, Bool, Null, Bad}
+use Rattle.json.specs.declared.token.Token.TheVariants.{BeginObject, EndObject, BeginArray}
+use Rattle.json.specs.declared.token.Token.TheVariants.{EndArray, Key, String, Number, Bool, Null}
+use Rattle.json.specs.declared.token.Token.TheVariants.{Bad}
 use Rattle.json.proofs.Grammar.{value_is}
 use Rattle.serde_json.specs.Data.{Data, Num, null, boolean, number, string, array, object, Items, Members, no_members}
 use Rattle.serde_json.specs.Find.{as_str}
@@ -29,30 +32,44 @@ abbrev data_of : Option (Data × List Token) → Data
 data_of None = null
 data_of (Some p) = p.0
 
-number_told : (ts : List Token) (n : Option Num) (d : Data) (rest : List Token) → option_map {U = Data × List Token} (λ b. (b, ts)) (option_map number n) ≡ Some (d, rest)
+number_told : (ts : List Token) (n : Option Num) (d : Data) (rest : List Token)
+    → option_map {U = Data × List Token} (λ b. (b, ts)) (option_map number n) ≡ Some (d, rest)
     → (n : Num) × (number n ≡ d)
 number_told ts None d rest is = absurd (cc)
 number_told ts (Some n) d rest is = (n, ap data_of is)
 
-around_told : {A : Type 0} (g : A → Data) (taken : Option (A × List Token)) (d : Data) (rest : List Token) → parse_map g taken ≡ Some (d, rest) → (a : A) × (g a ≡ d)
+around_told : {A : Type 0} (g : A → Data) (taken : Option (A × List Token)) (d : Data)
+    (rest : List Token) → parse_map g taken ≡ Some (d, rest) → (a : A) × (g a ≡ d)
 around_told g None d rest is = absurd (cc)
 around_told g (Some p) d rest is = (p.0, ap data_of is)
 
-pub tells : (depth : ℕ) (ts : List Token) (first : Read) (d : Data) (rest : List Token) → data_at depth (token_of first ∷ ts) ≡ Some (d, rest) → Tells first d
-tells depth ts (String s) d rest is = ap data_of (sym (ap (converted of_json) (value_is depth (Token.string s.now ∷ ts))) ∙ is)
-tells depth ts (Number s) d rest is = number_told ts (number_of s.now) d rest (sym (ap (converted of_json) (value_is depth (Token.number s.now ∷ ts))) ∙ is)
-tells depth ts (Bool b) d rest is = ap data_of (sym (ap (converted of_json) (value_is depth (Token.boolean b ∷ ts))) ∙ is)
-tells depth ts Null d rest is = ap data_of (sym (ap (converted of_json) (value_is depth (Token.null ∷ ts))) ∙ is)
+pub tells : (depth : ℕ) (ts : List Token) (first : Read) (d : Data) (rest : List Token)
+    → data_at depth (token_of first ∷ ts) ≡ Some (d, rest) → Tells first d
+tells depth ts (String s) d rest is = ap data_of
+    (sym (ap (converted of_json) (value_is depth (Token.string s.now ∷ ts))) ∙ is)
+tells depth ts (Number s) d rest is = number_told ts (number_of s.now) d rest
+    (sym (ap (converted of_json) (value_is depth (Token.number s.now ∷ ts))) ∙ is)
+tells depth ts (Bool b) d rest is = ap data_of
+    (sym (ap (converted of_json) (value_is depth (Token.boolean b ∷ ts))) ∙ is)
+tells depth ts Null d rest is = ap data_of
+    (sym (ap (converted of_json) (value_is depth (Token.null ∷ ts))) ∙ is)
 tells zero ts BeginArray d rest is = let none = data_at-too_deep zero ts refl in absurd (cc)
-tells (suc k) ts BeginArray d rest is = around_told array (items_at (suc k - 1) ts) d rest (sym (data_at-array (suc k) ts (omega arith)) ∙ is)
+tells (suc k) ts BeginArray d rest is = around_told array (items_at (suc k - 1) ts) d rest
+    (sym (data_at-array (suc k) ts (omega arith)) ∙ is)
 tells zero ts BeginObject d rest is = let none = data_at-too_deep_object zero ts refl in absurd (cc)
-tells (suc k) ts BeginObject d rest is = around_told object (members_at no_members (suc k - 1) ts) d rest (sym (data_at-object (suc k) ts (omega arith)) ∙ is)
-tells depth ts EndObject d rest is = let none = ap (converted of_json) (value_is depth (Token.end_object ∷ ts)) in absurd (cc)
-tells depth ts EndArray d rest is = let none = ap (converted of_json) (value_is depth (Token.end_array ∷ ts)) in absurd (cc)
-tells depth ts (Key s) d rest is = let none = ap (converted of_json) (value_is depth (Token.key s.now ∷ ts)) in absurd (cc)
-tells depth ts Bad d rest is = let none = ap (converted of_json) (value_is depth (Token.bad ∷ ts)) in absurd (cc)
+tells (suc k) ts BeginObject d rest is = around_told object (members_at no_members (suc k - 1) ts) d
+    rest (sym (data_at-object (suc k) ts (omega arith)) ∙ is)
+tells depth ts EndObject d rest is = let none =
+    ap (converted of_json) (value_is depth (Token.end_object ∷ ts)) in absurd (cc)
+tells depth ts EndArray d rest is = let none =
+    ap (converted of_json) (value_is depth (Token.end_array ∷ ts)) in absurd (cc)
+tells depth ts (Key s) d rest is = let none =
+    ap (converted of_json) (value_is depth (Token.key s.now ∷ ts)) in absurd (cc)
+tells depth ts Bad d rest is = let none =
+    ap (converted of_json) (value_is depth (Token.bad ∷ ts)) in absurd (cc)
 
-pub not_text : (first : Read) (d : Data) → Tells first d → ((s : Bor (List ℕ)) → first ≡ String s → ⊥) → as_str d ≡ None
+pub not_text : (first : Read) (d : Data) → Tells first d
+    → ((s : Bor (List ℕ)) → first ≡ String s → ⊥) → as_str d ≡ None
 not_text (String s) d told not = absurd (not s refl)
 not_text (Number s) d told not = ap as_str (sym told.1)
 not_text (Bool b) d told not = ap as_str (sym told)
@@ -64,7 +81,9 @@ not_text EndArray d told not = absurd told
 not_text (Key s) d told not = absurd told
 not_text Bad d told not = absurd told
 
-pub spared_null : (first : Read) (d : Data) → Tells first d → ((s : Bor (List ℕ)) → first ≡ String s → ⊥) → ((s : Bor (List ℕ)) → first ≡ Number s → ⊥) → (first ≡ BeginArray → ⊥)
+pub spared_null : (first : Read) (d : Data) → Tells first d
+    → ((s : Bor (List ℕ)) → first ≡ String s → ⊥) → ((s : Bor (List ℕ)) → first ≡ Number s → ⊥)
+    → (first ≡ BeginArray → ⊥)
     → spared d ≡ null
 spared_null (String s) d told text num arr = absurd (text s refl)
 spared_null (Number s) d told text num arr = absurd (num s refl)
@@ -77,7 +96,8 @@ spared_null EndArray d told text num arr = absurd told
 spared_null (Key s) d told text num arr = absurd told
 spared_null Bad d told text num arr = absurd told
 
-pub no_object : (first : Read) (ms : Members) → Tells first (object ms) → (first ≡ BeginObject → ⊥) → ⊥
+pub no_object : (first : Read) (ms : Members) → Tells first (object ms) → (first ≡ BeginObject → ⊥)
+    → ⊥
 no_object (String s) ms told not = cc
 no_object (Number s) ms told not = let is = told.1 in cc
 no_object (Bool b) ms told not = cc

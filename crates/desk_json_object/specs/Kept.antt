@@ -33,15 +33,19 @@ Keeps taken kept rest = (d : Data) × (taken ≡ Some (d, rest)) × (spared d �
 
 -- at most this many members, of which these are kept
 abbrev pub KeepsMembers : ℕ → Option (Members × List Token) → Members → List Token → Type 0
-KeepsMembers most taken kept rest = (ms : Members) × (taken ≡ Some (ms, rest)) × (members_len ms ≤ most) × (spared_members ms ≡ kept)
+KeepsMembers most taken kept rest = (ms : Members) × (taken ≡ Some (ms, rest))
+    × (members_len ms ≤ most) × (spared_members ms ≡ kept)
 
 -- however many members there are, there are more than this many
 abbrev pub AreTooMany : ℕ → Option (Members × List Token) → Type 0
-AreTooMany most taken = (ms : Members) (rest : List Token) → taken ≡ Some (ms, rest) → most < members_len ms
+AreTooMany most taken = (ms : Members) (rest : List Token) → taken ≡ Some (ms, rest)
+    → most < members_len ms
 
 -- the same for an object
 abbrev pub KeepsObject : ℕ → Option (Data × List Token) → Members → List Token → Type 0
-KeepsObject most taken kept rest = (ms : Members) × (taken ≡ Some (object ms, rest)) × (members_len ms ≤ most) × (spared_members ms ≡ kept)
+KeepsObject most taken kept rest = (ms : Members) × (taken ≡ Some (object ms, rest))
+    × (members_len ms ≤ most) × (spared_members ms ≡ kept)
 
 abbrev pub IsNoObject : ℕ → Option (Data × List Token) → Type 0
-IsNoObject most taken = (ms : Members) (rest : List Token) → taken ≡ Some (object ms, rest) → rest ≡ [] → most < members_len ms
+IsNoObject most taken = (ms : Members) (rest : List Token) → taken ≡ Some (object ms, rest)
+    → rest ≡ [] → most < members_len ms

@@ -13,7 +13,8 @@ Decided ps path = IsMatch ps path ⊎ (IsMatch ps path → ⊥)
 module _ (ps : List Piece) (later : (path : List ℕ) → Decided ps path) where
   -- ---- a byte
 
-  no_byte : (b c : ℕ) (cs : List ℕ) → (c ≡ b → IsMatch ps cs → ⊥) → IsMatch (Byte b ∷ ps) (c ∷ cs) → ⊥
+  no_byte : (b c : ℕ) (cs : List ℕ) → (c ≡ b → IsMatch ps cs → ⊥) → IsMatch (Byte b ∷ ps) (c ∷ cs)
+      → ⊥
   no_byte b c cs none h =
       let e : c ∷ cs ≡ b ∷ h.1 = h.2 ∙ ap (λ s. s ++ h.1) h.3 in
       let head : c ≡ b = cc in
@@ -38,11 +39,14 @@ module _ (ps : List Piece) (later : (path : List ℕ) → Decided ps path) where
   no_more [] rest e = e
   no_more (d ∷ s) rest e = absurd cc
 
-  no_path : (c : ℕ) (cs : List ℕ) → (IsMatch ps (c ∷ cs) → ⊥) → (IsMatch (InPath ∷ ps) cs → ⊥) → (stretch rest : List ℕ) → c ∷ cs ≡ stretch ++ rest → IsMatch ps rest → ⊥
+  no_path : (c : ℕ) (cs : List ℕ) → (IsMatch ps (c ∷ cs) → ⊥) → (IsMatch (InPath ∷ ps) cs → ⊥)
+      → (stretch rest : List ℕ) → c ∷ cs ≡ stretch ++ rest → IsMatch ps rest → ⊥
   no_path c cs none behind [] rest cut match = none (subst (IsMatch ps) (sym cut) match)
-  no_path c cs none behind (d ∷ s) rest cut match = let tail : cs ≡ s ++ rest = cc in behind (s, rest, tail, tt, match)
+  no_path c cs none behind (d ∷ s) rest cut match = let tail : cs ≡ s ++ rest = cc in
+      behind (s, rest, tail, tt, match)
 
-  in_path_on : (c : ℕ) (cs : List ℕ) → Decided ps (c ∷ cs) → Decided (InPath ∷ ps) cs → Decided (InPath ∷ ps) (c ∷ cs)
+  in_path_on : (c : ℕ) (cs : List ℕ) → Decided ps (c ∷ cs) → Decided (InPath ∷ ps) cs
+      → Decided (InPath ∷ ps) (c ∷ cs)
   in_path_on c cs (inl match) behind = inl ([], c ∷ cs, refl, tt, match)
   in_path_on c cs (inr none) (inl m) = inl (c ∷ m.0, m.1, ap (λ l. c ∷ l) m.2, tt, m.4)
   in_path_on c cs (inr none) (inr behind) = inr (λ h. no_path c cs none behind h.0 h.1 h.2 h.4)
@@ -60,19 +64,31 @@ module _ (ps : List Piece) (later : (path : List ℕ) → Decided ps path) where
   abbrev NoSlash : List ℕ → Type 0
   NoSlash s = All (λ b. b ≢ 47) s
 
-  no_name : (c : ℕ) (cs : List ℕ) → (IsMatch ps (c ∷ cs) → ⊥) → (c ≢ 47 → IsMatch (InName ∷ ps) cs → ⊥) → (stretch rest : List ℕ) → c ∷ cs ≡ stretch ++ rest → NoSlash stretch → IsMatch ps rest → ⊥
+  no_name : (c : ℕ) (cs : List ℕ) → (IsMatch ps (c ∷ cs) → ⊥)
+      → (c ≢ 47 → IsMatch (InName ∷ ps) cs → ⊥) → (stretch rest : List ℕ) → c ∷ cs ≡ stretch ++ rest
+      → NoSlash stretch → IsMatch ps rest → ⊥
   no_name c cs none behind [] rest cut apart match = none (subst (IsMatch ps) (sym cut) match)
   no_name c cs none behind (d ∷ s) rest cut apart match =
       let tail : cs ≡ s ++ rest = cc in
       let head : d ≡ c = cc in
       let first : d ≢ 47 = All-get_or (λ b. b ≢ 47) (d ∷ s) 0 0 (omega arith) apart in
-      behind (subst (λ x. x ≢ 47) head first) (s, rest, tail, All-tail (λ b. b ≢ 47) d s apart, match)
+      behind (subst (λ x. x ≢ 47) head first)
+      (s, rest, tail, All-tail (λ b. b ≢ 47) d s apart, match)
 
-  in_name_on : (c : ℕ) (cs : List ℕ) → (c ≡ 47) ⊎ (c ≢ 47) → Decided ps (c ∷ cs) → Decided (InName ∷ ps) cs → Decided (InName ∷ ps) (c ∷ cs)
+  in_name_on : (c : ℕ) (cs : List ℕ) → (c ≡ 47) ⊎ (c ≢ 47) → Decided ps (c ∷ cs)
+      → Decided (InName ∷ ps) cs → Decided (InName ∷ ps) (c ∷ cs)
   in_name_on c cs slash (inl match) behind = inl ([], c ∷ cs, refl, All-nil (λ b. b ≢ 47), match)
-  in_name_on c cs (inl slash) (inr none) behind = inr (λ h. no_name c cs none (λ apart m. apart slash) h.0 h.1 h.2 h.3 h.4)
-  in_name_on c cs (inr apart) (inr none) (inl m) = inl (c ∷ m.0, m.1, ap (λ l. c ∷ l) m.2, All-cons (λ b. b ≢ 47) c m.0 apart m.3, m.4)
-  in_name_on c cs (inr apart) (inr none) (inr behind) = inr (λ h. no_name c cs none (λ other. behind) h.0 h.1 h.2 h.3 h.4)
+  in_name_on c cs (inl slash) (inr none) behind = inr (λ h. no_name c cs none
+      (λ apart m. apart slash) h.0 h.1 h.2 h.3 h.4)
+  in_name_on c cs (inr apart) (inr none) (inl m) = inl (
+    c ∷ m.0,
+    m.1,
+    ap (λ l. c ∷ l) m.2,
+    All-cons (λ b. b ≢ 47) c m.0 apart m.3,
+    m.4,
+  )
+  in_name_on c cs (inr apart) (inr none) (inr behind) = inr (λ h. no_name c cs none
+      (λ other. behind) h.0 h.1 h.2 h.3 h.4)
 
   in_name : (path : List ℕ) → Decided (InName ∷ ps) path
   in_name [] =

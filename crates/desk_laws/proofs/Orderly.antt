@@ -1,5 +1,6 @@
 -- The tables of a history are in the order that look-ups in a file rely on.
-use Rattle.std.proofs.Common.{◌≡◌, ◌∙◌, inl, inr, ℕ, ◌+◌, ◌≤◌, ◌<◌, Bool, true, false, List, [], ◌∷◌, map, length, refl, ap, sym, subst, arith}
+use Rattle.std.proofs.Common.{◌≡◌, ◌∙◌, inl, inr, ℕ, ◌+◌, ◌≤◌, ◌<◌, Bool, true, false, List, []}
+use Rattle.std.proofs.Common.{◌∷◌, map, length, refl, ap, sym, subst, arith}
 use Rattle.std.specs.Prelude.{nat_lt, nat_le, ◌==◌, ◌&&◌, ◌||◌}
 use Rattle.std.specs.List.{list_all, enumerate_from, flat_map}
 use Rattle.std.specs.Ordering.{nat_cmp, ordering_then, is_lt}
@@ -39,7 +40,8 @@ use Rattle.desk_laws.proofs.Writing.{read_have}
 
 -- ---- numbers
 
-numbers : {A B : Type 0} (row : ℕ × A → B) (key : B → ℕ) → ((d : ℕ × A) → key (row d) ≡ d.0) → (n : ℕ) (xs : List A) → AreNumbered n (map key (map row (enumerate_from n xs)))
+numbers : {A B : Type 0} (row : ℕ × A → B) (key : B → ℕ) → ((d : ℕ × A) → key (row d) ≡ d.0)
+    → (n : ℕ) (xs : List A) → AreNumbered n (map key (map row (enumerate_from n xs)))
 numbers row key same n [] = tt
 numbers row key same n (x ∷ xs) = (same (n, x), numbers row key same (n + 1) xs)
 
@@ -49,22 +51,27 @@ at_most n m (k ∷ ks) are (inl e) = omega (arith, are.0, e)
 at_most n m (k ∷ ks) are (inr there) = omega (arith, at_most (n + 1) m ks are.1 there)
 
 -- the number of a row is at most the number of rows
-within : {A : Type 0} (key : A → ℕ) (row : A) (rows : List A) → AreNumbered 1 (map key rows) → IsIn row rows → key row ≤ length rows
-within key row rows are m = omega (arith, at_most 1 (key row) (map key rows) are (in_map key row rows m), length-map rows key)
+within : {A : Type 0} (key : A → ℕ) (row : A) (rows : List A) → AreNumbered 1 (map key rows)
+    → IsIn row rows → key row ≤ length rows
+within key row rows are m = omega
+    (arith, at_most 1 (key row) (map key rows) are (in_map key row rows m), length-map rows key)
 
 is_le : (a b : ℕ) → a ≤ b → nat_le a b ≡ true
 is_le a b e = grind (arith, nat_tests)
 
-all_pass : {A : Type 0} (p : A → Bool) (xs : List A) → ((x : A) → IsIn x xs → p x ≡ true) → list_all p xs ≡ true
+all_pass : {A : Type 0} (p : A → Bool) (xs : List A) → ((x : A) → IsIn x xs → p x ≡ true)
+    → list_all p xs ≡ true
 all_pass p [] each = refl
-all_pass p (x ∷ xs) each = both (p x) (list_all p xs) (each x (inl refl)) (all_pass p xs (λ y there. each y (inr there)))
+all_pass p (x ∷ xs) each = both (p x) (list_all p xs) (each x (inl refl))
+    (all_pass p xs (λ y there. each y (inr there)))
 
 -- ---- packages
 
 text_order : IsOrder text_below
 text_order = order_of nat_list_cmp_total
 
-not_behind : (a b : ℕ) (s : Ordering) (t : Bool) → is_lt (ordering_then (nat_cmp a b) s) ≡ true → (is_lt s ≡ true → t ≡ false) → (nat_lt b a || ((b == a) && t)) ≡ false
+not_behind : (a b : ℕ) (s : Ordering) (t : Bool) → is_lt (ordering_then (nat_cmp a b) s) ≡ true
+    → (is_lt s ≡ true → t ≡ false) → (nat_lt b a || ((b == a) && t)) ≡ false
 not_behind a b s true e f = elim (three a b) [
   | inl less ↦ grind (arith, nat_tests)
   | inr other ↦ elim other [
@@ -80,10 +87,12 @@ not_behind a b s false e f = elim (three a b) [
   ]
 ]
 
-packages_ascend : (rows : List PackageRow) → Rises (below_by package_order) rows → Ascends package_below rows
+packages_ascend : (rows : List PackageRow) → Rises (below_by package_order) rows
+    → Ascends package_below rows
 packages_ascend [] up = tt
 packages_ascend (p ∷ rows) up = (
-  λ q m. not_behind p.document q.document (slice_cmp nat_cmp p.id q.id) (text_below q.id p.id) (up.0 q m) (text_order.asym p.id q.id),
+  λ q m. not_behind p.document q.document (slice_cmp nat_cmp p.id q.id) (text_below q.id p.id)
+      (up.0 q m) (text_order.asym p.id q.id),
   packages_ascend rows up.1,
 )
 
@@ -91,23 +100,32 @@ packages_ascend (p ∷ rows) up = (
 
 module _ (w : Readings) (h : List Command) where
   duty_numbers : AreNumbered 1 (map (λ (row : DutyRow). row.number) (duties w h))
-  duty_numbers = numbers (λ (d : ℕ × Owed). duty_row (place w h d.0) d) (λ (row : DutyRow). row.number) (λ d. refl) 1 (raised w h)
+  duty_numbers = numbers (λ (d : ℕ × Owed). duty_row (place w h d.0) d)
+      (λ (row : DutyRow). row.number) (λ d. refl) 1 (raised w h)
 
-  changes_name : (q : ℕ) (row : ChangeRow) (ms : List Move) → IsIn row (change_rows q ms) → row.duty ≡ q
+  changes_name : (q : ℕ) (row : ChangeRow) (ms : List Move) → IsIn row (change_rows q ms)
+      → row.duty ≡ q
   changes_name q row [] m = absurd m
-  changes_name q row (move ∷ ms) m = elim (in_cases row (change_rows q ms) (change_row q (length ms + 1) move ∷ []) m) [
-    | inl old ↦ changes_name q row ms old
-    | inr new ↦ elim new [ inl same ↦ sym (ap (λ (r : ChangeRow). r.duty) same) | inr none ↦ absurd none ]
-  ]
+  changes_name q row (move ∷ ms) m = elim (in_cases row (change_rows q ms)
+      (change_row q (length ms + 1) move ∷ []) m) [
+        | inl old ↦ changes_name q row ms old
+        | inr new ↦ elim new [
+          | inl same ↦ sym (ap (λ (r : ChangeRow). r.duty) same)
+          | inr none ↦ absurd none
+        ]
+      ]
 
   changes_within : (row : ChangeRow) → IsIn row (all_changes w h) → row.duty ≤ length (duties w h)
   changes_within row m =
       let found = from_flat_map (λ (d : ℕ × Owed). changes w h d.0) row (numbered w h) m in
-      let duty = in_map (λ (d : ℕ × Owed). duty_row (place w h d.0) d) found.0 (numbered w h) found.1 in
-      let low = within (λ (r : DutyRow). r.number) (duty_row (place w h found.0.0) found.0) (duties w h) duty_numbers duty in
+      let duty = in_map (λ (d : ℕ × Owed). duty_row (place w h d.0) d) found.0 (numbered w h)
+      found.1 in
+      let low = within (λ (r : DutyRow). r.number) (duty_row (place w h found.0.0) found.0)
+      (duties w h) duty_numbers duty in
       omega (arith, low, changes_name found.0.0 row (moves w h found.0.0) found.2)
 
-  packages_within : packages w h ≡ flat_map (packages_of w) (documents w h) → AreNumbered 1 (map (λ (row : DocumentRow). row.number) (documents w h))
+  packages_within : packages w h ≡ flat_map (packages_of w) (documents w h)
+      → AreNumbered 1 (map (λ (row : DocumentRow). row.number) (documents w h))
       → (p : PackageRow) → IsIn p (packages w h) → p.document ≤ length (documents w h)
   packages_within same are p m =
       let found = from_flat_map (packages_of w) p (documents w h) (subst (IsIn p) same m) in
@@ -115,11 +133,13 @@ module _ (w : Readings) (h : List Command) where
       let own = from_map (package_row found.0.number) p _ found.2 in
       omega (arith, low, ap (λ (r : PackageRow). r.document) own.2)
 
-words_of : (w : Readings) → ListsIds w → (rows : List CatalogueRow) → have_words (flat_map (rules_of w) rows) ≡ true
+words_of : (w : Readings) → ListsIds w → (rows : List CatalogueRow)
+    → have_words (flat_map (rules_of w) rows) ≡ true
 words_of w ids [] = refl
 words_of w ids (row ∷ rows) =
     list_all-append _ (rules_of w row) (flat_map (rules_of w) rows)
-    ∙ both (have_words (rules_of w row)) (have_words (flat_map (rules_of w) rows)) (read_have w ids row.revision row.body (w.catalogue row.body) refl) (words_of w ids rows)
+    ∙ both (have_words (rules_of w row)) (have_words (flat_map (rules_of w) rows))
+    (read_have w ids row.revision row.body (w.catalogue row.body) refl) (words_of w ids rows)
 
 -- ---- the tables
 
@@ -133,14 +153,22 @@ pub record Known (w : Readings) (h : List Command) : Type 0 where
 
 pub orderly : (w : Readings) (h : List Command) → ListsIds w → Known w h → AreOrderly (tables w h)
 orderly w h ids known =
-    let read = subst (λ rows. AreNumbered 1 (map (λ (row : DocumentRow). row.number) rows)) (sym known.by_imports) (numbers (document_row w) (λ (row : DocumentRow). row.number) (λ d. refl) 1 (given imported h)) in
+    let read = subst (λ rows. AreNumbered 1 (map (λ (row : DocumentRow). row.number) rows))
+    (sym known.by_imports) (numbers (document_row w) (λ (row : DocumentRow). row.number) (λ d. refl)
+    1 (given imported h)) in
     record {
       sorted = known.sorted;
       packages = packages_ascend (packages w h) known.listed.packages;
-      revisions = subst (λ rows. AreNumbered 1 (map (λ (row : CatalogueRow). row.revision) rows)) (sym known.by_loads) (numbers revision_row (λ (row : CatalogueRow). row.revision) (λ d. refl) 1 (given loaded h));
+      revisions = subst (λ rows. AreNumbered 1 (map (λ (row : CatalogueRow). row.revision) rows))
+          (sym known.by_loads) (numbers revision_row (λ (row : CatalogueRow). row.revision)
+          (λ d. refl) 1 (given loaded h));
       documents = read;
       duties = duty_numbers w h;
-      of_documents = all_pass (λ (p : PackageRow). nat_le p.document (length (documents w h))) (packages w h) (λ p m. is_le p.document (length (documents w h)) (packages_within w h known.by_documents read p m));
-      of_duties = all_pass (λ (row : ChangeRow). nat_le row.duty (length (duties w h))) (all_changes w h) (λ row m. is_le row.duty (length (duties w h)) (changes_within w h row m));
+      of_documents = all_pass (λ (p : PackageRow). nat_le p.document (length (documents w h)))
+          (packages w h) (λ p m. is_le p.document (length (documents w h))
+          (packages_within w h known.by_documents read p m));
+      of_duties = all_pass (λ (row : ChangeRow). nat_le row.duty (length (duties w h)))
+          (all_changes w h) (λ row m. is_le row.duty (length (duties w h))
+          (changes_within w h row m));
       codes = ap have_words known.by_revisions ∙ words_of w ids (revisions h);
     }

@@ -15,18 +15,33 @@ decide : (P : Type 0) → P ⊎ (P → ⊥) → (b : Bool) × Decides b P
 decide P (inl is) = (true, (λ e. is, λ p. refl))
 decide P (inr not) = (false, (λ e. absurd cc, λ p. absurd (not p)))
 
-tell : (text : List ℕ) → ((e : Tree) × SpellsWithin text e) ⊎ ((e : Tree) → SpellsWithin text e → ⊥) → (b : Bool) × Tells text b
+tell : (text : List ℕ) → ((e : Tree) × SpellsWithin text e) ⊎ ((e : Tree) → SpellsWithin text e → ⊥)
+    → (b : Bool) × Tells text b
 tell text (inl spelled) = (true, spelled)
 tell text (inr none) = (false, none)
 
 reading : (r : Reading) × IsRight r
 reading = (
-  record { pieces = λ pattern. (each_spelled pattern).0; is_expression = λ text. (tell text (tree_of_text Capitals text)).0 },
-  record { patterns = λ pattern. (each_spelled pattern).1; expressions = λ text. (tell text (tree_of_text Capitals text)).1 },
+  record {
+    pieces = λ pattern. (each_spelled pattern).0;
+    is_expression = λ text. (tell text (tree_of_text Capitals text)).0;
+  },
+  record {
+    patterns = λ pattern. (each_spelled pattern).1;
+    expressions = λ text. (tell text (tree_of_text Capitals text)).1;
+  },
 )
 
 pub right_reader : (r : Reader) × IsRightReader r
 right_reader = (
-  record { reading = reading.0; matches = λ pieces path. (decide _ (decided pieces path)).0; stated = λ file. (stated file).0 },
-  record { reading = reading.1; matching = λ pieces path. (decide _ (decided pieces path)).1; stating = λ file. (stated file).1 },
+  record {
+    reading = reading.0;
+    matches = λ pieces path. (decide _ (decided pieces path)).0;
+    stated = λ file. (stated file).0;
+  },
+  record {
+    reading = reading.1;
+    matching = λ pieces path. (decide _ (decided pieces path)).1;
+    stating = λ file. (stated file).1;
+  },
 )

@@ -11,12 +11,18 @@ use Rattle.desk_sql_layout.specs.Held.{Stands, seen_of}
 use Rattle.desk_sql_adopt.specs.Reading.{HasStayed}
 use Rattle.desk_store.specs.Adopting.{IsEmpty}
 
-pub secure_empty : (s : Seen Trees) → IsEmpty s → s.is_honest → (w : Readings) → Secures Stands (tables w []) s
-secure_empty s empty clean w = record { is_open = empty.is_open clean; leaves = λ x left. empty.leaves clean x left w }
+pub secure_empty : (s : Seen Trees) → IsEmpty s → s.is_honest → (w : Readings)
+    → Secures Stands (tables w []) s
+secure_empty s empty clean w = record {
+  is_open = empty.is_open clean;
+  leaves = λ x left. empty.leaves clean x left w;
+}
 
 -- reading doesn't change what a stop leaves
-pub secure_stayed : (old new : State) → HasStayed old new → HasCleanDisk new → (t : Tables) → Secures Stands t (seen_of old) → Secures Stands t (seen_of new)
+pub secure_stayed : (old new : State) → HasStayed old new → HasCleanDisk new → (t : Tables)
+    → Secures Stands t (seen_of old) → Secures Stands t (seen_of new)
 secure_stayed old new stayed clean t s = record {
   is_open = stayed.1 clean s.is_open;
-  leaves = λ x left. s.leaves x (⊎_elim (λ was. was) (λ none. absurd none) (stayed.0.survives.crash clean x left));
+  leaves = λ x left. s.leaves x
+      (⊎_elim (λ was. was) (λ none. absurd none) (stayed.0.survives.crash clean x left));
 }

@@ -1,5 +1,6 @@
 -- The cells of rows within the limits, with short texts, are small and as a desk writes them.
-use Rattle.std.proofs.Common.{◌≡◌, ℕ, ◌^◌, ◌<◌, ◌≤◌, Bool, true, false, List, [], ◌∷◌, length, map, filter, Option, Some, None, refl, subst, arith, inl, inr}
+use Rattle.std.proofs.Common.{◌≡◌, ℕ, ◌^◌, ◌<◌, ◌≤◌, Bool, true, false, List, [], ◌∷◌, length, map}
+use Rattle.std.proofs.Common.{filter, Option, Some, None, refl, subst, arith, inl, inr}
 use Rattle.std.specs.Prelude.{All, codes, IfSome, IsTrue, IsUtf8, ◌==◌, if◌then◌else◌, nat_lt, slice_index}
 use Rattle.std.specs.Char.{is_ascii_digit}
 use Rattle.std.specs.List.{AllByRecursion, list_all}
@@ -29,7 +30,11 @@ use Rattle.desk_model.specs.declared.state.Word.{Word}
 use Rattle.desk_model.specs.declared.state.Word.TheVariants as word
 use Rattle.desk_history_laws.specs.OwnKeys.{HaveOwnKeys}
 use Rattle.desk_history_laws.specs.Within.{AreWithin}
-use Rattle.desk_sql_layout.specs.Cells.{adoption_cells, attached_cells, catalogue_cells, change_cells, choice_cells, conclusion_cells, document_cells, duty_cells, extracted_cells, frozen_cells, is_waiver, meta_cells, number, package_cells, reading_cells, release_cells, rule_cells, text_or_null, waiver_cells}
+use Rattle.desk_sql_layout.specs.Cells.{adoption_cells, attached_cells, catalogue_cells}
+use Rattle.desk_sql_layout.specs.Cells.{change_cells, choice_cells, conclusion_cells}
+use Rattle.desk_sql_layout.specs.Cells.{document_cells, duty_cells, extracted_cells, frozen_cells}
+use Rattle.desk_sql_layout.specs.Cells.{is_waiver, meta_cells, number, package_cells, reading_cells}
+use Rattle.desk_sql_layout.specs.Cells.{release_cells, rule_cells, text_or_null, waiver_cells}
 use Rattle.desk_sql_layout.specs.Held.{rows_of}
 use Rattle.desk_sql_layout.specs.Layout.{desk_schema}
 use Rattle.desk_sql_lookup.specs.Causes.{AreWritten, IsRow, IsWritten}
@@ -67,7 +72,8 @@ shipped_fits false = (omega arith, omega arith)
 ascii : (bs : List ℕ) → list_all (λ b. nat_lt b 128) bs ≡ true → All (λ b. b < 128) bs
 ascii [] e = All-nil (λ b. b < 128)
 ascii (b ∷ bs) e =
-    All-cons (λ b. b < 128) b bs (let it : nat_lt b 128 ≡ true = and_left (nat_lt b 128) (list_all (λ b. nat_lt b 128) bs) e in grind (arith, nat_tests))
+    All-cons (λ b. b < 128) b bs (let it : nat_lt b 128 ≡ true =
+    and_left (nat_lt b 128) (list_all (λ b. nat_lt b 128) bs) e in grind (arith, nat_tests))
     (ascii bs (and_right (nat_lt b 128) (list_all (λ b. nat_lt b 128) bs) e))
 
 plain : (bs : List ℕ) → list_all (λ b. nat_lt b 128) bs ≡ true → IsUtf8 bs
@@ -77,7 +83,9 @@ plain bs e = IsUtf8-from_ascii bs (IsAscii-from_all bs (ascii bs e))
 ten : (day : List ℕ) → IsTrue (is_day day) → length day ≡ 10
 ten day is =
     let at : ℕ → ℕ = slice_index day in
-    numbers_equal (length day) 10 (and_left (length day == 10) (writes_day (at 0) (at 1) (at 2) (at 3) (at 4) (at 5) (at 6) (at 7) (at 8) (at 9)) is)
+    numbers_equal (length day) 10
+    (and_left (length day == 10) (writes_day (at 0) (at 1) (at 2) (at 3) (at 4) (at 5) (at 6) (at 7)
+    (at 8) (at 9)) is)
 
 digit : (b : ℕ) → is_ascii_digit b ≡ true → nat_lt b 128 ≡ true
 digit b e = grind (arith, nat_tests)
@@ -89,15 +97,24 @@ day_short (y ∷ e ∷ []) is = absurd (omega (arith, ten (y ∷ e ∷ []) is))
 day_short (y ∷ e ∷ a ∷ []) is = absurd (omega (arith, ten (y ∷ e ∷ a ∷ []) is))
 day_short (y ∷ e ∷ a ∷ r ∷ []) is = absurd (omega (arith, ten (y ∷ e ∷ a ∷ r ∷ []) is))
 day_short (y ∷ e ∷ a ∷ r ∷ f ∷ []) is = absurd (omega (arith, ten (y ∷ e ∷ a ∷ r ∷ f ∷ []) is))
-day_short (y ∷ e ∷ a ∷ r ∷ f ∷ m ∷ []) is = absurd (omega (arith, ten (y ∷ e ∷ a ∷ r ∷ f ∷ m ∷ []) is))
-day_short (y ∷ e ∷ a ∷ r ∷ f ∷ m ∷ n ∷ []) is = absurd (omega (arith, ten (y ∷ e ∷ a ∷ r ∷ f ∷ m ∷ n ∷ []) is))
-day_short (y ∷ e ∷ a ∷ r ∷ f ∷ m ∷ n ∷ s ∷ []) is = absurd (omega (arith, ten (y ∷ e ∷ a ∷ r ∷ f ∷ m ∷ n ∷ s ∷ []) is))
-day_short (y ∷ e ∷ a ∷ r ∷ f ∷ m ∷ n ∷ s ∷ d ∷ []) is = absurd (omega (arith, ten (y ∷ e ∷ a ∷ r ∷ f ∷ m ∷ n ∷ s ∷ d ∷ []) is))
-day_short (y ∷ e ∷ a ∷ r ∷ f ∷ m ∷ n ∷ s ∷ d ∷ c ∷ []) is = (plain (y ∷ e ∷ a ∷ r ∷ f ∷ m ∷ n ∷ s ∷ d ∷ c ∷ []) (below is), omega arith)
+day_short (y ∷ e ∷ a ∷ r ∷ f ∷ m
+    ∷ []) is = absurd (omega (arith, ten (y ∷ e ∷ a ∷ r ∷ f ∷ m ∷ []) is))
+day_short (y ∷ e ∷ a ∷ r ∷ f ∷ m ∷ n
+    ∷ []) is = absurd (omega (arith, ten (y ∷ e ∷ a ∷ r ∷ f ∷ m ∷ n ∷ []) is))
+day_short (y ∷ e ∷ a ∷ r ∷ f ∷ m ∷ n ∷ s
+    ∷ []) is = absurd (omega (arith, ten (y ∷ e ∷ a ∷ r ∷ f ∷ m ∷ n ∷ s ∷ []) is))
+day_short (y ∷ e ∷ a ∷ r ∷ f ∷ m ∷ n ∷ s ∷ d
+    ∷ []) is = absurd (omega (arith, ten (y ∷ e ∷ a ∷ r ∷ f ∷ m ∷ n ∷ s ∷ d ∷ []) is))
+day_short (y ∷ e ∷ a ∷ r ∷ f ∷ m ∷ n ∷ s ∷ d ∷ c ∷ []) is = (
+  plain (y ∷ e ∷ a ∷ r ∷ f ∷ m ∷ n ∷ s ∷ d ∷ c ∷ []) (below is),
+  omega arith,
+)
   where
-    below : IsTrue (is_day (y ∷ e ∷ a ∷ r ∷ f ∷ m ∷ n ∷ s ∷ d ∷ c ∷ [])) → list_all (λ b. nat_lt b 128) (y ∷ e ∷ a ∷ r ∷ f ∷ m ∷ n ∷ s ∷ d ∷ c ∷ []) ≡ true
+    below : IsTrue (is_day (y ∷ e ∷ a ∷ r ∷ f ∷ m ∷ n ∷ s ∷ d ∷ c ∷ []))
+        → list_all (λ b. nat_lt b 128) (y ∷ e ∷ a ∷ r ∷ f ∷ m ∷ n ∷ s ∷ d ∷ c ∷ []) ≡ true
     below is = grind (arith, nat_tests)
-day_short (y ∷ e ∷ a ∷ r ∷ f ∷ m ∷ n ∷ s ∷ d ∷ c ∷ x ∷ xs) is = absurd (omega (arith, ten (y ∷ e ∷ a ∷ r ∷ f ∷ m ∷ n ∷ s ∷ d ∷ c ∷ x ∷ xs) is))
+day_short (y ∷ e ∷ a ∷ r ∷ f ∷ m ∷ n ∷ s ∷ d ∷ c ∷ x
+    ∷ xs) is = absurd (omega (arith, ten (y ∷ e ∷ a ∷ r ∷ f ∷ m ∷ n ∷ s ∷ d ∷ c ∷ x ∷ xs) is))
 
 release_fits : (s : ReleaseState) → Fits (Text (release_state_name s))
 release_fits release.IsOpen = (omega arith, plain (codes "open") refl)
@@ -125,11 +142,13 @@ got P [] all x m = absurd m
 got P (y ∷ ys) all x (inl same) = subst P same all.0
 got P (y ∷ ys) all x (inr m) = got P ys all.1 x m
 
-rows_fit : {A : Type 0} (cells : A → Row) (xs : List A) → ((x : A) → IsIn x xs → FitsRow (cells x)) → AllByRecursion FitsRow (map cells xs)
+rows_fit : {A : Type 0} (cells : A → Row) (xs : List A) → ((x : A) → IsIn x xs → FitsRow (cells x))
+    → AllByRecursion FitsRow (map cells xs)
 rows_fit cells [] each = tt
 rows_fit cells (x ∷ xs) each = (each x (inl refl), rows_fit cells xs (λ y m. each y (inr m)))
 
-turned : {A : Type 0} (P Q : A → Type 0) (xs : List A) → ((x : A) → P x → Q x) → AllByRecursion P xs → AllByRecursion Q xs
+turned : {A : Type 0} (P Q : A → Type 0) (xs : List A) → ((x : A) → P x → Q x) → AllByRecursion P xs
+    → AllByRecursion Q xs
 turned P Q [] turn all = tt
 turned P Q (x ∷ xs) turn all = (turn x all.0, turned P Q xs turn all.1)
 
@@ -148,7 +167,11 @@ module _ (t : Tables) (short : HaveShortTexts t) (w : AreWithin t) where
   meta = (((omega arith, omega arith), tt), tt)
 
   catalogue : AllByRecursion FitsRow (map catalogue_cells t.catalogue)
-  catalogue = rows_fit catalogue_cells t.catalogue (λ row m. (revision row.revision (got _ _ w.catalogue row m), (text_fits row.body (got _ _ short.catalogue row m), tt)))
+  catalogue = rows_fit catalogue_cells t.catalogue
+      (λ row m. (
+        revision row.revision (got _ _ w.catalogue row m),
+        (text_fits row.body (got _ _ short.catalogue row m), tt),
+      ))
 
   rules : AllByRecursion FitsRow (map rule_cells t.rule)
   rules = rows_fit rule_cells t.rule (λ row m.
@@ -157,8 +180,10 @@ module _ (t : Tables) (short : HaveShortTexts t) (w : AreWithin t) where
 
   documents : AllByRecursion FitsRow (map document_cells t.document)
   documents = rows_fit document_cells t.document (λ row m.
-      let texts = got _ _ short.document row m in
-      (document row.number (got _ _ w.document row m), (text_fits row.namespace texts.0, ((texts.1, tt), tt))))
+      let texts = got _ _ short.document row m in (
+        document row.number (got _ _ w.document row m),
+        (text_fits row.namespace texts.0, ((texts.1, tt), tt)),
+      ))
 
   packages : AllByRecursion FitsRow (map package_cells t.packages)
   packages = rows_fit package_cells t.packages (λ row m.
@@ -175,25 +200,32 @@ module _ (t : Tables) (short : HaveShortTexts t) (w : AreWithin t) where
 
   extracted : AllByRecursion FitsRow (map extracted_cells t.extracted)
   extracted = rows_fit extracted_cells t.extracted (λ row m.
-      let texts = got _ _ short.extracted row m in
-      (document row.document (got _ _ w.extracted row m), (text_fits row.reference texts.0, (null_fits row.body texts.1, tt))))
+      let texts = got _ _ short.extracted row m in (
+        document row.document (got _ _ w.extracted row m),
+        (text_fits row.reference texts.0, (null_fits row.body texts.1, tt)),
+      ))
 
   conclusions : AllByRecursion FitsRow (map conclusion_cells t.conclusion)
   conclusions = rows_fit conclusion_cells t.conclusion (λ row m.
-      let texts = got _ _ short.conclusion row m in
-      (document row.document (got _ _ w.conclusion row m), (text_fits row.package_id texts.0, (text_fits row.expression texts.1.0, tt))))
+      let texts = got _ _ short.conclusion row m in (
+        document row.document (got _ _ w.conclusion row m),
+        (text_fits row.package_id texts.0, (text_fits row.expression texts.1.0, tt)),
+      ))
 
   adoptions : AllByRecursion FitsRow (map adoption_cells t.adoption)
   adoptions = rows_fit adoption_cells t.adoption (λ row m.
-      let texts = got _ _ short.adoption row m in
-      (document row.document (got _ _ w.adoption row m), (text_fits row.reference texts.0, (text_fits row.licence texts.1.0, tt))))
+      let texts = got _ _ short.adoption row m in (
+        document row.document (got _ _ w.adoption row m),
+        (text_fits row.reference texts.0, (text_fits row.licence texts.1.0, tt)),
+      ))
 
   releases : AllByRecursion FitsRow (map release_cells t.releases)
   releases = rows_fit release_cells t.releases (λ row m.
       let texts = got _ _ short.releases row m in (
         text_fits row.name texts.0,
         (
-          number_fits row.place (length t.releases) (got _ _ w.places row m) (omega (arith, w.releases)),
+          number_fits row.place (length t.releases) (got _ _ w.places row m)
+              (omega (arith, w.releases)),
           (
             text_fits row.form texts.1.0,
             (release_fits row.state, (revision row.revision (got _ _ w.frozen_by row m), tt)),
@@ -202,7 +234,11 @@ module _ (t : Tables) (short : HaveShortTexts t) (w : AreWithin t) where
       ))
 
   attached : AllByRecursion FitsRow (map attached_cells t.attached)
-  attached = rows_fit attached_cells t.attached (λ row m. (text_fits row.release (got _ _ short.attached row m), (document row.document (got _ _ w.attached row m), tt)))
+  attached = rows_fit attached_cells t.attached
+      (λ row m. (
+        text_fits row.release (got _ _ short.attached row m),
+        (document row.document (got _ _ w.attached row m), tt),
+      ))
 
   choices : AllByRecursion FitsRow (map choice_cells t.choice)
   choices = rows_fit choice_cells t.choice (λ row m.
@@ -228,7 +264,8 @@ module _ (t : Tables) (short : HaveShortTexts t) (w : AreWithin t) where
       ))
 
   number_of : (row : ChangeRow) → IsIn row t.changes → Fits (number row.duty)
-  number_of row m = number_fits row.duty (length t.duty) (got _ _ w.changes row m) (omega (arith, w.duties))
+  number_of row m = number_fits row.duty (length t.duty) (got _ _ w.changes row m)
+      (omega (arith, w.duties))
 
   step : (row : ChangeRow) → IsIn row t.changes → Fits (number row.step)
   step row m = number_fits row.step 1001 (omega (arith, got _ _ w.steps row m)) (omega arith)
@@ -238,7 +275,8 @@ module _ (t : Tables) (short : HaveShortTexts t) (w : AreWithin t) where
       (number_of row m, (step row m, (text_fits row.day (day_short row.day (got _ _ w.days row m)), (word_fits row.word, (text_fits row.body (got _ _ short.changes row m), tt))))))
 
   profiles : AllByRecursion FitsRow (map reading_cells t.document)
-  profiles = rows_fit reading_cells t.document (λ row m. (document row.number (got _ _ w.document row m), (profile_fits row.profile, tt)))
+  profiles = rows_fit reading_cells t.document
+      (λ row m. (document row.number (got _ _ w.document row m), (profile_fits row.profile, tt)))
 
   end_short : (end : Option (List ℕ)) → IfSome end (λ day. IsTrue (is_day day)) → IfSome end IsShort
   end_short None days = tt
@@ -246,29 +284,50 @@ module _ (t : Tables) (short : HaveShortTexts t) (w : AreWithin t) where
 
   waivers : AllByRecursion FitsRow (map waiver_cells (filter is_waiver t.changes))
   waivers = rows_fit waiver_cells (filter is_waiver t.changes) (λ row m.
-      let there = (from_filter is_waiver row t.changes m).0 in
-      (number_of row there, (step row there, (null_fits row.last_day (end_short row.last_day (got _ _ w.last_days row there)), tt))))
+      let there = (from_filter is_waiver row t.changes m).0 in (
+        number_of row there,
+        (
+          step row there,
+          (null_fits row.last_day (end_short row.last_day (got _ _ w.last_days row there)), tt),
+        ),
+      ))
 
   fit : (tree : ℕ) → AllByRecursion FitsRow (rows_of t tree)
   fit tree =
       let P = AllByRecursion FitsRow in
-      pick P (tree == 0) _ _ meta (pick P (tree == 1) _ _ catalogue (pick P (tree == 2) _ _ rules (pick P (tree == 4) _ _ documents (pick P (tree == 6) _ _ packages
-      (pick P (tree == 8) _ _ extracted (pick P (tree == 10) _ _ conclusions (pick P (tree == 12) _ _ adoptions (pick P (tree == 14) _ _ releases (pick P (tree == 17) _ _ attached
-      (pick P (tree == 19) _ _ choices (pick P (tree == 21) _ _ frozen (pick P (tree == 23) _ _ duties (pick P (tree == 25) _ _ changes (pick P (tree == 27) _ _ profiles waivers))))))))))))))
+      pick P (tree == 0) _ _ meta (pick P (tree == 1) _ _ catalogue
+      (pick P (tree == 2) _ _ rules
+      (pick P (tree == 4) _ _ documents (pick P (tree == 6) _ _ packages
+      (pick P (tree == 8) _ _ extracted
+      (pick P (tree == 10) _ _ conclusions
+      (pick P (tree == 12) _ _ adoptions
+      (pick P (tree == 14) _ _ releases (pick P (tree == 17) _ _ attached
+      (pick P (tree == 19) _ _ choices
+      (pick P (tree == 21) _ _ frozen
+      (pick P (tree == 23) _ _ duties
+      (pick P (tree == 25) _ _ changes (pick P (tree == 27) _ _ profiles waivers))))))))))))))
 
-  small_rows : (rows : List Row) → AllByRecursion FitsRow rows → AllByRecursion (AllByRecursion IsSmall) rows
-  small_rows rows = turned FitsRow (AllByRecursion IsSmall) rows (λ row. turned Fits IsSmall row (λ v fits. fits.0))
+  small_rows : (rows : List Row) → AllByRecursion FitsRow rows
+      → AllByRecursion (AllByRecursion IsSmall) rows
+  small_rows rows = turned FitsRow (AllByRecursion IsSmall) rows
+      (λ row. turned Fits IsSmall row (λ v fits. fits.0))
 
-  all_small : (tables : List Table) → AllByRecursion (λ (table : Table). AllByRecursion (AllByRecursion IsSmall) (rows_of t table.tree)) tables
+  all_small : (tables : List Table)
+      → AllByRecursion (λ (table : Table). AllByRecursion (AllByRecursion IsSmall)
+      (rows_of t table.tree)) tables
   all_small [] = tt
-  all_small (table ∷ tables) = (small_rows (rows_of t table.tree) (fit table.tree), all_small tables)
+  all_small (table ∷ tables) = (
+    small_rows (rows_of t table.tree) (fit table.tree),
+    all_small tables,
+  )
 
   pub stand : HaveOwnKeys t → CanStand (rows_of t)
   stand own = record { small = all_small desk_schema.tables; keys = have_keys t own }
 
   pub written : AreWritten t
   written = record {
-    cells = λ tree. turned FitsRow IsRow (rows_of t tree) (λ row. turned Fits IsWritten row (λ v fits. fits.1)) (fit tree);
+    cells = λ tree. turned FitsRow IsRow (rows_of t tree)
+        (λ row. turned Fits IsWritten row (λ v fits. fits.1)) (fit tree);
     days = w.days;
     last_days = w.last_days;
   }

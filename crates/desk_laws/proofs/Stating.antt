@@ -7,7 +7,8 @@ use Rattle.std.proofs.lemmas.Str.{IsUtf8-from_is_utf8, is_utf8-from_IsUtf8}
 use Rattle.desk_fields.specs.Text.{trim_end, trimmed}
 use Rattle.desk_fields.proofs.Closing.{Closing, open_text, closed, closing}
 use Rattle.desk_tree_annotations.specs.Runs.{RunText}
-use Rattle.desk_tree_annotations.specs.Tags.{IsClose, IsBare, Tells, Counts, seen_after, TagText, onto, Gives, IsInfo, notice_tag, licence_tag}
+use Rattle.desk_tree_annotations.specs.Tags.{IsClose, IsBare, Tells, Counts, seen_after, TagText}
+use Rattle.desk_tree_annotations.specs.Tags.{onto, Gives, IsInfo, notice_tag, licence_tag}
 use Rattle.desk_tree_annotations.proofs.EachRun.{shown_within}
 use Rattle.desk_tree_gather.specs.Readers.{Stated}
 
@@ -29,7 +30,8 @@ same_or_not (c ∷ a) (d ∷ b) =
 abbrev Ended : List ℕ → List ℕ → Type 0
 Ended p t = ((f : List ℕ) × (t ≡ f ++ p)) ⊎ ((f : List ℕ) → t ≡ f ++ p → ⊥)
 
-no_end : (p : List ℕ) (c : ℕ) (t : List ℕ) → (c ∷ t ≢ p) → ((f : List ℕ) → t ≡ f ++ p → ⊥) → (f : List ℕ) → c ∷ t ≡ f ++ p → ⊥
+no_end : (p : List ℕ) (c : ℕ) (t : List ℕ) → (c ∷ t ≢ p) → ((f : List ℕ) → t ≡ f ++ p → ⊥)
+    → (f : List ℕ) → c ∷ t ≡ f ++ p → ⊥
 no_end p c t here later [] e = here e
 no_end p c t here later (d ∷ f) e = let tail : t ≡ f ++ p = cc in later f tail
 
@@ -59,14 +61,17 @@ Bared t = (value : List ℕ) × IsBare t value
 closed_by : (t close front : List ℕ) → IsClose close → t ≡ front ++ close → Bared t
 closed_by t close front is cut = (trim_end front, inl (front, close, is, cut, refl))
 
-no_close : (t : List ℕ) → ((f : List ℕ) → t ≡ f ++ codes "*/" → ⊥) → ((f : List ℕ) → t ≡ f ++ codes "-->" → ⊥) → ((f : List ℕ) → t ≡ f ++ codes "*)" → ⊥) → ((f : List ℕ) → t ≡ f ++ codes "-}" → ⊥)
+no_close : (t : List ℕ) → ((f : List ℕ) → t ≡ f ++ codes "*/" → ⊥)
+    → ((f : List ℕ) → t ≡ f ++ codes "-->" → ⊥) → ((f : List ℕ) → t ≡ f ++ codes "*)" → ⊥)
+    → ((f : List ℕ) → t ≡ f ++ codes "-}" → ⊥)
     → (front close : List ℕ) → IsClose close → t ≡ front ++ close → ⊥
 no_close t a b c d front close (inl is) cut = a front (cut ∙ ap (λ x. front ++ x) is)
 no_close t a b c d front close (inr (inl is)) cut = b front (cut ∙ ap (λ x. front ++ x) is)
 no_close t a b c d front close (inr (inr (inl is))) cut = c front (cut ∙ ap (λ x. front ++ x) is)
 no_close t a b c d front close (inr (inr (inr is))) cut = d front (cut ∙ ap (λ x. front ++ x) is)
 
-bared_by : (t : List ℕ) → Ended (codes "*/") t → Ended (codes "-->") t → Ended (codes "*)") t → Ended (codes "-}") t → Bared t
+bared_by : (t : List ℕ) → Ended (codes "*/") t → Ended (codes "-->") t → Ended (codes "*)") t
+    → Ended (codes "-}") t → Bared t
 bared_by t (inl f) b c d = closed_by t (codes "*/") f.0 (inl refl) f.1
 bared_by t (inr x) (inl f) c d = closed_by t (codes "-->") f.0 (inr (inl refl)) f.1
 bared_by t (inr x) (inr y) (inl f) d = closed_by t (codes "*)") f.0 (inr (inr (inl refl))) f.1
@@ -74,7 +79,8 @@ bared_by t (inr x) (inr y) (inr z) (inl f) = closed_by t (codes "-}") f.0 (inr (
 bared_by t (inr x) (inr y) (inr z) (inr w) = (t, inr (no_close t x y z w, refl))
 
 bared : (t : List ℕ) → Bared t
-bared t = bared_by t (ended (codes "*/") t) (ended (codes "-->") t) (ended (codes "*)") t) (ended (codes "-}") t)
+bared t = bared_by t (ended (codes "*/") t) (ended (codes "-->") t) (ended (codes "*)") t)
+    (ended (codes "-}") t)
 
 abbrev Told : List ℕ → Type 0
 Told after = (o : Option (List ℕ)) × Tells after o
@@ -84,7 +90,15 @@ told_by after [] is = (None, ([], is, λ some. absurd (omega arith)))
 told_by after (b ∷ bs) is =
     elim (cases_Bool (is_utf8 (b ∷ bs))) [
       | inl text ↦ (Some (b ∷ bs), (is, omega arith, IsUtf8-from_is_utf8 (b ∷ bs) text))
-      | inr other ↦ (None, (b ∷ bs, is, λ some utf8. let text = is_utf8-from_IsUtf8 (b ∷ bs) utf8 in absurd cc))
+      | inr other ↦ (
+        None,
+        (
+          b ∷ bs,
+          is,
+          λ some utf8. let text = is_utf8-from_IsUtf8 (b ∷ bs) utf8 in
+              absurd cc,
+        ),
+      )
     ]
 
 told : (after : List ℕ) → Told after

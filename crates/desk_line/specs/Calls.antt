@@ -1,5 +1,7 @@
 -- The call that the words of a command line hold.
-use Rattle.std.specs.Prelude.{ℕ, ◌≡◌, ◌≢◌, ◌-◌, Bool, true, false, [], ◌∷◌, List, codes, if◌then◌else◌, Option, None, Some, option_map, option_and_then, is_some, ◌||◌}
+use Rattle.std.specs.Prelude.{ℕ, ◌≡◌, ◌≢◌, ◌-◌, Bool, true, false, [], ◌∷◌, List, codes}
+use Rattle.std.specs.Prelude.{if◌then◌else◌, Option, None, Some, option_map, option_and_then}
+use Rattle.std.specs.Prelude.{is_some, ◌||◌}
 use Rattle.std.specs.Str.{bytes_eq}
 use Rattle.clap.specs.Words.{IsAmong, Kinds, Row, Text, all_of, fault_of, first_of, kind_of, one_of, subcommand_of}
 use Rattle.clap.specs.Kinds.{or_else}
@@ -13,8 +15,11 @@ use Rattle.desk_line.specs.Fields.{if_stands}
 use Rattle.desk_line.specs.Numbers.{number_written}
 use Rattle.desk_line.specs.Words.{desk_app}
 use Rattle.desk_line.specs.declared.call.Call.{Call}
-use Rattle.desk_line.specs.declared.call.Call.TheVariants.{Check, Alternatives, Script, File, Gather, Lint, Convert, Explain, Propose}
-use Rattle.desk_line.specs.declared.call.FileCall.TheVariants.{Import, Catalogue, Notices, Duties, Totals, Changes, Page, Wanting, Choices, Audit, Migrate, Serve}
+use Rattle.desk_line.specs.declared.call.Call.TheVariants.{Check, Alternatives, Script, File}
+use Rattle.desk_line.specs.declared.call.Call.TheVariants.{Gather, Lint, Convert, Explain, Propose}
+use Rattle.desk_line.specs.declared.call.FileCall.TheVariants.{Import, Catalogue, Notices, Duties}
+use Rattle.desk_line.specs.declared.call.FileCall.TheVariants.{Totals, Changes, Page, Wanting}
+use Rattle.desk_line.specs.declared.call.FileCall.TheVariants.{Choices, Audit, Migrate, Serve}
 use Rattle.desk_line.specs.declared.call.FileCall.TheVariants as file
 use Rattle.desk_line.specs.declared.call.Listed.{Listed}
 use Rattle.desk_line.specs.declared.call.Listed.TheVariants as listed
@@ -35,12 +40,15 @@ profile_in rows = option_and_then profile_written (first_of (codes "PROFILE") ro
 
 -- the call of `check` with these values
 abbrev pub check_in : List Row → Option Call
-check_in rows = option_and_then (λ expression. option_and_then (λ terms. option_map (λ profile. Check expression profile terms)
+check_in rows = option_and_then
+    (λ expression. option_and_then (λ terms. option_map (λ profile. Check expression profile terms)
     (profile_in rows)) (all_of (codes "TERM") rows)) (first_of (codes "EXPR") rows)
 
 -- the call of `alternatives` with these values
 abbrev pub alternatives_in : List Row → Option Call
-alternatives_in rows = option_and_then (λ expression. option_map (λ profile. Alternatives expression profile) (profile_in rows)) (first_of (codes "EXPR") rows)
+alternatives_in rows = option_and_then
+    (λ expression. option_map (λ profile. Alternatives expression profile) (profile_in rows))
+    (first_of (codes "EXPR") rows)
 
 -- whether a flag is used; `clap` writes this as a value
 abbrev pub is_true : Option Text → Bool
@@ -49,16 +57,21 @@ is_true (Some value) = bytes_eq value (codes "true")
 
 -- the call of `script` with these values
 abbrev pub script_in : List Row → Call
-script_in rows = Script (first_of (codes "FILE") rows) (is_true (first_of (codes "EXPLAIN") rows)) (is_true (first_of (codes "STOP") rows))
+script_in rows = Script (first_of (codes "FILE") rows) (is_true (first_of (codes "EXPLAIN") rows))
+    (is_true (first_of (codes "STOP") rows))
 
 -- the call of `import` with these values
 abbrev pub import_in : List Row → Option Call
-import_in rows = option_and_then (λ database. option_and_then (λ document. option_map (λ profile. File database (Import document profile))
+import_in rows = option_and_then
+    (λ database. option_and_then (λ document. option_map
+    (λ profile. File database (Import document profile))
     (profile_in rows)) (first_of (codes "DOC") rows)) (first_of (codes "FILE") rows)
 
 -- the call of `catalogue` with these values
 abbrev pub catalogue_in : List Row → Option Call
-catalogue_in rows = option_and_then (λ database. option_map (λ catalogue. File database (Catalogue catalogue)) (first_of (codes "TOML") rows)) (first_of (codes "FILE") rows)
+catalogue_in rows = option_and_then
+    (λ database. option_map (λ catalogue. File database (Catalogue catalogue))
+    (first_of (codes "TOML") rows)) (first_of (codes "FILE") rows)
 
 -- a value that can be written in a field
 abbrev pub field_in : Text → List Row → Option Text
@@ -66,12 +79,16 @@ field_in id rows = option_and_then if_stands (first_of id rows)
 
 -- the call of `gather` with these values
 abbrev pub gather_in : List Row → Option Call
-gather_in rows = option_and_then (λ folder. option_and_then (λ name. option_and_then (λ namespace. option_map (λ created. Gather folder name namespace created)
-    (field_in (codes "CREATED") rows)) (field_in (codes "NAMESPACE") rows)) (field_in (codes "NAME") rows)) (first_of (codes "DIR") rows)
+gather_in rows = option_and_then
+    (λ folder. option_and_then (λ name. option_and_then
+    (λ namespace. option_map (λ created. Gather folder name namespace created)
+    (field_in (codes "CREATED") rows)) (field_in (codes "NAMESPACE") rows))
+    (field_in (codes "NAME") rows)) (first_of (codes "DIR") rows)
 
 -- the call of `lint` with these values
 abbrev pub lint_in : List Row → Option Call
-lint_in rows = option_map (λ folder. Lint folder (is_true (first_of (codes "JSON") rows))) (first_of (codes "DIR") rows)
+lint_in rows = option_map (λ folder. Lint folder (is_true (first_of (codes "JSON") rows)))
+    (first_of (codes "DIR") rows)
 
 -- the number that a value is, as `clap` reads it, if it has at most this many bits
 abbrev pub number_in : ℕ → Text → List Row → Option ℕ
@@ -79,17 +96,22 @@ number_in bits id rows = option_and_then (number_written bits) (one_of id rows)
 
 -- the call of `serve` with these values
 abbrev pub serve_in : List Row → Option Call
-serve_in rows = option_and_then (λ database. option_and_then (λ port. option_map (λ limit. File database (Serve port limit))
-    (number_in 32 (codes "N") rows)) (number_in 16 (codes "PORT") rows)) (first_of (codes "FILE") rows)
+serve_in rows = option_and_then
+    (λ database. option_and_then (λ port. option_map (λ limit. File database (Serve port limit))
+    (number_in 32 (codes "N") rows)) (number_in 16 (codes "PORT") rows))
+    (first_of (codes "FILE") rows)
 
 -- the file that keeps the desk, and the release
 abbrev pub release_in : List Row → Option Release
-release_in rows = option_and_then (λ database. option_map (λ release. let found : Release = record { database = database; release = release } in found)
+release_in rows = option_and_then
+    (λ database. option_map (λ release. let found : Release =
+    record { database = database; release = release } in found)
     (first_of (codes "RELEASE") rows)) (first_of (codes "FILE") rows)
 
 -- the calls of the subcommands that write a text about a release
 abbrev pub notices_in : List Row → Option Call
-notices_in rows = option_map (λ found. File found.database (Notices found.release)) (release_in rows)
+notices_in rows = option_map (λ found. File found.database (Notices found.release))
+    (release_in rows)
 
 abbrev pub duties_in : List Row → Option Call
 duties_in rows = option_map (λ found. File found.database (Duties found.release)) (release_in rows)
@@ -121,18 +143,22 @@ profile_if_given (Some value) = profile_written value
 
 -- the proposals for a document in a file of its own
 abbrev pub filed_proposals_in : List Row → Option Call
-filed_proposals_in rows = option_and_then (λ document. option_and_then (λ number. option_map (λ profile. Propose document number profile)
-    (profile_if_given (first_of (codes "PROFILE") rows))) (number_in 32 (codes "N") rows)) (first_of (codes "DOC") rows)
+filed_proposals_in rows = option_and_then
+    (λ document. option_and_then (λ number. option_map (λ profile. Propose document number profile)
+    (profile_if_given (first_of (codes "PROFILE") rows))) (number_in 32 (codes "N") rows))
+    (first_of (codes "DOC") rows)
 
 -- a number or a profile is given; only a document in a file of its own needs them
 abbrev pub has_reading : List Row → Bool
-has_reading rows = is_some (number_in 32 (codes "N") rows) || is_some (first_of (codes "PROFILE") rows)
+has_reading rows = is_some (number_in 32 (codes "N") rows)
+    || is_some (first_of (codes "PROFILE") rows)
 
 -- the proposals for a document that a desk holds: the word is its number
 abbrev pub held_proposals_in : Text → List Row → Option Call
 held_proposals_in database rows =
     if has_reading rows then None
-    else option_map (λ document. File database (file.Proposals document)) (option_and_then (number_written 32) (first_of (codes "DOC") rows))
+    else option_map (λ document. File database (file.Proposals document))
+    (option_and_then (number_written 32) (first_of (codes "DOC") rows))
 
 abbrev pub proposals_by : Option Text → List Row → Option Call
 proposals_by None rows = filed_proposals_in rows
@@ -144,10 +170,12 @@ propose_in rows = proposals_by (first_of (codes "FILE") rows) rows
 
 -- the calls of the subcommands that prepare a freeze
 abbrev pub choices_in : List Row → Option Call
-choices_in rows = option_map (λ found. File found.database (Choices found.release)) (release_in rows)
+choices_in rows = option_map (λ found. File found.database (Choices found.release))
+    (release_in rows)
 
 abbrev pub wanting_in : List Row → Option Call
-wanting_in rows = option_map (λ found. File found.database (Wanting found.release)) (release_in rows)
+wanting_in rows = option_map (λ found. File found.database (Wanting found.release))
+    (release_in rows)
 
 -- which duties are listed
 abbrev pub filter_in : List Row → Filter
@@ -159,7 +187,8 @@ filter_in rows = record {
 }
 
 abbrev pub has_filter : Filter → Bool
-has_filter filter = is_some filter.release || (is_some filter.code || (filter.is_open || is_some filter.past))
+has_filter filter = is_some filter.release
+    || (is_some filter.code || (filter.is_open || is_some filter.past))
 
 -- a day, if anything is given
 abbrev pub is_day_if_given : Option Text → Bool
@@ -169,7 +198,8 @@ is_day_if_given (Some value) = is_day value
 -- what a word says is to be listed; filters are for duties alone
 abbrev pub listed_as : Text → Filter → Option Listed
 listed_as what filter =
-    if bytes_eq what (codes "duties") then Some (listed.Duties filter.release filter.code filter.is_open filter.past)
+    if bytes_eq what (codes "duties")
+    then Some (listed.Duties filter.release filter.code filter.is_open filter.past)
     else if has_filter filter then None
     else if bytes_eq what (codes "releases") then Some listed.Releases
     else if bytes_eq what (codes "documents") then Some listed.Documents
@@ -177,12 +207,15 @@ listed_as what filter =
 
 abbrev pub listed_in : List Row → Option Listed
 listed_in rows =
-    if is_day_if_given (first_of (codes "DAY") rows) then option_and_then (λ what. listed_as what (filter_in rows)) (first_of (codes "WHAT") rows)
+    if is_day_if_given (first_of (codes "DAY") rows)
+    then option_and_then (λ what. listed_as what (filter_in rows)) (first_of (codes "WHAT") rows)
     else None
 
 -- the call of `list` with these values
 abbrev pub list_in : List Row → Option Call
-list_in rows = option_and_then (λ list. option_map (λ database. File database (file.List list)) (first_of (codes "FILE") rows)) (listed_in rows)
+list_in rows = option_and_then
+    (λ list. option_map (λ database. File database (file.List list)) (first_of (codes "FILE") rows))
+    (listed_in rows)
 
 -- the call of `page` with these values
 abbrev pub page_in : List Row → Option Call
@@ -258,8 +291,8 @@ unless (kind ∷ more) call = None
 abbrev pub call_of : List Text → Option Call
 call_of words = unless (fault_of desk_app words) (call_at (subcommand_of desk_app words))
 
--- why a subcommand with its values, which `clap` accepted, is no call: there is none, or one of its values
--- isn't allowed
+-- why a subcommand with its values, which `clap` accepted, is no call: there is none, or one of its
+-- values isn't allowed
 abbrev pub lacking : Option (Text × List Row) → Kinds
 lacking None = MissingSubcommand ∷ []
 lacking (Some met) = InvalidValue ∷ []
@@ -268,7 +301,8 @@ lacking (Some met) = InvalidValue ∷ []
 abbrev pub usage_of : List Text → Kinds
 usage_of words = or_else (fault_of desk_app words) (lacking (subcommand_of desk_app words))
 
--- the words hold no call, and the error is of a kind that `clap` gives for them; or no memory was left
+-- the words hold no call, and the error is of a kind that `clap` gives for them; or no memory was
+-- left
 abbrev pub IsFault : List Text → LineFault → Type 0
 IsFault words (Usage error) = (call_of words ≡ None) × IsAmong (kind_of error) (usage_of words)
 IsFault words (Memory error) = Unit {0}
@@ -283,7 +317,8 @@ abbrev pub IsLack : Kinds → LineFault → Type 0
 IsLack kinds (Usage error) = IsAmong (kind_of error) kinds
 IsLack kinds (Memory error) = Unit {0}
 
--- the subcommand that was found is no call, and the error is of a kind that says why; or no memory was left
+-- the subcommand that was found is no call, and the error is of a kind that says why; or no memory
+-- was left
 abbrev pub IsLackOf : Option (Text × List Row) → LineFault → Type 0
 IsLackOf met (Usage error) = (call_at met ≡ None) × IsAmong (kind_of error) (lacking met)
 IsLackOf met (Memory error) = Unit {0}

@@ -13,7 +13,8 @@ is_numeral digits = nat_lt 0 (length digits) && list_all is_digit digits
 
 -- the number that digits are, if it has at most this many bits
 abbrev pub number_of : ℕ → List ℕ → Option ℕ
-number_of bits digits = if is_numeral digits && nat_lt (digits_value 10 digits) (2 ^ bits) then Some (digits_value 10 digits) else None
+number_of bits digits = if is_numeral digits && nat_lt (digits_value 10 digits) (2 ^ bits)
+    then Some (digits_value 10 digits) else None
 
 -- a plus may come before the digits
 abbrev pub number_written : ℕ → List ℕ → Option ℕ

@@ -5,7 +5,9 @@ use Rattle.clap.specs.Words.{App, Rule, Shape, Text, new_app, with_rule, with_su
 use Rattle.desk_line.specs.Words.{count, flag, number_option, option, optional, optional_number, wanted, word, words}
 use Rattle.desk_line.specs.declared.arguments.Argument.{Argument}
 use Rattle.desk_line.specs.declared.arguments.Form.{Form}
-use Rattle.desk_line.specs.declared.arguments.Form.TheVariants.{Word, Words, Preset, Wanted, Optional, Flag, Count, Number, OptionalNumber}
+use Rattle.desk_line.specs.declared.arguments.Form.TheVariants.{Word, Words, Preset, Wanted}
+use Rattle.desk_line.specs.declared.arguments.Form.TheVariants.{Optional, Flag, Count, Number}
+use Rattle.desk_line.specs.declared.arguments.Form.TheVariants.{OptionalNumber}
 use Rattle.desk_line.specs.declared.subcommands.Kind.{Kind}
 use Rattle.desk_line.specs.declared.subcommands.Subcommand.{Subcommand}
 
@@ -45,4 +47,5 @@ with_subcommands app (shape ∷ more) = with_subcommands (with_subcommand app sh
 -- which of the rows has a name
 abbrev pub kind_named : Text → List Subcommand → Option Kind
 kind_named name [] = None
-kind_named name (row ∷ more) = if bytes_eq name row.name.now then Some row.kind else kind_named name more
+kind_named name (row ∷ more) = if bytes_eq name row.name.now then Some row.kind
+    else kind_named name more

@@ -12,7 +12,9 @@ word name = record (new_rule name) { required = true }
 
 -- one word or more
 abbrev pub words : Text → Rule
-words name = record (word name) { range = Some (record { start_inclusive = 1; end_inclusive = usize_max }) }
+words name = record (word name) {
+  range = Some (record { start_inclusive = 1; end_inclusive = usize_max });
+}
 
 -- `--LONG NAME`, which has this value if it isn't used
 abbrev pub option : Text → Text → Text → Rule
@@ -24,11 +26,13 @@ profile_option = option (codes "PROFILE") (codes "profile") (codes "1")
 
 -- `check [--profile PROFILE] EXPR TERM..`
 abbrev pub check_app : App
-check_app = with_rule (with_rule (with_rule (new_app (codes "check")) profile_option) (word (codes "EXPR"))) (words (codes "TERM"))
+check_app = with_rule (with_rule (with_rule (new_app (codes "check")) profile_option)
+    (word (codes "EXPR"))) (words (codes "TERM"))
 
 -- `alternatives [--profile PROFILE] EXPR`
 abbrev pub alternatives_app : App
-alternatives_app = with_rule (with_rule (new_app (codes "alternatives")) profile_option) (word (codes "EXPR"))
+alternatives_app = with_rule (with_rule (new_app (codes "alternatives")) profile_option)
+    (word (codes "EXPR"))
 
 -- `--LONG NAME`, optional
 abbrev pub optional : Text → Text → Rule
@@ -43,7 +47,8 @@ abbrev pub kept_script_app : App
 kept_script_app = with_rule (new_app (codes "script")) (optional (codes "FILE") (codes "db"))
 
 abbrev pub script_app : App
-script_app = with_rule (with_rule kept_script_app (flag (codes "EXPLAIN") (codes "explain"))) (flag (codes "STOP") (codes "stop"))
+script_app = with_rule (with_rule kept_script_app (flag (codes "EXPLAIN") (codes "explain")))
+    (flag (codes "STOP") (codes "stop"))
 
 -- `--LONG NAME`, required
 abbrev pub wanted : Text → Text → Rule
@@ -55,30 +60,39 @@ database_option = wanted (codes "FILE") (codes "db")
 
 -- `import --db FILE [--profile PROFILE] DOC`
 abbrev pub import_app : App
-import_app = with_rule (with_rule (with_rule (new_app (codes "import")) database_option) profile_option) (word (codes "DOC"))
+import_app = with_rule (with_rule (with_rule (new_app (codes "import")) database_option)
+    profile_option) (word (codes "DOC"))
 
 -- `catalogue --db FILE TOML`
 abbrev pub catalogue_app : App
-catalogue_app = with_rule (with_rule (new_app (codes "catalogue")) database_option) (word (codes "TOML"))
+catalogue_app = with_rule (with_rule (new_app (codes "catalogue")) database_option)
+    (word (codes "TOML"))
 
 -- `gather DIR --name NAME --namespace NAMESPACE --created CREATED`
 abbrev pub named_tree_app : App
-named_tree_app = with_rule (with_rule (new_app (codes "gather")) (word (codes "DIR"))) (wanted (codes "NAME") (codes "name"))
+named_tree_app = with_rule (with_rule (new_app (codes "gather")) (word (codes "DIR")))
+    (wanted (codes "NAME") (codes "name"))
 
 abbrev pub gather_app : App
-gather_app = with_rule (with_rule named_tree_app (wanted (codes "NAMESPACE") (codes "namespace"))) (wanted (codes "CREATED") (codes "created"))
+gather_app = with_rule (with_rule named_tree_app (wanted (codes "NAMESPACE") (codes "namespace")))
+    (wanted (codes "CREATED") (codes "created"))
 
 -- `lint DIR [--json]`
 abbrev pub lint_app : App
-lint_app = with_rule (with_rule (new_app (codes "lint")) (word (codes "DIR"))) (flag (codes "JSON") (codes "json"))
+lint_app = with_rule (with_rule (new_app (codes "lint")) (word (codes "DIR")))
+    (flag (codes "JSON") (codes "json"))
 
 -- `--LONG NAME`, a whole number from 0 to this one, required
 abbrev pub number_option : Text → Text → ℕ → Rule
-number_option name long most = record (wanted name long) { parser = Some (Signed (pos 0) (pos most)) }
+number_option name long most = record (wanted name long) {
+  parser = Some (Signed (pos 0) (pos most));
+}
 
 -- the same, but optional
 abbrev pub optional_number : Text → Text → ℕ → Rule
-optional_number name long most = record (optional name long) { parser = Some (Signed (pos 0) (pos most)) }
+optional_number name long most = record (optional name long) {
+  parser = Some (Signed (pos 0) (pos most));
+}
 
 -- a whole number from 0 to this one, required at its position
 abbrev pub count : Text → ℕ → Rule
@@ -90,17 +104,23 @@ release_app name = with_rule (with_rule (new_app name) database_option) (word (c
 
 -- `changes --db FILE DUTY`, limited to the numbers that a duty may have
 abbrev pub changes_app : App
-changes_app = with_rule (with_rule (new_app (codes "changes")) database_option) (count (codes "DUTY") 4294967295)
+changes_app = with_rule (with_rule (new_app (codes "changes")) database_option)
+    (count (codes "DUTY") 4294967295)
 
--- `serve --db FILE --port PORT --limit N`, limited to the numbers that a port may have, and to a million
--- connections
+-- `serve --db FILE --port PORT --limit N`, limited to the numbers that a port may have, and to a
+-- million connections
 abbrev pub serve_app : App
 serve_app = with_rule (with_rule (with_rule (new_app (codes "serve")) database_option)
-    (number_option (codes "PORT") (codes "port") 65535)) (number_option (codes "N") (codes "limit") 1000000)
+    (number_option (codes "PORT") (codes "port") 65535))
+    (number_option (codes "N") (codes "limit") 1000000)
 
 -- `desk`, which has a version, requires a subcommand, and shows its help if there are no words
 abbrev pub desk_alone : App
-desk_alone = on_top (λ s. record s { has_version = true; subcommand_required = true; arg_required_else_help = true })
+desk_alone = on_top (λ s. record s {
+  has_version = true;
+  subcommand_required = true;
+  arg_required_else_help = true;
+})
     (new_app (codes "desk"))
 
 -- with the subcommands that judge an expression
@@ -109,14 +129,17 @@ judging_app = with_subcommand (with_subcommand desk_alone check_app.top) alterna
 
 -- and with those that make requests of a desk
 abbrev pub requesting_app : App
-requesting_app = with_subcommand (with_subcommand (with_subcommand judging_app script_app.top) import_app.top) catalogue_app.top
+requesting_app = with_subcommand
+    (with_subcommand (with_subcommand judging_app script_app.top) import_app.top) catalogue_app.top
 
 -- and with those that write texts
 abbrev pub counting_app : App
-counting_app = with_subcommand (with_subcommand requesting_app (release_app (codes "notices")).top) (release_app (codes "duties")).top
+counting_app = with_subcommand (with_subcommand requesting_app (release_app (codes "notices")).top)
+    (release_app (codes "duties")).top
 
 abbrev pub reporting_app : App
-reporting_app = with_subcommand (with_subcommand counting_app (release_app (codes "totals")).top) changes_app.top
+reporting_app = with_subcommand (with_subcommand counting_app (release_app (codes "totals")).top)
+    changes_app.top
 
 -- `audit --db FILE`
 abbrev pub audit_app : App
@@ -146,13 +169,14 @@ explain_app = with_rule (new_app (codes "explain")) (word (codes "NAME"))
 abbrev pub explaining_app : App
 explaining_app = with_subcommand serving_app explain_app.top
 
--- `propose [--db FILE] [--profile PROFILE] [--document N] DOC`, limited to the numbers that a document may
--- have
+-- `propose [--db FILE] [--profile PROFILE] [--document N] DOC`, limited to the numbers that a
+-- document may have
 abbrev pub kept_proposals_app : App
 kept_proposals_app = with_rule (new_app (codes "propose")) (optional (codes "FILE") (codes "db"))
 
 abbrev pub propose_app : App
-propose_app = with_rule (with_rule (with_rule kept_proposals_app (optional (codes "PROFILE") (codes "profile")))
+propose_app = with_rule (with_rule
+    (with_rule kept_proposals_app (optional (codes "PROFILE") (codes "profile")))
     (optional_number (codes "N") (codes "document") 4294967295)) (word (codes "DOC"))
 
 -- and with the one that proposes conclusions
@@ -161,7 +185,8 @@ proposing_app = with_subcommand explaining_app propose_app.top
 
 -- and with those that prepare a freeze
 abbrev pub freezing_app : App
-freezing_app = with_subcommand (with_subcommand proposing_app (release_app (codes "choices")).top) (release_app (codes "wanting")).top
+freezing_app = with_subcommand (with_subcommand proposing_app (release_app (codes "choices")).top)
+    (release_app (codes "wanting")).top
 
 -- `list --db FILE [--release RELEASE] [--code CODE] [--open] [--past DAY] WHAT`
 abbrev pub filtered_app : App
@@ -174,7 +199,8 @@ list_app = with_rule (with_rule (with_rule filtered_app (flag (codes "OPEN") (co
 
 -- and with those that show what a desk holds
 abbrev pub showing_app : App
-showing_app = with_subcommand (with_subcommand freezing_app list_app.top) (release_app (codes "page")).top
+showing_app = with_subcommand (with_subcommand freezing_app list_app.top)
+    (release_app (codes "page")).top
 
 -- `convert JSON`
 abbrev pub convert_app : App

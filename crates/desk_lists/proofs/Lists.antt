@@ -1,5 +1,7 @@
 -- A list made from another, one item at a time.
-use Rattle.std.proofs.Common.{◌≡◌, ℕ, ◌+◌, ◌<◌, ◌≤◌, Bool, true, false, cond, List, [], ◌∷◌, ◌++◌, length, get_or, drop, take, take_all, map, refl, sym, ap, ap₂, subst, ◌∙◌, append-nil, append_assoc}
+use Rattle.std.proofs.Common.{◌≡◌, ℕ, ◌+◌, ◌<◌, ◌≤◌, Bool, true, false, cond, List, [], ◌∷◌, ◌++◌}
+use Rattle.std.proofs.Common.{length, get_or, drop, take, take_all, map, refl, sym, ap, ap₂, subst}
+use Rattle.std.proofs.Common.{◌∙◌, append-nil, append_assoc}
 use Rattle.std.specs.Prelude.{filter, find, reverse, Option, Some, None}
 use Rattle.std.specs.List.{AllZip, flat_map}
 use Rattle.std.proofs.lemmas.List.{drop_more, flat_map_more, map_more, map-append, reverse-append, take_more}
@@ -8,63 +10,85 @@ use Rattle.std.proofs.lemmas.List.Folds.{find-append}
 use Rattle.std.specs.Option.{option_or}
 
 -- one more is made
-pub made_more : {X Y : Type 0} (f : X → Y) (xs : List X) (i : ℕ) (x : X) (before after : List Y) (y : Y) → i < length xs
-    → x ≡ get_or xs i x → before ≡ map f (take i xs) → y ≡ f x → after ≡ before ++ y ∷ [] → after ≡ map f (take (i + 1) xs)
+pub made_more : {X Y : Type 0} (f : X → Y) (xs : List X) (i : ℕ) (x : X) (before after : List Y)
+    (y : Y) → i < length xs
+    → x ≡ get_or xs i x → before ≡ map f (take i xs) → y ≡ f x → after ≡ before ++ y ∷ []
+    → after ≡ map f (take (i + 1) xs)
 made_more f xs i x before after y inside at so_far made pushed =
     pushed ∙ ap₂ (λ ys z. ys ++ z ∷ []) so_far (made ∙ ap f at) ∙ sym (map_more f xs i x inside)
 
 -- one more is kept, and it shows the next item
-pub shown_more : {X Y : Type 0} (shown : Y → X) (xs : List X) (i : ℕ) (x : X) (before after : List Y) (y : Y) → i < length xs
-    → x ≡ get_or xs i x → map shown before ≡ take i xs → shown y ≡ x → after ≡ before ++ y ∷ [] → map shown after ≡ take (i + 1) xs
+pub shown_more : {X Y : Type 0} (shown : Y → X) (xs : List X) (i : ℕ) (x : X)
+    (before after : List Y) (y : Y) → i < length xs
+    → x ≡ get_or xs i x → map shown before ≡ take i xs → shown y ≡ x → after ≡ before ++ y ∷ []
+    → map shown after ≡ take (i + 1) xs
 shown_more shown xs i x before after y inside at so_far is pushed =
-    ap (map shown) pushed ∙ map-append shown before (y ∷ []) ∙ ap₂ (λ zs z. zs ++ z ∷ []) so_far (is ∙ at) ∙ sym (take_more xs i x inside)
+    ap (map shown) pushed ∙ map-append shown before (y ∷ [])
+    ∙ ap₂ (λ zs z. zs ++ z ∷ []) so_far (is ∙ at) ∙ sym (take_more xs i x inside)
 
 -- one more is made, after others
-pub added_more : {X Y : Type 0} (f : X → Y) (xs : List X) (i : ℕ) (x : X) (start before after : List Y) (y : Y) → i < length xs
-    → x ≡ get_or xs i x → before ≡ start ++ map f (take i xs) → y ≡ f x → after ≡ before ++ y ∷ [] → after ≡ start ++ map f (take (i + 1) xs)
+pub added_more : {X Y : Type 0} (f : X → Y) (xs : List X) (i : ℕ) (x : X)
+    (start before after : List Y) (y : Y) → i < length xs
+    → x ≡ get_or xs i x → before ≡ start ++ map f (take i xs) → y ≡ f x → after ≡ before ++ y ∷ []
+    → after ≡ start ++ map f (take (i + 1) xs)
 added_more f xs i x start before after y inside at so_far made pushed =
-    pushed ∙ ap₂ (λ ys z. ys ++ z ∷ []) so_far (made ∙ ap f at) ∙ append_assoc start (map f (take i xs)) (f (get_or xs i x) ∷ [])
+    pushed ∙ ap₂ (λ ys z. ys ++ z ∷ []) so_far (made ∙ ap f at)
+    ∙ append_assoc start (map f (take i xs)) (f (get_or xs i x) ∷ [])
     ∙ ap (λ ys. start ++ ys) (sym (map_more f xs i x inside))
 
 -- the pieces of one more, after others
-pub joined_more : {X Y : Type 0} (f : X → List Y) (xs : List X) (i : ℕ) (x : X) (start before after piece : List Y) → i < length xs
-    → x ≡ get_or xs i x → before ≡ start ++ flat_map f (take i xs) → piece ≡ f x → after ≡ before ++ piece
+pub joined_more : {X Y : Type 0} (f : X → List Y) (xs : List X) (i : ℕ) (x : X)
+    (start before after piece : List Y) → i < length xs
+    → x ≡ get_or xs i x → before ≡ start ++ flat_map f (take i xs) → piece ≡ f x
+    → after ≡ before ++ piece
     → after ≡ start ++ flat_map f (take (i + 1) xs)
 joined_more f xs i x start before after piece inside at so_far made pushed =
-    pushed ∙ ap₂ (λ a b. a ++ b) so_far (made ∙ ap f at) ∙ flat_map_more f start (take i xs) (get_or xs i x)
+    pushed ∙ ap₂ (λ a b. a ++ b) so_far (made ∙ ap f at)
+    ∙ flat_map_more f start (take i xs) (get_or xs i x)
     ∙ ap (λ ys. start ++ flat_map f ys) (sym (take_more xs i x inside))
 
 -- an item and those after it
-pub drop_item : {X : Type 0} (xs : List X) (i : ℕ) (x : X) → i < length xs → x ≡ get_or xs i x → drop i xs ≡ x ∷ drop (i + 1) xs
+pub drop_item : {X : Type 0} (xs : List X) (i : ℕ) (x : X) → i < length xs → x ≡ get_or xs i x
+    → drop i xs ≡ x ∷ drop (i + 1) xs
 drop_item xs i x inside at = drop_more xs i x inside ∙ ap (λ y. y ∷ drop (i + 1) xs) (sym at)
 
-zip_pushed : {A B : Type 0} (R : A → B → Type 0) (xs : List A) (ys : List B) (x : A) (y : B) → AllZip R xs ys → R x y → AllZip R (xs ++ x ∷ []) (ys ++ y ∷ [])
+zip_pushed : {A B : Type 0} (R : A → B → Type 0) (xs : List A) (ys : List B) (x : A) (y : B)
+    → AllZip R xs ys → R x y → AllZip R (xs ++ x ∷ []) (ys ++ y ∷ [])
 zip_pushed R [] [] x y zip r = (r, tt)
 zip_pushed R [] (v ∷ vs) x y zip r = absurd zip
 zip_pushed R (u ∷ us) [] x y zip r = absurd zip
 zip_pushed R (u ∷ us) (v ∷ vs) x y zip r = (zip.0, zip_pushed R us vs x y zip.1 r)
 
 -- one more item in each of two lists
-pub zipped_more : {X Y : Type 0} (R : X → Y → Type 0) (xs : List X) (i : ℕ) (x : X) (before after : List Y) (y : Y) → i < length xs
-    → x ≡ get_or xs i x → AllZip R (take i xs) before → R x y → after ≡ before ++ y ∷ [] → AllZip R (take (i + 1) xs) after
+pub zipped_more : {X Y : Type 0} (R : X → Y → Type 0) (xs : List X) (i : ℕ) (x : X)
+    (before after : List Y) (y : Y) → i < length xs
+    → x ≡ get_or xs i x → AllZip R (take i xs) before → R x y → after ≡ before ++ y ∷ []
+    → AllZip R (take (i + 1) xs) after
 zipped_more {X} {Y} R xs i x before after y inside at zip r pushed =
-    let next : take (i + 1) xs ≡ take i xs ++ x ∷ [] = take_more xs i x inside ∙ ap (λ (z : X). take i xs ++ z ∷ []) (sym at) in
+    let next : take (i + 1) xs ≡ take i xs ++ x ∷ [] = take_more xs i x inside
+    ∙ ap (λ (z : X). take i xs ++ z ∷ []) (sym at) in
     subst (λ (l : List X). AllZip R l after) (sym next)
-    (subst (λ (l : List Y). AllZip R (take i xs ++ x ∷ []) l) (sym pushed) (zip_pushed R (take i xs) before x y zip r))
+    (subst (λ (l : List Y). AllZip R (take i xs ++ x ∷ []) l) (sym pushed)
+    (zip_pushed R (take i xs) before x y zip r))
 
-module _ {X Y : Type 0} (f : X → Y) (p : X → Bool) (xs : List X) (i : ℕ) (x : X) (inside : i < length xs) (at : x ≡ get_or xs i x) (before : List Y)
+module _ {X Y : Type 0} (f : X → Y) (p : X → Bool) (xs : List X) (i : ℕ) (x : X)
+    (inside : i < length xs) (at : x ≡ get_or xs i x) (before : List Y)
     (so_far : before ≡ map f (filter p (take i xs))) where
   -- what the next item adds to those that pass
-  next : (b : Bool) → p x ≡ b → map f (filter p (take (i + 1) xs)) ≡ before ++ map f (cond b (x ∷ []) [])
+  next : (b : Bool) → p x ≡ b → map f (filter p (take (i + 1) xs)) ≡ before
+      ++ map f (cond b (x ∷ []) [])
   next b e =
       let here : cond (p (get_or xs i x)) (get_or xs i x ∷ []) [] ≡ cond b (x ∷ []) [] =
       ap (λ z. cond (p z) (z ∷ []) []) (sym at) ∙ ap (λ t. cond t (x ∷ []) []) e in
       ap (map f) (filter_more p xs i x inside) ∙ ap (λ ys. map f (filter p (take i xs) ++ ys)) here
-      ∙ map-append f (filter p (take i xs)) (cond b (x ∷ []) []) ∙ ap (λ ys. ys ++ map f (cond b (x ∷ []) [])) (sym so_far)
+      ∙ map-append f (filter p (take i xs)) (cond b (x ∷ []) [])
+      ∙ ap (λ ys. ys ++ map f (cond b (x ∷ []) [])) (sym so_far)
 
   -- the next one passes, and one more is made
-  pub passing_more : (after : List Y) (y : Y) → p x ≡ true → y ≡ f x → after ≡ before ++ y ∷ [] → after ≡ map f (filter p (take (i + 1) xs))
-  passing_more after y passes made pushed = pushed ∙ ap (λ z. before ++ z ∷ []) made ∙ sym (next true passes)
+  pub passing_more : (after : List Y) (y : Y) → p x ≡ true → y ≡ f x → after ≡ before ++ y ∷ []
+      → after ≡ map f (filter p (take (i + 1) xs))
+  passing_more after y passes made pushed = pushed ∙ ap (λ z. before ++ z ∷ []) made
+      ∙ sym (next true passes)
 
   -- the next one doesn't pass
   pub failing_more : p x ≡ false → before ≡ map f (filter p (take (i + 1) xs))
@@ -80,7 +104,8 @@ module _ {A : Type 0} (p : A → Bool) where
   none_or None = refl
   none_or (Some x) = refl
 
-  one_more : (x : A) (ys : List A) (b : Bool) → option_or (last_of ys) (cond b (Some x) None) ≡ last_of (cond b (x ∷ ys) ys)
+  one_more : (x : A) (ys : List A) (b : Bool)
+      → option_or (last_of ys) (cond b (Some x) None) ≡ last_of (cond b (x ∷ ys) ys)
   one_more x ys true = refl
   one_more x ys false = none_or (last_of ys)
 
@@ -88,18 +113,22 @@ module _ {A : Type 0} (p : A → Bool) where
   find-reverse [] = refl
   find-reverse (x ∷ xs) =
       ap (find p) (reverse-append (x ∷ []) xs) ∙ find-append p (reverse xs) (x ∷ [])
-      ∙ ap (λ o. option_or o (cond (p x) (Some x) None)) (find-reverse xs) ∙ one_more x (filter p xs) (p x)
+      ∙ ap (λ o. option_or o (cond (p x) (Some x) None)) (find-reverse xs)
+      ∙ one_more x (filter p xs) (p x)
 
   -- if a test keeps the same rows of two lists, the last one is the same
-  pub find-reverse_among : (rows all : List A) → filter p rows ≡ filter p all → find p (reverse rows) ≡ find p (reverse all)
+  pub find-reverse_among : (rows all : List A) → filter p rows ≡ filter p all
+      → find p (reverse rows) ≡ find p (reverse all)
   find-reverse_among rows all e = find-reverse rows ∙ ap last_of e ∙ sym (find-reverse all)
 
 -- one more is made, from a copied item
-pub made_at : {X Y : Type 0} (f : X → Y) (xs : List X) (i : ℕ) (d : X) (before after : List Y) (y : Y) → i < length xs → before ≡ map f (take i xs)
+pub made_at : {X Y : Type 0} (f : X → Y) (xs : List X) (i : ℕ) (d : X) (before after : List Y)
+    (y : Y) → i < length xs → before ≡ map f (take i xs)
     → y ≡ f (get_or xs i d) → after ≡ before ++ y ∷ [] → after ≡ map f (take (i + 1) xs)
 made_at f xs i d before after y inside so_far made pushed =
     pushed ∙ ap₂ (λ ys z. ys ++ z ∷ []) so_far made ∙ sym (map_more f xs i d inside)
 
 -- once no item is left, all are made
-pub whole : {X B : Type 0} (f : List X → B) (xs : List X) (i : ℕ) (made : B) → length xs ≤ i → made ≡ f (take i xs) → made ≡ f xs
+pub whole : {X B : Type 0} (f : List X → B) (xs : List X) (i : ℕ) (made : B) → length xs ≤ i
+    → made ≡ f (take i xs) → made ≡ f xs
 whole f xs i made out so_far = so_far ∙ ap f (take_all i xs out)

@@ -13,16 +13,19 @@ module _ (duties others : List StoredDuty) (same : IsPermutation duties others) 
   totals : (release : List ℕ) → totals_among others release ≡ totals_among duties release
   totals release =
       let all = count_by-permutation (is_duty_of release) duties others same in
-      let part = λ (s : DutyState). count_by-permutation (is_duty_in release s) duties others same in
+      let part = λ (s : DutyState). count_by-permutation (is_duty_in release s) duties others
+      same in
       cc (all, part state.IsOpen, part state.Met, part state.Waived, part state.Withdrawn)
 
   line : (row : StoredRelease) → release_line others row ≡ release_line duties row
   line row = cc (totals row.name)
 
-  lines : (rows : List StoredRelease) → map (release_line others) rows ≡ map (release_line duties) rows
+  lines : (rows : List StoredRelease)
+      → map (release_line others) rows ≡ map (release_line duties) rows
   lines [] = refl
   lines (row ∷ rows) = ap₂ (λ x xs. x ∷ xs) (line row) (lines rows)
 
-pub lines-permutation : (duties others : List StoredDuty) (rows : List StoredRelease) (found : List ReleaseLine) → IsPermutation duties others
+pub lines-permutation : (duties others : List StoredDuty) (rows : List StoredRelease)
+    (found : List ReleaseLine) → IsPermutation duties others
     → found ≡ map (release_line others) rows → found ≡ map (release_line duties) rows
 lines-permutation duties others rows found same e = e ∙ lines duties others same rows

@@ -1,5 +1,5 @@
--- The cells of the lists: a row of the columns' names, and one for each line. A cell is empty if its line has
--- nothing for it.
+-- The cells of the lists: a row of the columns' names, and one for each line. A cell is empty if
+-- its line has nothing for it.
 use Rattle.std.specs.Prelude.{ℕ, ℤ, List, [], ◌∷◌, ◌++◌, Option, codes, decimal, map, unwrap_or}
 use Rattle.std.specs.Fmt.{signed_decimal}
 use Rattle.std.specs.Option.{option_map_or}
@@ -23,26 +23,31 @@ count_text count = option_map_or decimal count []
 
 abbrev pub totals_cells : Totals → List (List ℕ)
 totals_cells totals =
-    decimal totals.raised ∷ decimal totals.still_open ∷ decimal totals.met ∷ decimal totals.waived ∷ decimal totals.withdrawn ∷ []
+    decimal totals.raised ∷ decimal totals.still_open ∷ decimal totals.met ∷ decimal totals.waived
+    ∷ decimal totals.withdrawn ∷ []
 
 abbrev pub release_names : List (List ℕ)
 release_names =
-    codes "name" ∷ codes "form" ∷ codes "state" ∷ codes "revision" ∷ codes "raised" ∷ codes "open" ∷ codes "met" ∷ codes "waived"
+    codes "name" ∷ codes "form" ∷ codes "state" ∷ codes "revision" ∷ codes "raised" ∷ codes "open"
+    ∷ codes "met" ∷ codes "waived"
     ∷ codes "withdrawn" ∷ []
 
 abbrev pub release_cells : ReleaseLine → List (List ℕ)
-release_cells line = line.name ∷ line.form ∷ line.state ∷ signed_decimal line.revision ∷ totals_cells line.duties
+release_cells line = line.name ∷ line.form ∷ line.state ∷ signed_decimal line.revision
+    ∷ totals_cells line.duties
 
 abbrev pub release_table : List ReleaseLine → List (List (List ℕ))
 release_table lines = release_names ∷ map release_cells lines
 
 abbrev pub document_names : List (List ℕ)
 document_names =
-    codes "number" ∷ codes "name" ∷ codes "namespace" ∷ codes "packages" ∷ codes "shipped" ∷ codes "findings" ∷ codes "profile" ∷ []
+    codes "number" ∷ codes "name" ∷ codes "namespace" ∷ codes "packages" ∷ codes "shipped"
+    ∷ codes "findings" ∷ codes "profile" ∷ []
 
 abbrev pub document_cells : DocumentLine → List (List ℕ)
 document_cells line =
-    signed_decimal line.number ∷ line.name ∷ line.namespace ∷ decimal line.packages ∷ decimal line.shipped
+    signed_decimal line.number ∷ line.name ∷ line.namespace ∷ decimal line.packages
+    ∷ decimal line.shipped
     ∷ count_text line.findings ∷ number_text line.profile ∷ []
 
 abbrev pub document_table : List DocumentLine → List (List (List ℕ))
@@ -50,13 +55,15 @@ document_table lines = document_names ∷ map document_cells lines
 
 abbrev pub duty_names : List (List ℕ)
 duty_names =
-    codes "number" ∷ codes "release" ∷ codes "document" ∷ codes "package" ∷ codes "name" ∷ codes "rule" ∷ codes "code" ∷ codes "title"
+    codes "number" ∷ codes "release" ∷ codes "document" ∷ codes "package" ∷ codes "name"
+    ∷ codes "rule" ∷ codes "code" ∷ codes "title"
     ∷ codes "state" ∷ codes "raised" ∷ codes "since" ∷ codes "until" ∷ []
 
 -- what a duty is
 abbrev pub duty_subject : DutyLine → List (List ℕ)
 duty_subject line =
-    signed_decimal line.number ∷ line.release ∷ signed_decimal line.document ∷ line.package_id ∷ line.package_name ∷ line.rule ∷ line.code
+    signed_decimal line.number ∷ line.release ∷ signed_decimal line.document ∷ line.package_id
+    ∷ line.package_name ∷ line.rule ∷ line.code
     ∷ line.title ∷ []
 
 -- its state, and since when it has it

@@ -1,6 +1,7 @@
--- The line of a document: its row in the table, how many packages it has and ships, its profile, and what its
--- bytes say.
-use Rattle.std.specs.Prelude.{◌≡◌, ℕ, ℤ, pos, ◌&&◌, Bool, List, [], Option, Some, None, Result, Ok, Err, find, count_by, length, option_map}
+-- The line of a document: its row in the table, how many packages it has and ships, its profile,
+-- and what its bytes say.
+use Rattle.std.specs.Prelude.{◌≡◌, ℕ, ℤ, pos, ◌&&◌, Bool, List, [], Option, Some, None, Result, Ok}
+use Rattle.std.specs.Prelude.{Err, find, count_by, length, option_map}
 use Rattle.std.specs.Ordering.{int_cmp, int_eq}
 use Rattle.std.specs.declared.cmp.Ordering.{Ordering}
 use Rattle.std.proofs.lemmas.Cmp.{int_cmp_total}
@@ -29,19 +30,23 @@ AreReadings reads = (profile : Profile) → IsReading profile (reads profile)
 
 -- how many findings a document has
 abbrev pub CountsFindings : (Profile → List ℕ → Option Tree) → Profile → DocumentText → ℕ → Type 0
-CountsFindings reads profile d count = (found : List Finding) × AreFindings (reads profile) d found × (count ≡ length found)
+CountsFindings reads profile d count = (found : List Finding) × AreFindings (reads profile) d found
+    × (count ≡ length found)
 
 -- a document says its name and how many findings it has
 abbrev pub SaysOf : (Profile → List ℕ → Option Tree) → Profile → DocumentText → Said → Type 0
-SaysOf reads profile d said = (said.name ≡ d.name) × ((count : ℕ) × CountsFindings reads profile d count × (said.findings ≡ Some count))
+SaysOf reads profile d said = (said.name ≡ d.name)
+    × ((count : ℕ) × CountsFindings reads profile d count × (said.findings ≡ Some count))
 
 -- the same of what bytes spell; bytes that are no document say nothing
-abbrev pub Says : (Profile → List ℕ → Option Tree) → Profile → Result DocumentText DocFault → Said → Type 0
+abbrev pub Says : (Profile → List ℕ → Option Tree) → Profile → Result DocumentText DocFault → Said
+    → Type 0
 Says reads profile (Ok d) said = SaysOf reads profile d said
 Says reads profile (Err fault) said = (said.name ≡ []) × (said.findings ≡ None)
 
 abbrev pub IsSaid : (Profile → List ℕ → Option Tree) → Profile → List ℕ → Said → Type 0
-IsSaid reads profile bytes said = (read : Result DocumentText DocFault) × Spells bytes read × Says reads profile read said
+IsSaid reads profile bytes said = (read : Result DocumentText DocFault) × Spells bytes read
+    × Says reads profile read said
 
 abbrev pub is_package_of : ℤ → StoredPackage → Bool
 is_package_of document row = int_eq row.document document
@@ -57,12 +62,15 @@ document_line snapshot row said = record {
   packages = count_by (is_package_of row.number) snapshot.packages;
   shipped = count_by (is_shipped_by row.number) snapshot.packages;
   findings = said.findings;
-  profile = option_map (λ reading. reading.profile) (find (is_reading_of row.number) snapshot.reading);
+  profile = option_map (λ reading. reading.profile)
+      (find (is_reading_of row.number) snapshot.reading);
 }
 
-abbrev pub IsDocumentLine : (Profile → List ℕ → Option Tree) → Snapshot → StoredDocument → DocumentLine → Type 0
+abbrev pub IsDocumentLine : (Profile → List ℕ → Option Tree) → Snapshot → StoredDocument
+    → DocumentLine → Type 0
 IsDocumentLine reads snapshot row line =
-    (said : Said) × IsSaid reads (profile_at snapshot row.number) row.bytes said × (line ≡ document_line snapshot row said)
+    (said : Said) × IsSaid reads (profile_at snapshot row.number) row.bytes said
+    × (line ≡ document_line snapshot row said)
 
 -- the packages of each document are next to each other
 
@@ -71,4 +79,5 @@ package_of_side document row = int_cmp row.document document
 
 pub package_of_splits : (document : ℤ) → IsSideOf package_order (package_of_side document)
 package_of_splits document =
-    side_by package_order (λ row. row.document) int_cmp int_cmp_total (λ x y e. first_less (int_cmp y.document x.document) _ e) document
+    side_by package_order (λ row. row.document) int_cmp int_cmp_total
+    (λ x y e. first_less (int_cmp y.document x.document) _ e) document

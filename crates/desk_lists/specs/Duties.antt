@@ -1,6 +1,7 @@
--- The duties that are asked for, and the line of each: its row in the table, its package's name, its title
--- and its days.
-use Rattle.std.specs.Prelude.{ℕ, ℤ, pos, ◌&&◌, ◌||◌, not, Bool, true, false, List, [], ◌∷◌, Option, find, filter, map, reverse, option_and_then}
+-- The duties that are asked for, and the line of each: its row in the table, its package's name,
+-- its title and its days.
+use Rattle.std.specs.Prelude.{ℕ, ℤ, pos, ◌&&◌, ◌||◌, not, Bool, true, false, List, [], ◌∷◌, Option}
+use Rattle.std.specs.Prelude.{find, filter, map, reverse, option_and_then}
 use Rattle.std.specs.Cmp.{IsTotalOrder}
 use Rattle.std.specs.Cmp.Lexicographic.{slice_cmp}
 use Rattle.std.specs.Option.{option_copied, option_map_or}
@@ -26,11 +27,13 @@ abbrev pub is_asked : Option (List ℕ) → List ℕ → Bool
 is_asked asked text = option_map_or (λ wanted. bytes_eq text wanted) asked true
 
 abbrev pub package_name : Snapshot → ℤ → List ℕ → List ℕ
-package_name snapshot document id = option_map_or (λ row. row.name) (find (is_package document id) snapshot.packages) []
+package_name snapshot document id = option_map_or (λ row. row.name)
+    (find (is_package document id) snapshot.packages) []
 
 -- the day of a duty's first step
 abbrev pub raising_day : Snapshot → ℤ → List ℕ
-raising_day snapshot number = option_map_or (λ row. row.day) (find (is_change_at number (pos 1)) snapshot.changes) []
+raising_day snapshot number = option_map_or (λ row. row.day)
+    (find (is_change_at number (pos 1)) snapshot.changes) []
 
 -- the last of a duty's changes in the table, which is in the order of steps
 abbrev pub last_change : Snapshot → ℤ → Option StoredChange
@@ -49,7 +52,8 @@ is_end_before day end = option_map_or (λ last. is_before last day) end false
 
 -- a waived duty whose waiver has a last day before a day
 abbrev pub is_past : Snapshot → List ℕ → StoredDuty → Bool
-is_past snapshot day row = bytes_eq row.state (duty_state_name duty.Waived) && is_end_before day (waiver_end snapshot row.number)
+is_past snapshot day row = bytes_eq row.state (duty_state_name duty.Waived)
+    && is_end_before day (waiver_end snapshot row.number)
 
 -- past by the day that is asked for, if one is
 abbrev pub is_past_if_asked : Snapshot → Option (List ℕ) → StoredDuty → Bool
@@ -65,7 +69,8 @@ is_wanted snapshot wanted row =
 -- the texts of a duty's line
 abbrev pub line_texts : Snapshot → List Title → StoredDuty → List (List ℕ)
 line_texts snapshot titles row =
-    row.release ∷ row.package_id ∷ package_name snapshot row.document row.package_id ∷ row.rule ∷ row.code ∷ title_among row.code titles
+    row.release ∷ row.package_id ∷ package_name snapshot row.document row.package_id ∷ row.rule
+    ∷ row.code ∷ title_among row.code titles
     ∷ row.state ∷ raising_day snapshot row.number ∷ changing_day snapshot row.number ∷ []
 
 abbrev pub duty_line : Snapshot → List Title → StoredDuty → DutyLine
@@ -85,11 +90,14 @@ duty_line snapshot titles row = record {
 }
 
 abbrev pub lines_wanted : Snapshot → DutyFilter → List DutyLine
-lines_wanted snapshot wanted = map (duty_line snapshot (titles_in_force snapshot)) (filter (is_wanted snapshot wanted) snapshot.duty)
+lines_wanted snapshot wanted = map (duty_line snapshot (titles_in_force snapshot))
+    (filter (is_wanted snapshot wanted) snapshot.duty)
 
 -- by the day of raising, and by number if two were raised on the same day
 abbrev pub raising_order : DutyLine → DutyLine → Ordering
-raising_order = then_cmp (on (λ line. line.raised) (slice_cmp nat_cmp)) (on (λ line. line.number) int_cmp)
+raising_order = then_cmp (on (λ line. line.raised) (slice_cmp nat_cmp))
+    (on (λ line. line.number) int_cmp)
 
 pub raising_total : IsTotalOrder raising_order
-raising_total = then_total (on_total (λ line. line.raised) nat_list_cmp_total) (on_total (λ line. line.number) int_cmp_total)
+raising_total = then_total (on_total (λ line. line.raised) nat_list_cmp_total)
+    (on_total (λ line. line.number) int_cmp_total)

@@ -27,4 +27,5 @@ abbrev pub is_held_by : List ℕ → Held → Bool
 is_held_by release row = bytes_eq row.duty.now.release release
 
 pub held_splits : (release : List ℕ) → IsSideOf held_order (held_side release)
-held_splits release = side_by held_order (λ (row : Held). row.duty.now.release) (slice_cmp nat_cmp) nat_list_cmp_total (λ x y e. e) release
+held_splits release = side_by held_order (λ (row : Held). row.duty.now.release) (slice_cmp nat_cmp)
+    nat_list_cmp_total (λ x y e. e) release

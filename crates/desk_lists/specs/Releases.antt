@@ -13,7 +13,8 @@ abbrev pub is_duty_of : List ℕ → StoredDuty → Bool
 is_duty_of release row = bytes_eq row.release release
 
 abbrev pub is_duty_in : List ℕ → DutyState → StoredDuty → Bool
-is_duty_in release state row = bytes_eq row.release release && bytes_eq row.state (duty_state_name state)
+is_duty_in release state row = bytes_eq row.release release
+    && bytes_eq row.state (duty_state_name state)
 
 -- how many duties a release has, and how many of these are in each state
 abbrev pub totals_among : List StoredDuty → List ℕ → Totals

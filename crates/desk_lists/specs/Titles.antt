@@ -1,6 +1,7 @@
--- The titles of duties in the catalogue in force. This is the last one of its table, which is in the order of
--- revisions.
-use Rattle.std.specs.Prelude.{ℕ, ◌-◌, Bool, List, [], Option, codes, find, length, option_map, option_and_then, slice_get}
+-- The titles of duties in the catalogue in force. This is the last one of its table, which is in
+-- the order of revisions.
+use Rattle.std.specs.Prelude.{ℕ, ◌-◌, Bool, List, [], Option, codes, find, length, option_map}
+use Rattle.std.specs.Prelude.{option_and_then, slice_get}
 use Rattle.std.specs.List.{cons_option}
 use Rattle.std.specs.Option.{option_map_or}
 use Rattle.std.specs.Str.{bytes_eq}
@@ -18,7 +19,8 @@ titled code title = record { code = code; title = title }
 
 -- the title in a table of a code and a title
 abbrev pub title_in : Members → Option Title
-title_in ms = option_and_then (λ code. option_map (titled code) (text_at (codes "title") ms)) (text_at (codes "code") ms)
+title_in ms = option_and_then (λ code. option_map (titled code) (text_at (codes "title") ms))
+    (text_at (codes "code") ms)
 
 abbrev pub title_of : Data → Option Title
 title_of d = option_and_then title_in (as_table d)
@@ -35,7 +37,8 @@ abbrev pub catalogue_titles : List ℕ → List Title
 catalogue_titles text = option_map_or titles_in (parse_document text) []
 
 abbrev pub titles_in_force : Snapshot → List Title
-titles_in_force snapshot = option_map_or (λ row. catalogue_titles row.body) (slice_get snapshot.catalogue (length snapshot.catalogue - 1)) []
+titles_in_force snapshot = option_map_or (λ row. catalogue_titles row.body)
+    (slice_get snapshot.catalogue (length snapshot.catalogue - 1)) []
 
 abbrev pub is_title_of : List ℕ → Title → Bool
 is_title_of code row = bytes_eq row.code code

@@ -6,16 +6,22 @@ use Rattle.desk_model.specs.declared.row.DocumentRow.{DocumentRow}
 use Rattle.desk_model.specs.declared.row.DutyRow.{DutyRow}
 use Rattle.desk_base.proofs.Numbers.{numbers_equal}
 
-passes : {A : Type 0} (test : A → Bool) (y : A) (ys : List A) (x : A) (b : Bool) → test y ≡ b → cond b (Some y) (find test ys) ≡ Some x → (find test ys ≡ Some x → test x ≡ true) → test x ≡ true
+passes : {A : Type 0} (test : A → Bool) (y : A) (ys : List A) (x : A) (b : Bool) → test y ≡ b
+    → cond b (Some y) (find test ys) ≡ Some x → (find test ys ≡ Some x → test x ≡ true)
+    → test x ≡ true
 passes test y ys x true e f rest = let same : y ≡ x = cc in ap test (sym same) ∙ e
 passes test y ys x false e f rest = rest f
 
-find_passes : {A : Type 0} (test : A → Bool) (xs : List A) (x : A) → find test xs ≡ Some x → test x ≡ true
+find_passes : {A : Type 0} (test : A → Bool) (xs : List A) (x : A) → find test xs ≡ Some x
+    → test x ≡ true
 find_passes test [] x e = cc
 find_passes test (y ∷ ys) x e = passes test y ys x (test y) refl e (find_passes test ys x)
 
-pub document_number : (n : ℕ) (rows : List DocumentRow) (row : DocumentRow) → Some row ≡ find (is_document n) rows → row.number ≡ n
-document_number n rows row e = numbers_equal row.number n (find_passes (is_document n) rows row (sym e))
+pub document_number : (n : ℕ) (rows : List DocumentRow) (row : DocumentRow)
+    → Some row ≡ find (is_document n) rows → row.number ≡ n
+document_number n rows row e = numbers_equal row.number n
+    (find_passes (is_document n) rows row (sym e))
 
-pub duty_number : (n : ℕ) (rows : List DutyRow) (row : DutyRow) → Some row ≡ find (is_duty n) rows → row.number ≡ n
+pub duty_number : (n : ℕ) (rows : List DutyRow) (row : DutyRow) → Some row ≡ find (is_duty n) rows
+    → row.number ≡ n
 duty_number n rows row e = numbers_equal row.number n (find_passes (is_duty n) rows row (sym e))

@@ -1,4 +1,5 @@
--- What is seen of a store in memory: its rows, always, and tallies and holders that are theirs; a stop leaves nothing.
+-- What is seen of a store in memory: its rows, always, and tallies and holders that are theirs; a
+-- stop leaves nothing.
 use Rattle.std.specs.Prelude.{◌≡◌}
 use Rattle.desk_model.specs.Tables.{Tables}
 use Rattle.desk_access.specs.Seen.{Seen}
@@ -27,4 +28,11 @@ rows_of s = record {
 }
 
 abbrev pub memory_seen : MemStore → Seen (Unit {0})
-memory_seen s = record { holds = λ t. (rows_of s ≡ t) × AreKept s.tallies t × AreHolders (rows_in s.choices.holders.blocks.items) t; is_honest = Unit {0}; is_open = Unit {0}; faults = 0; leaves = λ x. ⊥ }
+memory_seen s = record {
+  holds = λ t. (rows_of s ≡ t) × AreKept s.tallies t
+      × AreHolders (rows_in s.choices.holders.blocks.items) t;
+  is_honest = Unit {0};
+  is_open = Unit {0};
+  faults = 0;
+  leaves = λ x. ⊥;
+}

@@ -15,8 +15,11 @@ pub namespace_total : IsTotalOrder namespace_order
 namespace_total = on_total (λ entry. entry.namespace) nat_list_cmp_total
 
 pub namespace_splits : (namespace : List ℕ) → IsSideOf namespace_order (namespace_side namespace)
-namespace_splits namespace = side_by namespace_order (λ entry. entry.namespace) (slice_cmp nat_cmp) nat_list_cmp_total (λ x y e. e) namespace
+namespace_splits namespace = side_by namespace_order (λ entry. entry.namespace) (slice_cmp nat_cmp)
+    nat_list_cmp_total (λ x y e. e) namespace
 
-pub named_alike : (namespace : List ℕ) (x y : NamespacePlace) → is_named namespace x ≡ true → is_named namespace y ≡ true → below_by namespace_order x y ≡ false
+pub named_alike : (namespace : List ℕ) (x y : NamespacePlace) → is_named namespace x ≡ true
+    → is_named namespace y ≡ true → below_by namespace_order x y ≡ false
 named_alike namespace x y e f =
-    alike (λ entry. entry.namespace) (slice_cmp nat_cmp) nat_list_cmp_total namespace x y (sym (texts_meet x.namespace namespace) ∙ e) (sym (texts_meet y.namespace namespace) ∙ f)
+    alike (λ entry. entry.namespace) (slice_cmp nat_cmp) nat_list_cmp_total namespace x y
+    (sym (texts_meet x.namespace namespace) ∙ e) (sym (texts_meet y.namespace namespace) ∙ f)

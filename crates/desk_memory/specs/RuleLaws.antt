@@ -14,24 +14,39 @@ use Rattle.desk_sorted.specs.Sides.{side_by, alike, texts_meet, numbers_meet, th
 use Rattle.desk_memory.specs.RulePlaces.{is_placed, rule_order, rule_side}
 
 abbrev key_cmp : ℕ × List ℕ × List ℕ → ℕ × List ℕ × List ℕ → Ordering
-key_cmp = then_cmp (then_cmp (on (λ p. p.0) nat_cmp) (on (λ p. p.1) (slice_cmp nat_cmp))) (on (λ p. p.2) (slice_cmp nat_cmp))
+key_cmp = then_cmp (then_cmp (on (λ p. p.0) nat_cmp) (on (λ p. p.1) (slice_cmp nat_cmp)))
+    (on (λ p. p.2) (slice_cmp nat_cmp))
 
 key_total : IsTotalOrder key_cmp
-key_total = then_total (then_total (on_total (λ p. p.0) nat_cmp_total) (on_total (λ p. p.1) nat_list_cmp_total)) (on_total (λ p. p.2) nat_list_cmp_total)
+key_total = then_total (then_total (on_total (λ p. p.0) nat_cmp_total)
+    (on_total (λ p. p.1) nat_list_cmp_total)) (on_total (λ p. p.2) nat_list_cmp_total)
 
 pub rule_total : IsTotalOrder rule_order
-rule_total = then_total (then_total (on_total (λ entry. entry.revision) nat_cmp_total) (on_total (λ entry. entry.term) nat_list_cmp_total)) (on_total (λ entry. entry.form) nat_list_cmp_total)
+rule_total = then_total (then_total (on_total (λ entry. entry.revision) nat_cmp_total)
+    (on_total (λ entry. entry.term) nat_list_cmp_total))
+    (on_total (λ entry. entry.form) nat_list_cmp_total)
 
-pub rule_splits : (revision : ℕ) (term form : List ℕ) → IsSideOf rule_order (rule_side revision term form)
-rule_splits revision term form = side_by rule_order (λ entry. (entry.revision, entry.term, entry.form)) key_cmp key_total (λ x y e. e) (revision, term, form)
+pub rule_splits : (revision : ℕ) (term form : List ℕ)
+    → IsSideOf rule_order (rule_side revision term form)
+rule_splits revision term form = side_by rule_order
+    (λ entry. (entry.revision, entry.term, entry.form)) key_cmp key_total (λ x y e. e)
+    (revision, term, form)
 
-pub rule_meets : (revision : ℕ) (term form : List ℕ) (entry : RulePlace) → is_placed revision term form entry ≡ is_eq (rule_side revision term form entry)
+pub rule_meets : (revision : ℕ) (term form : List ℕ) (entry : RulePlace)
+    → is_placed revision term form entry ≡ is_eq (rule_side revision term form entry)
 rule_meets revision term form entry =
-    then_meets (ordering_then (nat_cmp entry.revision revision) (slice_cmp nat_cmp entry.term term)) (slice_cmp nat_cmp entry.form form)
+    then_meets (ordering_then (nat_cmp entry.revision revision) (slice_cmp nat_cmp entry.term term))
+    (slice_cmp nat_cmp entry.form form)
     ((entry.revision == revision) && bytes_eq entry.term term) (bytes_eq entry.form form)
-    (then_meets (nat_cmp entry.revision revision) (slice_cmp nat_cmp entry.term term) (entry.revision == revision) (bytes_eq entry.term term) (numbers_meet entry.revision revision) (texts_meet entry.term term))
+    (then_meets (nat_cmp entry.revision revision) (slice_cmp nat_cmp entry.term term)
+    (entry.revision == revision) (bytes_eq entry.term term) (numbers_meet entry.revision revision)
+    (texts_meet entry.term term))
     (texts_meet entry.form form)
 
-pub placed_alike : (revision : ℕ) (term form : List ℕ) (x y : RulePlace) → is_placed revision term form x ≡ true → is_placed revision term form y ≡ true → below_by rule_order x y ≡ false
+pub placed_alike : (revision : ℕ) (term form : List ℕ) (x y : RulePlace)
+    → is_placed revision term form x ≡ true → is_placed revision term form y ≡ true
+    → below_by rule_order x y ≡ false
 placed_alike revision term form x y e f =
-    alike (λ entry. (entry.revision, entry.term, entry.form)) key_cmp key_total (revision, term, form) x y (sym (rule_meets revision term form x) ∙ e) (sym (rule_meets revision term form y) ∙ f)
+    alike (λ entry. (entry.revision, entry.term, entry.form)) key_cmp key_total
+    (revision, term, form) x y (sym (rule_meets revision term form x) ∙ e)
+    (sym (rule_meets revision term form y) ∙ f)

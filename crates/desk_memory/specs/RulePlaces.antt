@@ -8,18 +8,28 @@ use Rattle.desk_model.specs.declared.row.RuleRow.{RuleRow}
 use Rattle.desk_memory.specs.declared.keys.RulePlace.{RulePlace}
 
 abbrev pub is_placed : ℕ → List ℕ → List ℕ → RulePlace → Bool
-is_placed revision term form entry = ((entry.revision == revision) && bytes_eq entry.term term) && bytes_eq entry.form form
+is_placed revision term form entry = ((entry.revision == revision) && bytes_eq entry.term term)
+    && bytes_eq entry.form form
 
 abbrev pub is_rule_row : ℕ → List ℕ → List ℕ → RuleRow → Bool
-is_rule_row revision term form row = (row.revision == revision) && (bytes_eq row.term term && bytes_eq row.form form)
+is_rule_row revision term form row = (row.revision == revision)
+    && (bytes_eq row.term term && bytes_eq row.form form)
 
 abbrev pub rule_order : RulePlace → RulePlace → Ordering
-rule_order = then_cmp (then_cmp (on (λ entry. entry.revision) nat_cmp) (on (λ entry. entry.term) (slice_cmp nat_cmp))) (on (λ entry. entry.form) (slice_cmp nat_cmp))
+rule_order = then_cmp (then_cmp (on (λ entry. entry.revision) nat_cmp)
+    (on (λ entry. entry.term) (slice_cmp nat_cmp))) (on (λ entry. entry.form) (slice_cmp nat_cmp))
 
 abbrev pub rule_side : ℕ → List ℕ → List ℕ → RulePlace → Ordering
-rule_side revision term form entry = ordering_then (ordering_then (nat_cmp entry.revision revision) (slice_cmp nat_cmp entry.term term)) (slice_cmp nat_cmp entry.form form)
+rule_side revision term form entry = ordering_then
+    (ordering_then (nat_cmp entry.revision revision) (slice_cmp nat_cmp entry.term term))
+    (slice_cmp nat_cmp entry.form form)
 
 -- the places of rules, counted from n
 abbrev pub rule_places : ℕ → List RuleRow → List RulePlace
 rule_places n [] = []
-rule_places n (row ∷ rows) = (record { revision = row.revision; term = row.term; form = row.form; place = n }) ∷ rule_places (n + 1) rows
+rule_places n (row ∷ rows) = (record {
+  revision = row.revision;
+  term = row.term;
+  form = row.form;
+  place = n;
+}) ∷ rule_places (n + 1) rows

@@ -21,7 +21,8 @@ abbrev pub packages_side : ℕ → PackageRow → Ordering
 packages_side document row = nat_cmp row.document document
 
 abbrev pub package_side : ℕ → List ℕ → PackageRow → Ordering
-package_side document id row = ordering_then (nat_cmp row.document document) (slice_cmp nat_cmp row.id id)
+package_side document id row = ordering_then (nat_cmp row.document document)
+    (slice_cmp nat_cmp row.id id)
 
 abbrev pub release_side : List ℕ → ReleaseRow → Ordering
 release_side name row = slice_cmp nat_cmp row.name name
@@ -30,7 +31,8 @@ abbrev pub attached_side : List ℕ → AttachedRow → Ordering
 attached_side release row = slice_cmp nat_cmp row.release release
 
 abbrev pub attachment_side : List ℕ → ℕ → AttachedRow → Ordering
-attachment_side release document row = ordering_then (slice_cmp nat_cmp row.release release) (nat_cmp row.document document)
+attachment_side release document row = ordering_then (slice_cmp nat_cmp row.release release)
+    (nat_cmp row.document document)
 
 abbrev pub is_frozen_in : List ℕ → FrozenRow → Bool
 is_frozen_in release row = bytes_eq row.release release
@@ -39,4 +41,5 @@ abbrev pub frozen_side : List ℕ → FrozenRow → Ordering
 frozen_side release row = slice_cmp nat_cmp row.release release
 
 abbrev pub extracted_side : ℕ → List ℕ → ExtractedRow → Ordering
-extracted_side document reference row = ordering_then (nat_cmp row.document document) (slice_cmp nat_cmp row.reference reference)
+extracted_side document reference row = ordering_then (nat_cmp row.document document)
+    (slice_cmp nat_cmp row.reference reference)

@@ -15,7 +15,8 @@ use Rattle.desk_model.specs.declared.row.FrozenRow.{FrozenRow}
 use Rattle.desk_sorted.specs.Sorted.{IsSideOf}
 use Rattle.desk_sorted.specs.Sides.{side_by, first_less, texts_meet, numbers_meet, then_meets, number_cmp, number_total}
 use Rattle.desk_sorted.specs.Orders.{document_order, extracted_order, release_order}
-use Rattle.desk_memory.specs.Sides.{document_side, packages_side, package_side, release_side, attached_side, attachment_side, extracted_side, frozen_side}
+use Rattle.desk_memory.specs.Sides.{document_side, packages_side, package_side, release_side}
+use Rattle.desk_memory.specs.Sides.{attached_side, attachment_side, extracted_side, frozen_side}
 
 -- What keys begin with
 
@@ -23,45 +24,67 @@ abbrev pair_cmp : List ℕ × ℕ → List ℕ × ℕ → Ordering
 pair_cmp = then_cmp (on (λ p. p.0) (slice_cmp nat_cmp)) (on (λ p. p.1) nat_cmp)
 
 pub document_splits : (number : ℕ) → IsSideOf document_order (document_side number)
-document_splits number = side_by document_order (λ row. row.number) nat_cmp nat_cmp_total (λ x y e. e) number
+document_splits number = side_by document_order (λ row. row.number) nat_cmp nat_cmp_total
+    (λ x y e. e) number
 
 pub packages_splits : (document : ℕ) → IsSideOf package_order (packages_side document)
 packages_splits document =
-    side_by package_order (λ row. row.document) nat_cmp nat_cmp_total (λ x y e. first_less (nat_cmp y.document x.document) (slice_cmp nat_cmp y.id x.id) e) document
+    side_by package_order (λ row. row.document) nat_cmp nat_cmp_total
+    (λ x y e. first_less (nat_cmp y.document x.document) (slice_cmp nat_cmp y.id x.id) e) document
 
-pub package_splits : (document : ℕ) (id : List ℕ) → IsSideOf package_order (package_side document id)
+pub package_splits : (document : ℕ) (id : List ℕ)
+    → IsSideOf package_order (package_side document id)
 package_splits document id =
-    side_by package_order (λ row. (row.document, row.id)) number_cmp number_total (λ x y e. e) (document, id)
+    side_by package_order (λ row. (row.document, row.id)) number_cmp number_total (λ x y e. e)
+    (document, id)
 
 pub release_splits : (name : List ℕ) → IsSideOf release_order (release_side name)
-release_splits name = side_by release_order (λ row. row.name) (slice_cmp nat_cmp) nat_list_cmp_total (λ x y e. e) name
+release_splits name = side_by release_order (λ row. row.name) (slice_cmp nat_cmp) nat_list_cmp_total
+    (λ x y e. e) name
 
 pub attached_splits : (release : List ℕ) → IsSideOf attached_order (attached_side release)
 attached_splits release =
-    side_by attached_order (λ row. row.release) (slice_cmp nat_cmp) nat_list_cmp_total (λ x y e. first_less (slice_cmp nat_cmp y.release x.release) (nat_cmp y.document x.document) e) release
+    side_by attached_order (λ row. row.release) (slice_cmp nat_cmp) nat_list_cmp_total
+    (λ x y e. first_less (slice_cmp nat_cmp y.release x.release) (nat_cmp y.document x.document) e)
+    release
 
-pub attachment_splits : (release : List ℕ) (document : ℕ) → IsSideOf attached_order (attachment_side release document)
+pub attachment_splits : (release : List ℕ) (document : ℕ)
+    → IsSideOf attached_order (attachment_side release document)
 attachment_splits release document =
-    side_by attached_order (λ row. (row.release, row.document)) pair_cmp (then_total (on_total (λ p. p.0) nat_list_cmp_total) (on_total (λ p. p.1) nat_cmp_total)) (λ x y e. e) (release, document)
+    side_by attached_order (λ row. (row.release, row.document)) pair_cmp
+    (then_total (on_total (λ p. p.0) nat_list_cmp_total) (on_total (λ p. p.1) nat_cmp_total))
+    (λ x y e. e) (release, document)
 
 pub frozen_splits : (release : List ℕ) → IsSideOf frozen_order (frozen_side release)
 frozen_splits release =
-    side_by frozen_order (λ row. row.release) (slice_cmp nat_cmp) nat_list_cmp_total (λ x y e. first_less (slice_cmp nat_cmp y.release x.release) _ e) release
+    side_by frozen_order (λ row. row.release) (slice_cmp nat_cmp) nat_list_cmp_total
+    (λ x y e. first_less (slice_cmp nat_cmp y.release x.release) _ e) release
 
-pub extracted_splits : (document : ℕ) (reference : List ℕ) → IsSideOf extracted_order (extracted_side document reference)
+pub extracted_splits : (document : ℕ) (reference : List ℕ)
+    → IsSideOf extracted_order (extracted_side document reference)
 extracted_splits document reference =
-    side_by extracted_order (λ row. (row.document, row.reference)) number_cmp number_total (λ x y e. e) (document, reference)
+    side_by extracted_order (λ row. (row.document, row.reference)) number_cmp number_total
+    (λ x y e. e) (document, reference)
 
 -- The rows with a key are those on neither side of it
 
-pub package_meets : (document : ℕ) (id : List ℕ) (row : PackageRow) → is_package document id row ≡ is_eq (package_side document id row)
+pub package_meets : (document : ℕ) (id : List ℕ) (row : PackageRow)
+    → is_package document id row ≡ is_eq (package_side document id row)
 package_meets document id row =
-    then_meets (nat_cmp row.document document) (slice_cmp nat_cmp row.id id) (row.document == document) (bytes_eq row.id id) (numbers_meet row.document document) (texts_meet row.id id)
+    then_meets (nat_cmp row.document document) (slice_cmp nat_cmp row.id id)
+    (row.document == document) (bytes_eq row.id id) (numbers_meet row.document document)
+    (texts_meet row.id id)
 
-pub attachment_meets : (release : List ℕ) (document : ℕ) (row : AttachedRow) → is_attachment release document row ≡ is_eq (attachment_side release document row)
+pub attachment_meets : (release : List ℕ) (document : ℕ) (row : AttachedRow)
+    → is_attachment release document row ≡ is_eq (attachment_side release document row)
 attachment_meets release document row =
-    then_meets (slice_cmp nat_cmp row.release release) (nat_cmp row.document document) (bytes_eq row.release release) (row.document == document) (texts_meet row.release release) (numbers_meet row.document document)
+    then_meets (slice_cmp nat_cmp row.release release) (nat_cmp row.document document)
+    (bytes_eq row.release release) (row.document == document) (texts_meet row.release release)
+    (numbers_meet row.document document)
 
-pub extracted_meets : (document : ℕ) (reference : List ℕ) (row : ExtractedRow) → is_extracted document reference row ≡ is_eq (extracted_side document reference row)
+pub extracted_meets : (document : ℕ) (reference : List ℕ) (row : ExtractedRow)
+    → is_extracted document reference row ≡ is_eq (extracted_side document reference row)
 extracted_meets document reference row =
-    then_meets (nat_cmp row.document document) (slice_cmp nat_cmp row.reference reference) (row.document == document) (bytes_eq row.reference reference) (numbers_meet row.document document) (texts_meet row.reference reference)
+    then_meets (nat_cmp row.document document) (slice_cmp nat_cmp row.reference reference)
+    (row.document == document) (bytes_eq row.reference reference)
+    (numbers_meet row.document document) (texts_meet row.reference reference)

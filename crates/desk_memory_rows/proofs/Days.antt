@@ -8,7 +8,8 @@ abbrev pub last_or : Option (List ℕ) → List ChangeRow → Option (List ℕ)
 last_or day [] = day
 last_or day (row ∷ rows) = last_or (Some row.day) rows
 
-last_or-day : (row : ChangeRow) (rows : List ChangeRow) → last_or (Some row.day) rows ≡ last_day (row ∷ rows)
+last_or-day : (row : ChangeRow) (rows : List ChangeRow)
+    → last_or (Some row.day) rows ≡ last_day (row ∷ rows)
 last_or-day row [] = refl
 last_or-day row (next ∷ rows) = last_or-day next rows
 

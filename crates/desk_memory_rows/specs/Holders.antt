@@ -18,7 +18,8 @@ use Rattle.desk_memory_rows.specs.declared.holders.Holder.{Holder}
 -- by document and package, then in the order in which the releases were opened
 abbrev pub holder_order : Holder → Holder → Ordering
 holder_order =
-    then_cmp (then_cmp (then_cmp (on (λ row. row.document) nat_cmp) (on (λ row. row.package_id) (slice_cmp nat_cmp))) (on (λ row. row.place) nat_cmp))
+    then_cmp (then_cmp (then_cmp (on (λ row. row.document) nat_cmp)
+    (on (λ row. row.package_id) (slice_cmp nat_cmp))) (on (λ row. row.place) nat_cmp))
     (on (λ row. row.release) (slice_cmp nat_cmp))
 
 -- it holds a choice for this package
@@ -26,7 +27,8 @@ abbrev pub is_held : ℕ → List ℕ → Holder → Bool
 is_held document id row = (row.document == document) && bytes_eq row.package_id id
 
 abbrev pub held_side : ℕ → List ℕ → Holder → Ordering
-held_side document id row = ordering_then (nat_cmp row.document document) (slice_cmp nat_cmp row.package_id id)
+held_side document id row = ordering_then (nat_cmp row.document document)
+    (slice_cmp nat_cmp row.package_id id)
 
 -- it is this release at this place
 abbrev pub is_of : ℕ → List ℕ → Holder → Bool
@@ -34,35 +36,49 @@ is_of place release row = (row.place == place) && bytes_eq row.release release
 
 -- both
 abbrev pub is_holding : ℕ → List ℕ → ℕ → List ℕ → Holder → Bool
-is_holding document id place release row = (is_held document id row && (row.place == place)) && bytes_eq row.release release
+is_holding document id place release row = (is_held document id row && (row.place == place))
+    && bytes_eq row.release release
 
 abbrev pub holding_side : ℕ → List ℕ → ℕ → List ℕ → Holder → Ordering
 holding_side document id place release row =
-    ordering_then (ordering_then (held_side document id row) (nat_cmp row.place place)) (slice_cmp nat_cmp row.release release)
+    ordering_then (ordering_then (held_side document id row) (nat_cmp row.place place))
+    (slice_cmp nat_cmp row.release release)
 
 -- the release with this name holds a choice for this package
 abbrev pub is_holder : List ℕ → ℕ → List ℕ → Holder → Bool
 is_holder release document id row = bytes_eq row.release release && is_held document id row
 
 abbrev pub holder_of : List ℕ → ℕ → ℕ → List ℕ → Holder
-holder_of release place document id = record { document = document; package_id = id; place = place; release = release }
+holder_of release place document id = record {
+  document = document;
+  package_id = id;
+  place = place;
+  release = release;
+}
 
--- They are the holders of these tables: each is at the place of its release, a release is among them for a package if and only if it holds a choice for it, and
--- no two releases have the same name.
+-- They are the holders of these tables: each is at the place of its release, a release is among
+-- them for a package if and only if it holds a choice for it, and no two releases have the same
+-- name.
 pub record AreHolders (holders : List Holder) (t : Tables) : Type 0 where
-  pub placed : (holder : Holder) → IsIn holder holders → place_found t.releases holder.release ≡ Some holder.place
-  pub holding : (r : List ℕ) (d : ℕ) (p : List ℕ) → list_any (is_holder r d p) holders ≡ list_any (is_choice_of r d p) t.choice
-  pub apart : (row : ReleaseRow) → IsIn row t.releases → place_found t.releases row.name ≡ Some row.place
+  pub placed : (holder : Holder) → IsIn holder holders
+      → place_found t.releases holder.release ≡ Some holder.place
+  pub holding : (r : List ℕ) (d : ℕ) (p : List ℕ)
+      → list_any (is_holder r d p) holders ≡ list_any (is_choice_of r d p) t.choice
+  pub apart : (row : ReleaseRow) → IsIn row t.releases
+      → place_found t.releases row.name ≡ Some row.place
 
 -- after a choice for a package, in the release at a place
 abbrev pub choosing : List ℕ → Option ℕ → ℕ → List ℕ → List ChoiceRow → List Holder → List Holder
 choosing release None document id rows all = all
-choosing release (Some place) document id [] all = filter (λ holder. not (is_holding document id place release holder)) all
-choosing release (Some place) document id (row ∷ rows) all = replaced (below_by holder_order) (is_holding document id place release) (holder_of release place document id) all
+choosing release (Some place) document id [] all = filter
+    (λ holder. not (is_holding document id place release holder)) all
+choosing release (Some place) document id (row ∷ rows) all = replaced (below_by holder_order)
+    (is_holding document id place release) (holder_of release place document id) all
 
 -- it holds one of these choices, in the release at this place
 abbrev pub is_among : ℕ → List ChoiceRow → Holder → Bool
-is_among place rows holder = list_any (λ row. is_holding row.document row.package_id place row.release holder) rows
+is_among place rows holder = list_any
+    (λ row. is_holding row.document row.package_id place row.release holder) rows
 
 -- after a release at a place no longer holds any of these choices
 abbrev pub letting_go : ℕ → List ChoiceRow → List Holder → List Holder
@@ -79,6 +95,8 @@ withdrawing release (Some place) all = filter (λ holder. not (is_of place relea
 
 -- after a change of these tables
 abbrev pub holders_after : Change → Tables → List Holder → List Holder
-holders_after (change.Chosen release document id rows) t all = choosing release (place_found t.releases release) document id rows all
-holders_after (change.Withdrew release rows) t all = leaving (place_found t.releases release) (filter (is_choice_in release) t.choice) all
+holders_after (change.Chosen release document id rows) t all = choosing release
+    (place_found t.releases release) document id rows all
+holders_after (change.Withdrew release rows) t all = leaving (place_found t.releases release)
+    (filter (is_choice_in release) t.choice) all
 holders_after _ t all = all

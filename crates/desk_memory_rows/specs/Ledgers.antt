@@ -1,5 +1,6 @@
 -- Duties in the order of their numbers, and changes grouped by duties.
-use Rattle.std.specs.Prelude.{◌≡◌, ℕ, zero, suc, ◌++◌, ◌+◌, ◌-◌, ◌==◌, ◌&&◌, nat_le, nat_lt, Bool, true, List, [], ◌∷◌, length, filter, map, Option, None}
+use Rattle.std.specs.Prelude.{◌≡◌, ℕ, zero, suc, ◌++◌, ◌+◌, ◌-◌, ◌==◌, ◌&&◌, nat_le, nat_lt, Bool}
+use Rattle.std.specs.Prelude.{true, List, [], ◌∷◌, length, filter, map, Option, None}
 use Rattle.std.specs.List.{flat_map, list_all, last_or}
 use Rattle.std.specs.Option.{option_and_then}
 use Rattle.desk_model.specs.Lists.{updated}
@@ -42,27 +43,34 @@ more_at (g ∷ gs) (suc i) row = g ∷ more_at gs i row
 
 -- the changes, each in a group of its own, grouped from n
 abbrev pub AreSingles : ℕ → List ChangeRow → List (List ChangeRow) → Type 0
-AreSingles n changes groups = (grouped n groups ≡ true) × (all_of groups ≡ changes) × (length groups ≡ length changes)
+AreSingles n changes groups = (grouped n groups ≡ true) × (all_of groups ≡ changes)
+    × (length groups ≡ length changes)
 
 -- among all changes of this many duties the next one of its own duty, whose number is above n
 abbrev pub is_in_turn : ℕ → ℕ → List ChangeRow → ChangeRow → Bool
 is_in_turn n count all row =
-    nat_lt n row.duty && (nat_le row.duty count && (row.step == length (filter (is_change_of row.duty) all) + 1))
+    nat_lt n row.duty && (nat_le row.duty count
+    && (row.step == length (filter (is_change_of row.duty) all) + 1))
 
 -- the next ones of their duties, by rising numbers above n
 abbrev pub are_in_turn : ℕ → ℕ → List ChangeRow → List ChangeRow → Bool
 are_in_turn n count all [] = true
-are_in_turn n count all (row ∷ rows) = is_in_turn n count all row && are_in_turn row.duty count all rows
+are_in_turn n count all (row ∷ rows) = is_in_turn n count all row
+    && are_in_turn row.duty count all rows
 
 -- duties with the numbers that follow this many, each with its first change
 abbrev pub can_append : ℕ → List DutyRow → List ChangeRow → Bool
-can_append count duties changes = numbered (count + 1) duties && (are_first (count + 1) changes && (length changes == length duties))
+can_append count duties changes = numbered (count + 1) duties
+    && (are_first (count + 1) changes && (length changes == length duties))
 
 -- the duties and changes of a change follow these duties and groups
 abbrev pub can_take : Change → List DutyRow → List (List ChangeRow) → Bool
-can_take (change.Froze release revision rows new changes) duties groups = can_append (length duties) new changes
-can_take (change.Moved changes) duties groups = are_in_turn 0 (length groups) (all_of groups) changes
-can_take (change.Withdrew release changes) duties groups = are_in_turn 0 (length groups) (all_of groups) changes
+can_take (change.Froze release revision rows new changes) duties groups = can_append (length duties)
+    new changes
+can_take (change.Moved changes) duties groups = are_in_turn 0 (length groups) (all_of groups)
+    changes
+can_take (change.Withdrew release changes) duties groups = are_in_turn 0 (length groups)
+    (all_of groups) changes
 can_take _ duties groups = true
 
 -- the groups with each change after the others of its duty, the last one first
@@ -88,7 +96,8 @@ ArePlaces count changes places = (map place_of changes ≡ places) × AreWithin 
 -- the duties in these states, the last one set first
 abbrev pub standing_by : List Place → List DutyRow → List DutyRow
 standing_by [] rows = rows
-standing_by (place ∷ places) rows = updated (is_duty place.duty) (with_duty_state place.state) (standing_by places rows)
+standing_by (place ∷ places) rows = updated (is_duty place.duty) (with_duty_state place.state)
+    (standing_by places rows)
 
 -- the last day of the last change
 abbrev pub end_in : List ChangeRow → Option (List ℕ)
@@ -96,8 +105,13 @@ end_in rows = option_and_then (λ change. change.last_day) (last_or None rows)
 
 -- a duty with these changes is waived until a day before this one
 abbrev pub ends_in : List ChangeRow → List ℕ → DutyRow → Bool
-ends_in changes day row = has_ended day row.state (end_in (filter (is_change_of row.number) changes))
+ends_in changes day row = has_ended day row.state
+    (end_in (filter (is_change_of row.number) changes))
 
 -- the state of a duty with these changes, and how many they are
 abbrev pub standing_in : List ChangeRow → DutyRow → Standing
-standing_in changes row = record { number = row.number; state = row.state; steps = length (filter (is_change_of row.number) changes) }
+standing_in changes row = record {
+  number = row.number;
+  state = row.state;
+  steps = length (filter (is_change_of row.number) changes);
+}

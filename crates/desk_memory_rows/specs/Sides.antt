@@ -8,16 +8,20 @@ use Rattle.desk_model.specs.declared.row.ConclusionRow.{ConclusionRow}
 use Rattle.desk_model.specs.declared.row.ChoiceRow.{ChoiceRow}
 
 abbrev pub conclusion_side : ℕ → List ℕ → ConclusionRow → Ordering
-conclusion_side document id row = ordering_then (nat_cmp row.document document) (slice_cmp nat_cmp row.package_id id)
+conclusion_side document id row = ordering_then (nat_cmp row.document document)
+    (slice_cmp nat_cmp row.package_id id)
 
 abbrev pub adoption_side : ℕ → List ℕ → AdoptionRow → Ordering
-adoption_side document reference row = ordering_then (nat_cmp row.document document) (slice_cmp nat_cmp row.reference reference)
+adoption_side document reference row = ordering_then (nat_cmp row.document document)
+    (slice_cmp nat_cmp row.reference reference)
 
 abbrev pub adoptions_side : ℕ → AdoptionRow → Ordering
 adoptions_side document row = nat_cmp row.document document
 
 abbrev pub choice_side : List ℕ → ℕ → List ℕ → ChoiceRow → Ordering
-choice_side release document id row = ordering_then (ordering_then (slice_cmp nat_cmp row.release release) (nat_cmp row.document document)) (slice_cmp nat_cmp row.package_id id)
+choice_side release document id row = ordering_then
+    (ordering_then (slice_cmp nat_cmp row.release release) (nat_cmp row.document document))
+    (slice_cmp nat_cmp row.package_id id)
 
 abbrev pub holder_side : List ℕ → ChoiceRow → Ordering
 holder_side release row = slice_cmp nat_cmp row.release release

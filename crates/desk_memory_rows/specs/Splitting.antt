@@ -7,7 +7,8 @@ use Rattle.std.specs.Str.{bytes_eq}
 use Rattle.std.specs.declared.cmp.Ordering.{Ordering}
 use Rattle.std.specs.declared.cmp.Ordering.TheVariants.{Less, Equal, Greater}
 use Rattle.std.proofs.lemmas.Cmp.{on_total, then_total, nat_list_cmp_total, nat_cmp_total}
-use Rattle.desk_model.specs.Keys.{adoption_order, choice_order, conclusion_order, is_adoption, is_conclusion, is_choice_of}
+use Rattle.desk_model.specs.Keys.{adoption_order, choice_order, conclusion_order, is_adoption}
+use Rattle.desk_model.specs.Keys.{is_conclusion, is_choice_of}
 use Rattle.desk_model.specs.declared.row.AdoptionRow.{AdoptionRow}
 use Rattle.desk_model.specs.declared.row.ConclusionRow.{ConclusionRow}
 use Rattle.desk_model.specs.declared.row.ChoiceRow.{ChoiceRow}
@@ -17,7 +18,8 @@ use Rattle.desk_memory_rows.specs.Sides.{conclusion_side, adoption_side, adoptio
 
 -- What keys begin with
 
-three_less : (a b c d : Ordering) → is_lt (ordering_then (ordering_then a b) c) ≡ true → is_lt (ordering_then a (ordering_then b (ordering_then c d))) ≡ true
+three_less : (a b c d : Ordering) → is_lt (ordering_then (ordering_then a b) c) ≡ true
+    → is_lt (ordering_then a (ordering_then b (ordering_then c d))) ≡ true
 three_less Less b c d e = refl
 three_less Equal Less c d e = refl
 three_less Equal Equal c d e = first_less c d e
@@ -25,41 +27,62 @@ three_less Equal Greater c d e = cc
 three_less Greater b c d e = cc
 
 abbrev three_cmp : List ℕ × ℕ × List ℕ → List ℕ × ℕ × List ℕ → Ordering
-three_cmp = then_cmp (then_cmp (on (λ p. p.0) (slice_cmp nat_cmp)) (on (λ p. p.1) nat_cmp)) (on (λ p. p.2) (slice_cmp nat_cmp))
+three_cmp = then_cmp (then_cmp (on (λ p. p.0) (slice_cmp nat_cmp)) (on (λ p. p.1) nat_cmp))
+    (on (λ p. p.2) (slice_cmp nat_cmp))
 
-pub conclusion_splits : (document : ℕ) (id : List ℕ) → IsSideOf conclusion_order (conclusion_side document id)
-conclusion_splits document id = side_by conclusion_order (λ row. (row.document, row.package_id)) number_cmp number_total (λ x y e. e) (document, id)
+pub conclusion_splits : (document : ℕ) (id : List ℕ)
+    → IsSideOf conclusion_order (conclusion_side document id)
+conclusion_splits document id = side_by conclusion_order (λ row. (row.document, row.package_id))
+    number_cmp number_total (λ x y e. e) (document, id)
 
-pub adoption_splits : (document : ℕ) (reference : List ℕ) → IsSideOf adoption_order (adoption_side document reference)
-adoption_splits document reference = side_by adoption_order (λ row. (row.document, row.reference)) number_cmp number_total (λ x y e. e) (document, reference)
+pub adoption_splits : (document : ℕ) (reference : List ℕ)
+    → IsSideOf adoption_order (adoption_side document reference)
+adoption_splits document reference = side_by adoption_order (λ row. (row.document, row.reference))
+    number_cmp number_total (λ x y e. e) (document, reference)
 
 pub adoptions_splits : (document : ℕ) → IsSideOf adoption_order (adoptions_side document)
 adoptions_splits document =
-    side_by adoption_order (λ row. row.document) nat_cmp nat_cmp_total (λ x y e. first_less (nat_cmp y.document x.document) (slice_cmp nat_cmp y.reference x.reference) e) document
+    side_by adoption_order (λ row. row.document) nat_cmp nat_cmp_total
+    (λ x y e. first_less (nat_cmp y.document x.document) (slice_cmp nat_cmp y.reference x.reference)
+    e) document
 
 pub holder_splits : (release : List ℕ) → IsSideOf choice_order (holder_side release)
-holder_splits release = side_by choice_order (λ row. row.release) (slice_cmp nat_cmp) nat_list_cmp_total (λ x y e. first_less (slice_cmp nat_cmp y.release x.release) _ e) release
+holder_splits release = side_by choice_order (λ row. row.release) (slice_cmp nat_cmp)
+    nat_list_cmp_total (λ x y e. first_less (slice_cmp nat_cmp y.release x.release) _ e) release
 
-pub choice_splits : (release : List ℕ) (document : ℕ) (id : List ℕ) → IsSideOf choice_order (choice_side release document id)
+pub choice_splits : (release : List ℕ) (document : ℕ) (id : List ℕ)
+    → IsSideOf choice_order (choice_side release document id)
 choice_splits release document id =
     side_by choice_order (λ row. (row.release, row.document, row.package_id)) three_cmp
-    (then_total (then_total (on_total (λ p. p.0) nat_list_cmp_total) (on_total (λ p. p.1) nat_cmp_total)) (on_total (λ p. p.2) nat_list_cmp_total))
-    (λ x y e. three_less (slice_cmp nat_cmp y.release x.release) (nat_cmp y.document x.document) (slice_cmp nat_cmp y.package_id x.package_id) (slice_cmp nat_cmp y.term x.term) e)
+    (then_total (then_total (on_total (λ p. p.0) nat_list_cmp_total)
+    (on_total (λ p. p.1) nat_cmp_total)) (on_total (λ p. p.2) nat_list_cmp_total))
+    (λ x y e. three_less (slice_cmp nat_cmp y.release x.release) (nat_cmp y.document x.document)
+    (slice_cmp nat_cmp y.package_id x.package_id) (slice_cmp nat_cmp y.term x.term) e)
     (release, document, id)
 
 -- The rows with a key are those on neither side of it
 
-pub conclusion_meets : (document : ℕ) (id : List ℕ) (row : ConclusionRow) → is_conclusion document id row ≡ is_eq (conclusion_side document id row)
+pub conclusion_meets : (document : ℕ) (id : List ℕ) (row : ConclusionRow)
+    → is_conclusion document id row ≡ is_eq (conclusion_side document id row)
 conclusion_meets document id row =
-    then_meets (nat_cmp row.document document) (slice_cmp nat_cmp row.package_id id) (row.document == document) (bytes_eq row.package_id id) (numbers_meet row.document document) (texts_meet row.package_id id)
+    then_meets (nat_cmp row.document document) (slice_cmp nat_cmp row.package_id id)
+    (row.document == document) (bytes_eq row.package_id id) (numbers_meet row.document document)
+    (texts_meet row.package_id id)
 
-pub adoption_meets : (document : ℕ) (reference : List ℕ) (row : AdoptionRow) → is_adoption document reference row ≡ is_eq (adoption_side document reference row)
+pub adoption_meets : (document : ℕ) (reference : List ℕ) (row : AdoptionRow)
+    → is_adoption document reference row ≡ is_eq (adoption_side document reference row)
 adoption_meets document reference row =
-    then_meets (nat_cmp row.document document) (slice_cmp nat_cmp row.reference reference) (row.document == document) (bytes_eq row.reference reference) (numbers_meet row.document document) (texts_meet row.reference reference)
+    then_meets (nat_cmp row.document document) (slice_cmp nat_cmp row.reference reference)
+    (row.document == document) (bytes_eq row.reference reference)
+    (numbers_meet row.document document) (texts_meet row.reference reference)
 
-pub choice_meets : (release : List ℕ) (document : ℕ) (id : List ℕ) (row : ChoiceRow) → is_choice_of release document id row ≡ is_eq (choice_side release document id row)
+pub choice_meets : (release : List ℕ) (document : ℕ) (id : List ℕ) (row : ChoiceRow)
+    → is_choice_of release document id row ≡ is_eq (choice_side release document id row)
 choice_meets release document id row =
-    then_meets (ordering_then (slice_cmp nat_cmp row.release release) (nat_cmp row.document document)) (slice_cmp nat_cmp row.package_id id)
+    then_meets (ordering_then (slice_cmp nat_cmp row.release release)
+    (nat_cmp row.document document)) (slice_cmp nat_cmp row.package_id id)
     (bytes_eq row.release release && (row.document == document)) (bytes_eq row.package_id id)
-    (then_meets (slice_cmp nat_cmp row.release release) (nat_cmp row.document document) (bytes_eq row.release release) (row.document == document) (texts_meet row.release release) (numbers_meet row.document document))
+    (then_meets (slice_cmp nat_cmp row.release release) (nat_cmp row.document document)
+    (bytes_eq row.release release) (row.document == document) (texts_meet row.release release)
+    (numbers_meet row.document document))
     (texts_meet row.package_id id)

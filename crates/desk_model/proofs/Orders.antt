@@ -23,41 +23,56 @@ less_by Greater e = cc
 pub turned_by : (o p : Ordering) → o ≡ Less → p ≡ ordering_reverse o → is_lt p ≡ false
 turned_by o p e f = ap is_lt (f ∙ ap ordering_reverse e)
 
-pub between_by : {A : Type 0} {order : A → A → Ordering} → IsTotalOrder order → (x y z : A) (o : Ordering) → order z y ≡ o → is_lt o ≡ false → order x y ≡ Less → order x z ≡ Less
+pub between_by : {A : Type 0} {order : A → A → Ordering} → IsTotalOrder order
+    → (x y z : A) (o : Ordering) → order z y ≡ o → is_lt o ≡ false → order x y ≡ Less
+    → order x z ≡ Less
 between_by t x y z Less e f l = cc
 between_by t x y z Equal e f l = alike_right t z y x e ∙ l
 between_by t x y z Greater e f l = t.trans x y z l (t.antisymm y z ∙ ap ordering_reverse e)
 
-pub order_of : {A : Type 0} {order : A → A → Ordering} → IsTotalOrder order → IsOrder (below_by order)
+pub order_of : {A : Type 0} {order : A → A → Ordering} → IsTotalOrder order
+    → IsOrder (below_by order)
 order_of {A} {order} t = record {
   asym = λ x y e. turned_by (order x y) (order y x) (less_by (order x y) e) (t.antisymm y x);
   between = λ x y z e f. ap is_lt (between_by t x y z (order z y) refl f (less_by (order x y) e));
 }
 
-pub over_all : {A : Type 0} (below : A → A → Bool) → IsOrder below → (x y : A) (zs : List A) → below x y ≡ true → over below y zs ≡ true → over below x zs ≡ true
+pub over_all : {A : Type 0} (below : A → A → Bool) → IsOrder below → (x y : A) (zs : List A)
+    → below x y ≡ true → over below y zs ≡ true → over below x zs ≡ true
 over_all below o x y [] e all = refl
 over_all below o x y (z ∷ zs) e all =
-    let here : below z y ≡ false = not_true (below z y) (and_left (not (below z y)) (over below y zs) all) in
+    let here : below z y ≡ false =
+    not_true (below z y) (and_left (not (below z y)) (over below y zs) all) in
     both (not (below z x)) (over below x zs)
     (ap not (o.asym x z (o.between x y z e here)))
     (over_all below o x y zs e (and_right (not (below z y)) (over below y zs) all))
 
-pub over-put : {A : Type 0} (below : A → A → Bool) (x y : A) (zs : List A) → below x y ≡ false → over below y zs ≡ true → over below y (put below x zs) ≡ true
+pub over-put : {A : Type 0} (below : A → A → Bool) (x y : A) (zs : List A) → below x y ≡ false
+    → over below y zs ≡ true → over below y (put below x zs) ≡ true
 over-put below x y [] e all = rw e refl
 over-put below x y (z ∷ zs) e all =
     elim (below x z) as (λ b. over below y (if b then x ∷ z ∷ zs else z ∷ put below x zs) ≡ true) [
       | true ↦ both (not (below x y)) (over below y (z ∷ zs)) (ap not e) all
-      | false ↦ both (not (below z y)) (over below y (put below x zs)) (and_left (not (below z y)) (over below y zs) all) (over-put below x y zs e (and_right (not (below z y)) (over below y zs) all))
+      | false ↦ both (not (below z y)) (over below y (put below x zs))
+          (and_left (not (below z y)) (over below y zs) all)
+          (over-put below x y zs e (and_right (not (below z y)) (over below y zs) all))
     ]
 
-pub put_step : {A : Type 0} (below : A → A → Bool) → IsOrder below → (x y : A) (ys : List A) (b : Bool) → below x y ≡ b → ascends below (y ∷ ys) ≡ true → ascends below (put below x ys) ≡ true → ascends below (if b then x ∷ y ∷ ys else y ∷ put below x ys) ≡ true
+pub put_step : {A : Type 0} (below : A → A → Bool) → IsOrder below
+    → (x y : A) (ys : List A) (b : Bool) → below x y ≡ b → ascends below (y ∷ ys) ≡ true
+    → ascends below (put below x ys) ≡ true
+    → ascends below (if b then x ∷ y ∷ ys else y ∷ put below x ys) ≡ true
 put_step below o x y ys true e up rest =
     both (over below x (y ∷ ys)) (ascends below (y ∷ ys))
-    (both (not (below y x)) (over below x ys) (ap not (o.asym x y e)) (over_all below o x y ys e (and_left (over below y ys) (ascends below ys) up)))
+    (both (not (below y x)) (over below x ys) (ap not (o.asym x y e))
+    (over_all below o x y ys e (and_left (over below y ys) (ascends below ys) up)))
     up
 put_step below o x y ys false e up rest =
-    both (over below y (put below x ys)) (ascends below (put below x ys)) (over-put below x y ys e (and_left (over below y ys) (ascends below ys) up)) rest
+    both (over below y (put below x ys)) (ascends below (put below x ys))
+    (over-put below x y ys e (and_left (over below y ys) (ascends below ys) up)) rest
 
-pub ascends-put : {A : Type 0} (below : A → A → Bool) → IsOrder below → (x : A) (ys : List A) → ascends below ys ≡ true → ascends below (put below x ys) ≡ true
+pub ascends-put : {A : Type 0} (below : A → A → Bool) → IsOrder below → (x : A) (ys : List A)
+    → ascends below ys ≡ true → ascends below (put below x ys) ≡ true
 ascends-put below o x [] up = refl
-ascends-put below o x (y ∷ ys) up = put_step below o x y ys (below x y) refl up (ascends-put below o x ys (and_right (over below y ys) (ascends below ys) up))
+ascends-put below o x (y ∷ ys) up = put_step below o x y ys (below x y) refl up
+    (ascends-put below o x ys (and_right (over below y ys) (ascends below ys) up))

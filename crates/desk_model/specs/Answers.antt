@@ -1,5 +1,8 @@
--- The answer to each command: the first refusal that applies, or else what was done. Each is a function of what is looked up.
-use Rattle.std.specs.Prelude.{ℕ, ◌+◌, filter, map, ◌&&◌, ◌||◌, nat_lt, nat_le, not, Bool, true, false, List, [], ◌∷◌, length, find, slice_index_or, Option, Some, None, is_some, is_none, unwrap_or, Result, IsTrue, if◌then◌else◌}
+-- The answer to each command: the first refusal that applies, or else what was done. Each is a
+-- function of what is looked up.
+use Rattle.std.specs.Prelude.{ℕ, ◌+◌, filter, map, ◌&&◌, ◌||◌, nat_lt, nat_le, not, Bool, true}
+use Rattle.std.specs.Prelude.{false, List, [], ◌∷◌, length, find, slice_index_or, Option, Some}
+use Rattle.std.specs.Prelude.{None, is_some, is_none, unwrap_or, Result, IsTrue, if◌then◌else◌}
 use Rattle.std.specs.List.{list_any, filter_map}
 use Rattle.std.specs.Option.{option_map, option_map_or, option_and_then}
 use Rattle.std.specs.Result.{result_ok, result_err}
@@ -10,8 +13,10 @@ use Rattle.desk_model.specs.Lists.{or_else}
 use Rattle.desk_model.specs.Texts.{is_before, is_release_name, is_note}
 use Rattle.desk_model.specs.Readings.{Readings}
 use Rattle.desk_model.specs.Keys.{is_document, has_namespace, is_package, is_attachment, is_adoption_in}
-use Rattle.desk_model.specs.History.{revisions, in_force, rules_in, forms_in, documents, packages, choice, opened, form_of, state_of, attached, attached_to}
-use Rattle.desk_model.specs.Conclusions.{conclusions, conclusion_in, adoptions, adoption_row, licence_for, is_reference, is_plain, holder}
+use Rattle.desk_model.specs.History.{revisions, in_force, rules_in, forms_in, documents, packages}
+use Rattle.desk_model.specs.History.{choice, opened, form_of, state_of, attached, attached_to}
+use Rattle.desk_model.specs.Conclusions.{conclusions, conclusion_in, adoptions, adoption_row}
+use Rattle.desk_model.specs.Conclusions.{licence_for, is_reference, is_plain, holder}
 use Rattle.desk_model.specs.Tables.{release_rows, choices}
 use Rattle.desk_model.specs.declared.row.Owed.{Owed}
 use Rattle.desk_model.specs.Raised.{shipped, rule_adopted, chosen_in, owed_at, raised, numbered}
@@ -41,7 +46,11 @@ use Rattle.desk_model.specs.declared.state.DutyState.{DutyState}
 use Rattle.desk_model.specs.declared.command.Answer.{Answer}
 use Rattle.desk_model.specs.declared.command.Answer.TheVariants as answered
 use Rattle.desk_model.specs.declared.command.Command.{Command}
-use Rattle.desk_model.specs.declared.command.Command.TheVariants.{LoadCatalogue, Import, OpenRelease, Attach, Choose, Unchoose, Freeze, Meet, Waive, Reopen, Withdraw, CloseDay, Conclude, Adopt}
+use Rattle.desk_model.specs.declared.command.Command.TheVariants.{LoadCatalogue, Import}
+use Rattle.desk_model.specs.declared.command.Command.TheVariants.{OpenRelease, Attach, Choose}
+use Rattle.desk_model.specs.declared.command.Command.TheVariants.{Unchoose, Freeze, Meet, Waive}
+use Rattle.desk_model.specs.declared.command.Command.TheVariants.{Reopen, Withdraw, CloseDay}
+use Rattle.desk_model.specs.declared.command.Command.TheVariants.{Conclude, Adopt}
 
 -- the refusal, or the answer if there is none
 abbrev pub refused_or : Option Refusal → Answer → Answer
@@ -75,7 +84,8 @@ load_answer catalogue found = refused_first (
 
 -- the document with the namespace of one that was read
 abbrev pub same_namespace : Result Document DocumentFault → List DocumentRow → Option DocumentRow
-same_namespace document rows = option_and_then (λ d. find (has_namespace d.namespace) rows) (result_ok document)
+same_namespace document rows = option_and_then (λ d. find (has_namespace d.namespace) rows)
+    (result_ok document)
 
 -- a document with other bytes
 abbrev pub taken : List ℕ → DocumentRow → Option Refusal
@@ -92,10 +102,13 @@ import_answer document bytes found =
     refused_first (
     option_map (λ fault. why.BadDocument fault) (result_err document)
     ∷ option_and_then (taken bytes) old
-    ∷ unless (is_some old || nat_lt (length found.documents) most.documents) (why.Full limit.Documents)
-    ∷ []) (option_map_or (λ row. answered.Again row.number) old (answered.Imported (length found.documents + 1)))
+    ∷ unless (is_some old || nat_lt (length found.documents) most.documents)
+    (why.Full limit.Documents)
+    ∷ []) (option_map_or (λ row. answered.Again row.number) old
+    (answered.Imported (length found.documents + 1)))
 
--- what an OpenRelease looks up: the forms in force, whether the name is taken, how many releases there are
+-- what an OpenRelease looks up: the forms in force, whether the name is taken, how many releases
+-- there are
 pub record Opening : Type 0 where
   pub forms : List (List ℕ)
   pub is_taken : Bool
@@ -114,7 +127,8 @@ abbrev pub unready : ReleaseState → Option Refusal
 unready release.IsOpen = None
 unready state = Some (why.ReleaseState state)
 
--- what an Attach looks up: the release's state, the document, whether it is attached already, how many are
+-- what an Attach looks up: the release's state, the document, whether it is attached already, how
+-- many are
 pub record Attaching : Type 0 where
   pub state : Option ReleaseState
   pub has_document : Bool
@@ -149,8 +163,8 @@ abbrev pub not_minimal : List (List ℕ) → Verdict → Option Refusal
 not_minimal terms (verdict.Superfluous i) = Some (why.NotMinimal (slice_index_or terms i []))
 not_minimal terms _ = None
 
--- what a Choose looks up: the release's state, the document, the package, whether the document is attached, and the package's
--- conclusion
+-- what a Choose looks up: the release's state, the document, the package, whether the document is
+-- attached, and the package's conclusion
 pub record Choosing : Type 0 where
   pub state : Option ReleaseState
   pub has_document : Bool
@@ -181,7 +195,8 @@ choose_answer w texts found =
     ∷ option_and_then (not_minimal terms) (verdict_on w found.conclusion terms)
     ∷ []) answered.Done
 
--- what an Unchoose looks up: the release's state, the document, the package, the terms chosen for it
+-- what an Unchoose looks up: the release's state, the document, the package, the terms chosen for
+-- it
 pub record Unchoosing : Type 0 where
   pub state : Option ReleaseState
   pub has_document : Bool
@@ -206,20 +221,26 @@ unchosen p (t ∷ ts) = None
 -- a reference of the document without adoption
 abbrev pub unadopted : Readings → List AdoptionRow → ℕ → List ℕ → Option Refusal
 unadopted w licences d term =
-    option_and_then (λ reference. unless (is_some (licence_for licences d reference)) (why.NotAdopted d reference)) (w.reference term)
+    option_and_then (λ reference. unless (is_some (licence_for licences d reference))
+    (why.NotAdopted d reference)) (w.reference term)
 
 abbrev pub first_unadopted : Readings → List AdoptionRow → ℕ → List (List ℕ) → Option Refusal
 first_unadopted w licences d terms = first_refusal (map (unadopted w licences d) terms)
 
 -- a term whose adopted form has no rule
-abbrev pub unruled : Readings → List AdoptionRow → List Rule → List ℕ → PackageRow → List ℕ → Option Refusal
-unruled w licences rules form p term = unless (is_some (rule_adopted w licences rules form p.document term)) (why.NoRule p.document p.id term)
+abbrev pub unruled : Readings → List AdoptionRow → List Rule → List ℕ → PackageRow → List ℕ
+    → Option Refusal
+unruled w licences rules form p term = unless
+    (is_some (rule_adopted w licences rules form p.document term)) (why.NoRule p.document p.id term)
 
-abbrev pub first_unruled : Readings → List AdoptionRow → List Rule → List ℕ → PackageRow → List (List ℕ) → Option Refusal
-first_unruled w licences rules form p terms = first_refusal (map (unruled w licences rules form p) terms)
+abbrev pub first_unruled : Readings → List AdoptionRow → List Rule → List ℕ → PackageRow
+    → List (List ℕ) → Option Refusal
+first_unruled w licences rules form p terms = first_refusal
+    (map (unruled w licences rules form p) terms)
 
 -- why a package with this conclusion and these terms fails
-abbrev pub package_fault : Readings → List AdoptionRow → List Rule → List ℕ → Option Conclusion → List (List ℕ) → PackageRow → Option Refusal
+abbrev pub package_fault : Readings → List AdoptionRow → List Rule → List ℕ → Option Conclusion
+    → List (List ℕ) → PackageRow → Option Refusal
 package_fault w licences rules form conclusion terms p = first_refusal (
     unconcluded conclusion p
     ∷ unchosen p terms
@@ -227,11 +248,14 @@ package_fault w licences rules form conclusion terms p = first_refusal (
     ∷ first_unruled w licences rules form p terms
     ∷ [])
 
-abbrev pub walk : Readings → List AdoptionRow → List Rule → List ℕ → (PackageRow → Option Conclusion) → (PackageRow → List (List ℕ)) → List PackageRow → Option Refusal
-walk w licences rules form conclusion chosen ps = first_refusal (map (λ p. package_fault w licences rules form (conclusion p) (chosen p) p) ps)
+abbrev pub walk : Readings → List AdoptionRow → List Rule → List ℕ
+    → (PackageRow → Option Conclusion) → (PackageRow → List (List ℕ)) → List PackageRow
+    → Option Refusal
+walk w licences rules form conclusion chosen ps = first_refusal
+    (map (λ p. package_fault w licences rules form (conclusion p) (chosen p) p) ps)
 
--- what a Freeze looks up: the release's state, how many documents are attached, what the walk refuses, how many duties there are, and
--- how many it would raise
+-- what a Freeze looks up: the release's state, how many documents are attached, what the walk
+-- refuses, how many duties there are, and how many it would raise
 pub record Freezing : Type 0 where
   pub state : Option ReleaseState
   pub attached : ℕ
@@ -262,7 +286,8 @@ settled word state = unless (goes_from word state) (why.DutyState state)
 abbrev pub is_over : List ℕ → Option (List ℕ) → Bool
 is_over day until = option_map_or (λ last. is_before last day) until false
 
--- what a Meet, a Waive and a Reopen look up: the duty's state, the state of its release, how many changes it has
+-- what a Meet, a Waive and a Reopen look up: the duty's state, the state of its release, how many
+-- changes it has
 pub record Moving : Type 0 where
   pub place : Option DutyState
   pub release : ReleaseState
@@ -301,7 +326,8 @@ close_answer day found = refused_first (
     unless (is_day day) why.BadDay
     ∷ []) (answered.Closed found.ended)
 
--- what a Conclude looks up: why the text is no expression, the document, the package, the release that holds a choice for it
+-- what a Conclude looks up: why the text is no expression, the document, the package, the release
+-- that holds a choice for it
 pub record Concluding : Type 0 where
   pub fault : Option ExpressionFault
   pub has_document : Bool
@@ -316,8 +342,8 @@ conclude_answer found = refused_first (
     ∷ option_map (λ r. why.Chosen r) found.holder
     ∷ []) answered.Done
 
--- what an Adopt looks up: whether its texts are a reference alone and a licence alone, the document, whether the reference is adopted already, and how many
--- references of the document are
+-- what an Adopt looks up: whether its texts are a reference alone and a licence alone, the
+-- document, whether the reference is adopted already, and how many references of the document are
 pub record Adopting : Type 0 where
   pub is_reference : Bool
   pub is_licence : Bool
@@ -345,7 +371,8 @@ conclusion w h = conclusion_in w (documents w h) (conclusions h)
 
 -- the state of a duty's release
 abbrev pub release_state_of : List Command → Option (ℕ × Owed) → ReleaseState
-release_state_of h duty = option_map_or (λ d. unwrap_or (release_state h d.1.release) release.IsOpen) duty release.IsOpen
+release_state_of h duty = option_map_or
+    (λ d. unwrap_or (release_state h d.1.release) release.IsOpen) duty release.IsOpen
 
 -- a document was imported
 abbrev pub has_document : Readings → List Command → ℕ → Bool
@@ -400,7 +427,8 @@ freezing w h r =
     record {
       state = release_state h r;
       attached = length (attached_to (attached h) r);
-      fault = walk w (adoptions w h) (rules_in (in_force w h)) form (conclusion w h) (chosen_in w h r) (shipped w h r);
+      fault = walk w (adoptions w h) (rules_in (in_force w h)) form (conclusion w h)
+          (chosen_in w h r) (shipped w h r);
       raised = length (raised w h);
       owed = length (owed_at w h r);
     }
@@ -436,7 +464,8 @@ withdrawing h r = record { state = release_state h r }
 
 abbrev pub closing : Readings → List Command → List ℕ → Closing
 closing w h day = record {
-  ended = length (filter (λ d. has_ended day (place w h d.0) (end_after (moves w h d.0))) (numbered w h));
+  ended = length (filter (λ d. has_ended day (place w h d.0) (end_after (moves w h d.0)))
+      (numbered w h));
 }
 
 -- The answer to a command after a history
@@ -458,9 +487,11 @@ answer w h (CloseDay day) = close_answer day (closing w h day)
 
 -- whether it is refused because of its days or its text
 abbrev pub refused_by : List ℕ → List ℕ → Option (List ℕ) → Bool
-refused_by day text until = not (is_day day && option_map_or is_day until true && is_note text && not (is_over day until))
+refused_by day text until = not (is_day day && option_map_or is_day until true && is_note text
+    && not (is_over day until))
 
--- a refusal that is decided from the command alone: its texts are no catalogue, document, term, name, day or note, or its waiver would end before its day
+-- a refusal that is decided from the command alone: its texts are no catalogue, document, term,
+-- name, day or note, or its waiver would end before its day
 abbrev pub refused_alone : Readings → Command → Bool
 refused_alone w (LoadCatalogue text) = is_none (result_ok (w.catalogue text))
 refused_alone w (Import bytes profile) = is_none (result_ok (w.document bytes))

@@ -1,5 +1,7 @@
--- The bill of a frozen release: its packages with the rules that they were frozen with, and the texts of their terms.
-use Rattle.std.specs.Prelude.{ℕ, ◌==◌, ◌&&◌, not, Bool, false, List, [], ◌∷◌, ◌++◌, find, filter, map, Option, None, unwrap_or}
+-- The bill of a frozen release: its packages with the rules that they were frozen with, and the
+-- texts of their terms.
+use Rattle.std.specs.Prelude.{ℕ, ◌==◌, ◌&&◌, not, Bool, false, List, [], ◌∷◌, ◌++◌, find, filter}
+use Rattle.std.specs.Prelude.{map, Option, None, unwrap_or}
 use Rattle.std.specs.List.{flat_map}
 use Rattle.std.specs.Option.{option_map, option_map_or, option_and_then}
 use Rattle.std.specs.Str.{bytes_eq}
@@ -38,15 +40,18 @@ bill_line frozen r p = record {
 
 -- Texts
 
--- the texts that a term of a document names: that of its reference or licence, then that of its exception
+-- the texts that a term of a document names: that of its reference or licence, then that of its
+-- exception
 abbrev pub texts_named : Readings → ℕ → List ℕ → List TextOf
 texts_named w d term =
-    option_map_or (λ reference. Reference d reference) (w.reference term) (Licence (w.licence_id term))
+    option_map_or (λ reference. Reference d reference) (w.reference term)
+    (Licence (w.licence_id term))
     ∷ option_map_or (λ id. Licence id ∷ []) (w.exception term) []
 
 -- those that a package's terms name
 abbrev pub package_texts : Readings → List FrozenRow → List ℕ → PackageRow → List TextOf
-package_texts w frozen r p = flat_map (λ row. texts_named w row.document row.term) (frozen_terms frozen r p)
+package_texts w frozen r p = flat_map (λ row. texts_named w row.document row.term)
+    (frozen_terms frozen r p)
 
 -- it is the same text: that of one id, or that of one reference of one document
 abbrev pub is_same_text : TextOf → TextOf → Bool
@@ -57,7 +62,8 @@ is_same_text _ _ = false
 -- in the order of first use, each once
 abbrev pub first_uses : List TextOf → List TextOf
 first_uses [] = []
-first_uses (text ∷ texts) = text ∷ filter (λ other. not (is_same_text text other)) (first_uses texts)
+first_uses (text ∷ texts) = text
+    ∷ filter (λ other. not (is_same_text text other)) (first_uses texts)
 
 -- the text of a revision of the catalogue
 abbrev pub revision_text : List CatalogueRow → ℕ → Option (List ℕ)
@@ -65,23 +71,34 @@ revision_text catalogue n = option_map (λ row. row.body) (find (is_revision n) 
 
 -- the text that a document gives for a reference
 abbrev pub extracted_text : List ExtractedRow → ℕ → List ℕ → Option (List ℕ)
-extracted_text extracted d reference = option_and_then (λ row. row.body) (find (is_extracted d reference) extracted)
+extracted_text extracted d reference = option_and_then (λ row. row.body)
+    (find (is_extracted d reference) extracted)
 
 -- the text of a licence or an exception, with what the catalogue has for it
 abbrev pub licence_bill : List ℕ → Option LicenceText → BillText
-licence_bill id found = record { title = option_map_or (λ text. text.title) found id; body = option_map (λ text. text.body) found }
+licence_bill id found = record {
+  title = option_map_or (λ text. text.title) found id;
+  body = option_map (λ text. text.body) found;
+}
 
 abbrev pub bill_text : Readings → Option (List ℕ) → List ExtractedRow → TextOf → BillText
-bill_text w catalogue extracted (Licence id) = licence_bill id (option_and_then (λ text. w.licence_text text id) catalogue)
-bill_text w catalogue extracted (Reference d reference) = record { title = reference; body = extracted_text extracted d reference }
+bill_text w catalogue extracted (Licence id) = licence_bill id
+    (option_and_then (λ text. w.licence_text text id) catalogue)
+bill_text w catalogue extracted (Reference d reference) = record {
+  title = reference;
+  body = extracted_text extracted d reference;
+}
 
--- The bill of a release: the packages that it ships, and the texts of its frozen terms by the catalogue of its freeze.
-abbrev pub bill_of : Readings → List CatalogueRow → List ExtractedRow → List FrozenRow → List PackageRow → ReleaseRow → Bill
+-- The bill of a release: the packages that it ships, and the texts of its frozen terms by the
+-- catalogue of its freeze.
+abbrev pub bill_of : Readings → List CatalogueRow → List ExtractedRow → List FrozenRow
+    → List PackageRow → ReleaseRow → Bill
 bill_of w catalogue extracted frozen ps row = record {
   release = row.name;
   form = row.form;
   lines = map (bill_line frozen row.name) ps;
-  texts = map (bill_text w (revision_text catalogue row.revision) extracted) (first_uses (flat_map (package_texts w frozen row.name) ps));
+  texts = map (bill_text w (revision_text catalogue row.revision) extracted)
+      (first_uses (flat_map (package_texts w frozen row.name) ps));
 }
 
 -- only a frozen release has one

@@ -1,4 +1,5 @@
--- What is reported about a document: the findings of its bytes, by the profile of operators that it was imported with.
+-- What is reported about a document: the findings of its bytes, by the profile of operators that it
+-- was imported with.
 use Rattle.std.specs.Prelude.{ℕ, List, Option, Some, None}
 use Rattle.desk_base.specs.declared.profile.Profile.{Profile}
 use Rattle.desk_model.specs.Readings.{Readings}

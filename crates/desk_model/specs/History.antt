@@ -1,5 +1,6 @@
 -- The recorded history, read by filters and last entries. Its newest command comes first.
-use Rattle.std.specs.Prelude.{ℕ, ◌+◌, ◌==◌, Bool, ◌&&◌, List, [], ◌∷◌, ◌++◌, length, filter, map, find, Option, Some, None, unwrap_or, if◌then◌else◌}
+use Rattle.std.specs.Prelude.{ℕ, ◌+◌, ◌==◌, Bool, ◌&&◌, List, [], ◌∷◌, ◌++◌, length, filter, map}
+use Rattle.std.specs.Prelude.{find, Option, Some, None, unwrap_or, if◌then◌else◌}
 use Rattle.std.specs.List.{filter_map}
 use Rattle.std.specs.Option.{option_map_or, option_and_then}
 use Rattle.std.specs.Result.{result_ok}
@@ -24,14 +25,17 @@ use Rattle.desk_model.specs.declared.row.AttachedRow.{AttachedRow}
 use Rattle.desk_model.specs.declared.state.ReleaseState.{ReleaseState}
 use Rattle.desk_model.specs.declared.state.ReleaseState.TheVariants.{IsOpen, Frozen, Withdrawn}
 use Rattle.desk_model.specs.declared.command.Command.{Command}
-use Rattle.desk_model.specs.declared.command.Command.TheVariants.{LoadCatalogue, Import, OpenRelease, Attach, Choose, Unchoose, Freeze, Withdraw}
+use Rattle.desk_model.specs.declared.command.Command.TheVariants.{LoadCatalogue, Import}
+use Rattle.desk_model.specs.declared.command.Command.TheVariants.{OpenRelease, Attach, Choose}
+use Rattle.desk_model.specs.declared.command.Command.TheVariants.{Unchoose, Freeze, Withdraw}
 
 -- Catalogues
 
 -- the revisions, numbered by their loads from 1
 abbrev pub revisions : List Command → List CatalogueRow
 revisions [] = []
-revisions (LoadCatalogue text ∷ h) = revisions h ++ record { revision = length (revisions h) + 1; body = text } ∷ []
+revisions (LoadCatalogue text ∷ h) = revisions h
+    ++ record { revision = length (revisions h) + 1; body = text } ∷ []
 revisions (_ ∷ h) = revisions h
 
 abbrev pub loaded : Command → Option (List ℕ)
@@ -49,12 +53,19 @@ abbrev pub forms_in : Option Catalogue → List (List ℕ)
 forms_in catalogue = option_map_or (λ c. c.forms) catalogue []
 
 abbrev pub rule_row : ℕ → Rule → RuleRow
-rule_row revision rule = record { revision = revision; term = rule.term; form = rule.form; spelled = rule.spelled; codes = rule.codes }
+rule_row revision rule = record {
+  revision = revision;
+  term = rule.term;
+  form = rule.form;
+  spelled = rule.spelled;
+  codes = rule.codes;
+}
 
 -- the rules of all revisions
 abbrev pub rule_rows : Readings → List Command → List RuleRow
 rule_rows w [] = []
-rule_rows w (LoadCatalogue text ∷ h) = rule_rows w h ++ map (rule_row (length (revisions h) + 1)) (rules_in (result_ok (w.catalogue text)))
+rule_rows w (LoadCatalogue text ∷ h) = rule_rows w h
+    ++ map (rule_row (length (revisions h) + 1)) (rules_in (result_ok (w.catalogue text)))
 rule_rows w (_ ∷ h) = rule_rows w h
 
 -- the rule for a term and a form
@@ -76,7 +87,12 @@ references_in document = option_map_or (λ d. d.references) document []
 abbrev pub documents : Readings → List Command → List DocumentRow
 documents w [] = []
 documents w (Import bytes profile ∷ h) =
-    documents w h ++ record { number = length (documents w h) + 1; namespace = namespace_in (result_ok (w.document bytes)); bytes = bytes; profile = profile } ∷ []
+    documents w h ++ record {
+      number = length (documents w h) + 1;
+      namespace = namespace_in (result_ok (w.document bytes));
+      bytes = bytes;
+      profile = profile;
+    } ∷ []
 documents w (_ ∷ h) = documents w h
 
 abbrev pub package_row : ℕ → Package → PackageRow
@@ -96,13 +112,16 @@ extracted_row document r = record { document = document; reference = r.id; body 
 -- the packages of all documents, by document and id
 abbrev pub packages : Readings → List Command → List PackageRow
 packages w [] = []
-packages w (Import bytes profile ∷ h) = packages w h ++ map (package_row (length (documents w h) + 1)) (packages_in (result_ok (w.document bytes)))
+packages w (Import bytes profile ∷ h) = packages w h
+    ++ map (package_row (length (documents w h) + 1)) (packages_in (result_ok (w.document bytes)))
 packages w (_ ∷ h) = packages w h
 
 -- the references that all documents define
 abbrev pub references : Readings → List Command → List ExtractedRow
 references w [] = []
-references w (Import bytes profile ∷ h) = references w h ++ map (extracted_row (length (documents w h) + 1)) (references_in (result_ok (w.document bytes)))
+references w (Import bytes profile ∷ h) = references w h
+    ++ map (extracted_row (length (documents w h) + 1))
+    (references_in (result_ok (w.document bytes)))
 references w (_ ∷ h) = references w h
 
 -- Conclusions: a package's own field, if it is an expression by its document's profile
@@ -180,12 +199,14 @@ abbrev pub is_package_of : List ℕ → ℕ → List ℕ → List ℕ → ℕ �
 is_package_of r d p r' d' p' = bytes_eq r' r && (d' == d) && bytes_eq p' p
 
 abbrev pub terms_given : Readings → List ℕ → ℕ → List ℕ → Command → Option (List (List ℕ))
-terms_given w r d p (Choose r' d' p' texts) = if is_package_of r d p r' d' p' then Some (term_set w texts) else None
+terms_given w r d p (Choose r' d' p' texts) = if is_package_of r d p r' d' p'
+    then Some (term_set w texts) else None
 terms_given w r d p (Unchoose r' d' p') = if is_package_of r d p r' d' p' then Some [] else None
 terms_given w r d p (Withdraw r' day text) = if bytes_eq r' r then Some [] else None
 terms_given w r d p _ = None
 
--- What is chosen for a package in a release: the terms of the last Choose with no Unchoose and no withdrawal of the release after it, or else none. No recorded
--- choice is empty, since no expression is true under no terms.
+-- What is chosen for a package in a release: the terms of the last Choose with no Unchoose and no
+-- withdrawal of the release after it, or else none. No recorded choice is empty, since no
+-- expression is true under no terms.
 abbrev pub choice : Readings → List Command → List ℕ → ℕ → List ℕ → List (List ℕ)
 choice w h r d p = unwrap_or (latest (terms_given w r d p) h) []

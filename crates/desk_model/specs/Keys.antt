@@ -28,23 +28,30 @@ abbrev pub release_below : ReleaseRow → ReleaseRow → Bool
 release_below a b = text_below a.name b.name
 
 abbrev pub attached_order : AttachedRow → AttachedRow → Ordering
-attached_order = then_cmp (on (λ row. row.release) (slice_cmp nat_cmp)) (on (λ row. row.document) nat_cmp)
+attached_order = then_cmp (on (λ row. row.release) (slice_cmp nat_cmp))
+    (on (λ row. row.document) nat_cmp)
 
 abbrev pub choice_order : ChoiceRow → ChoiceRow → Ordering
 choice_order =
-    then_cmp (on (λ row. row.release) (slice_cmp nat_cmp)) (then_cmp (on (λ row. row.document) nat_cmp)
-    (then_cmp (on (λ row. row.package_id) (slice_cmp nat_cmp)) (on (λ row. row.term) (slice_cmp nat_cmp))))
+    then_cmp (on (λ row. row.release) (slice_cmp nat_cmp))
+    (then_cmp (on (λ row. row.document) nat_cmp)
+    (then_cmp (on (λ row. row.package_id) (slice_cmp nat_cmp))
+    (on (λ row. row.term) (slice_cmp nat_cmp))))
 
 abbrev pub frozen_order : FrozenRow → FrozenRow → Ordering
 frozen_order =
-    then_cmp (on (λ row. row.release) (slice_cmp nat_cmp)) (then_cmp (on (λ row. row.document) nat_cmp)
-    (then_cmp (on (λ row. row.package_id) (slice_cmp nat_cmp)) (on (λ row. row.term) (slice_cmp nat_cmp))))
+    then_cmp (on (λ row. row.release) (slice_cmp nat_cmp))
+    (then_cmp (on (λ row. row.document) nat_cmp)
+    (then_cmp (on (λ row. row.package_id) (slice_cmp nat_cmp))
+    (on (λ row. row.term) (slice_cmp nat_cmp))))
 
 abbrev pub conclusion_order : ConclusionRow → ConclusionRow → Ordering
-conclusion_order = then_cmp (on (λ row. row.document) nat_cmp) (on (λ row. row.package_id) (slice_cmp nat_cmp))
+conclusion_order = then_cmp (on (λ row. row.document) nat_cmp)
+    (on (λ row. row.package_id) (slice_cmp nat_cmp))
 
 abbrev pub adoption_order : AdoptionRow → AdoptionRow → Ordering
-adoption_order = then_cmp (on (λ row. row.document) nat_cmp) (on (λ row. row.reference) (slice_cmp nat_cmp))
+adoption_order = then_cmp (on (λ row. row.document) nat_cmp)
+    (on (λ row. row.reference) (slice_cmp nat_cmp))
 
 abbrev pub change_below : ChangeRow → ChangeRow → Bool
 change_below a b = nat_lt a.duty b.duty || ((a.duty == b.duty) && nat_lt a.step b.step)
@@ -92,13 +99,15 @@ abbrev pub is_adoption_in : ℕ → AdoptionRow → Bool
 is_adoption_in document row = row.document == document
 
 abbrev pub is_choice_of : List ℕ → ℕ → List ℕ → ChoiceRow → Bool
-is_choice_of release document id row = bytes_eq row.release release && (row.document == document) && bytes_eq row.package_id id
+is_choice_of release document id row = bytes_eq row.release release && (row.document == document)
+    && bytes_eq row.package_id id
 
 abbrev pub is_choice_in : List ℕ → ChoiceRow → Bool
 is_choice_in release row = bytes_eq row.release release
 
 abbrev pub is_frozen_of : List ℕ → ℕ → List ℕ → FrozenRow → Bool
-is_frozen_of release document id row = bytes_eq row.release release && (row.document == document) && bytes_eq row.package_id id
+is_frozen_of release document id row = bytes_eq row.release release && (row.document == document)
+    && bytes_eq row.package_id id
 
 abbrev pub is_duty : ℕ → DutyRow → Bool
 is_duty number row = row.number == number
@@ -115,4 +124,5 @@ package_order = then_cmp (on (λ row. row.document) nat_cmp) (on (λ row. row.id
 
 -- rules of a catalogue by term and form
 abbrev pub rule_order : Rule → Rule → Ordering
-rule_order = then_cmp (on (λ rule. rule.term) (slice_cmp nat_cmp)) (on (λ rule. rule.form) (slice_cmp nat_cmp))
+rule_order = then_cmp (on (λ rule. rule.term) (slice_cmp nat_cmp))
+    (on (λ rule. rule.form) (slice_cmp nat_cmp))

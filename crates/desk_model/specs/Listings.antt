@@ -1,5 +1,6 @@
 -- What is reported about the sets of terms under which a package's conclusion in force is true.
-use Rattle.std.specs.Prelude.{ℕ, ◌≤◌, Bool, nat_lt, List, [], ◌∷◌, length, Option, None, is_some, unwrap_or, IfSome, Result, if◌then◌else◌}
+use Rattle.std.specs.Prelude.{ℕ, ◌≤◌, Bool, nat_lt, List, [], ◌∷◌, length, Option, None, is_some}
+use Rattle.std.specs.Prelude.{unwrap_or, IfSome, Result, if◌then◌else◌}
 use Rattle.std.specs.Option.{option_map, option_and_then}
 use Rattle.std.specs.Result.{result_ok, result_err}
 use Rattle.desk_base.specs.Limits as most
@@ -33,7 +34,8 @@ pub record Listing : Type 0 where
   pub conclusion : Option Conclusion
 
 -- the sets of a conclusion
-abbrev pub alternatives_of : Readings → Option Conclusion → Option (Result (List (List (List ℕ))) ListFault)
+abbrev pub alternatives_of : Readings → Option Conclusion
+    → Option (Result (List (List (List ℕ))) ListFault)
 alternatives_of w conclusion = option_map (λ c. w.alternatives c.profile c.text) conclusion
 
 abbrev pub alternatives_answer : Readings → Listing → Answer
@@ -46,7 +48,8 @@ alternatives_answer w found =
     ∷ option_and_then unlisted sets
     ∷ []) (answered.Alternatives (unwrap_or (option_and_then result_ok sets) []))
 
--- what a term of a document costs: how many duties the rule for its adopted form owes, at most 1,000,000; a term without a rule has no cost
+-- what a term of a document costs: how many duties the rule for its adopted form owes, at most
+-- 1,000,000; a term without a rule has no cost
 abbrev pub at_most : ℕ → ℕ → ℕ
 at_most limit n = if nat_lt limit n then limit else n
 
@@ -54,16 +57,19 @@ abbrev pub rule_cost : Rule → ℕ
 rule_cost rule = at_most most.term_cost (length rule.codes)
 
 abbrev pub term_cost : Readings → List AdoptionRow → List Rule → List ℕ → ℕ → List ℕ → Option ℕ
-term_cost w licences rules form d term = option_map rule_cost (rule_adopted w licences rules form d term)
+term_cost w licences rules form d term = option_map rule_cost
+    (rule_adopted w licences rules form d term)
 
 -- a cost of printed terms, at most 1,000,000 each
 abbrev pub IsCost : (List ℕ → Option ℕ) → Type 0
 IsCost cost = (term : List ℕ) → IfSome (cost term) (λ n. n ≤ most.term_cost)
 
 -- the cheapest set of a package's conclusion, by what the terms of its document cost
-abbrev pub cheapest_of : Readings → (ℕ → List ℕ → Option ℕ) → Listing → Option (Result (Option Cheapest) ListFault)
+abbrev pub cheapest_of : Readings → (ℕ → List ℕ → Option ℕ) → Listing
+    → Option (Result (Option Cheapest) ListFault)
 cheapest_of w cost found =
-    option_and_then (λ p. option_map (λ c. w.cheapest c.profile c.text (cost p.document)) found.conclusion) found.row
+    option_and_then (λ p. option_map (λ c. w.cheapest c.profile c.text (cost p.document))
+    found.conclusion) found.row
 
 -- Cheapest, for a form that the catalogue in force has or lacks
 abbrev pub cheapest_answer : Readings → Bool → (ℕ → List ℕ → Option ℕ) → Listing → Answer

@@ -1,5 +1,6 @@
 -- The moves of a duty, its state, and its changes.
-use Rattle.std.specs.Prelude.{ℕ, ◌+◌, ◌==◌, ◌&&◌, not, nat_lt, nat_le, Bool, false, List, [], ◌∷◌, ◌++◌, length, map, find, Option, Some, None, if◌then◌else◌}
+use Rattle.std.specs.Prelude.{ℕ, ◌+◌, ◌==◌, ◌&&◌, not, nat_lt, nat_le, Bool, false, List, [], ◌∷◌}
+use Rattle.std.specs.Prelude.{◌++◌, length, map, find, Option, Some, None, if◌then◌else◌}
 use Rattle.std.specs.List.{flat_map}
 use Rattle.std.specs.Option.{option_map_or}
 use Rattle.std.specs.Str.{bytes_eq}
@@ -41,7 +42,8 @@ is_raised_for w h q r = option_map_or (λ d. bytes_eq d.1.release r) (duty_at w 
 
 -- a freeze of the release after these commands raises the duty with this number
 abbrev pub raises : Readings → List Command → List ℕ → ℕ → Bool
-raises w h r q = nat_lt (length (raised w h)) q && nat_le q (length (raised w h) + length (owed_at w h r))
+raises w h r q = nat_lt (length (raised w h)) q
+    && nat_le q (length (raised w h) + length (owed_at w h r))
 
 -- it has been raised
 abbrev pub is_known : Readings → List Command → ℕ → Bool
@@ -50,16 +52,23 @@ is_known w h q = nat_le q (length (raised w h))
 abbrev pub move_if : Bool → Move → Option Move
 move_if b m = if b then Some m else None
 
--- How a command moves duty q, after the commands and the moves before it: a freeze raises it; Meet, Waive and Reopen name it; a withdrawal of its release moves
--- it unless it is met, and a CloseDay if its waiver ended before that day.
+-- How a command moves duty q, after the commands and the moves before it: a freeze raises it; Meet,
+-- Waive and Reopen name it; a withdrawal of its release moves it unless it is met, and a CloseDay
+-- if its waiver ended before that day.
 abbrev pub move_by : Readings → ℕ → Command → List Command → List Move → Option Move
-move_by w q (Freeze r day) before ms = move_if (raises w before r q) (record { day = day; word = word.Raised; body = []; last_day = None })
-move_by w q (Meet q' day text) before ms = move_if ((q' == q) && is_known w before q) (record { day = day; word = word.Met; body = text; last_day = None })
-move_by w q (Waive q' day text until) before ms = move_if ((q' == q) && is_known w before q) (record { day = day; word = word.Waived; body = text; last_day = until })
-move_by w q (Reopen q' day text) before ms = move_if ((q' == q) && is_known w before q) (record { day = day; word = word.Reopened; body = text; last_day = None })
+move_by w q (Freeze r day) before ms = move_if (raises w before r q)
+    (record { day = day; word = word.Raised; body = []; last_day = None })
+move_by w q (Meet q' day text) before ms = move_if ((q' == q) && is_known w before q)
+    (record { day = day; word = word.Met; body = text; last_day = None })
+move_by w q (Waive q' day text until) before ms = move_if ((q' == q) && is_known w before q)
+    (record { day = day; word = word.Waived; body = text; last_day = until })
+move_by w q (Reopen q' day text) before ms = move_if ((q' == q) && is_known w before q)
+    (record { day = day; word = word.Reopened; body = text; last_day = None })
 move_by w q (Withdraw r day text) before ms =
-    move_if (is_raised_for w before q r && not (is_met (place_after ms))) (record { day = day; word = word.Withdrawn; body = text; last_day = None })
-move_by w q (CloseDay day) before ms = move_if (has_ended day (place_after ms) (end_after ms)) (record { day = day; word = word.Ended; body = []; last_day = None })
+    move_if (is_raised_for w before q r && not (is_met (place_after ms)))
+    (record { day = day; word = word.Withdrawn; body = text; last_day = None })
+move_by w q (CloseDay day) before ms = move_if (has_ended day (place_after ms) (end_after ms))
+    (record { day = day; word = word.Ended; body = []; last_day = None })
 move_by w q _ before ms = None
 
 abbrev pub with_move : Option Move → List Move → List Move
@@ -76,7 +85,14 @@ place w h q = place_after (moves w h q)
 
 -- the row of a move
 abbrev pub change_row : ℕ → ℕ → Move → ChangeRow
-change_row q step m = record { duty = q; step = step; day = m.day; word = m.word; body = m.body; last_day = m.last_day }
+change_row q step m = record {
+  duty = q;
+  step = step;
+  day = m.day;
+  word = m.word;
+  body = m.body;
+  last_day = m.last_day;
+}
 
 abbrev pub change_rows : ℕ → List Move → List ChangeRow
 change_rows q [] = []

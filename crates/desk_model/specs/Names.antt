@@ -1,4 +1,5 @@
--- The names by which replies and tables show refusals, states, words of changes, limits and the parts of a catalogue.
+-- The names by which replies and tables show refusals, states, words of changes, limits and the
+-- parts of a catalogue.
 use Rattle.std.specs.Prelude.{ℕ, List, codes}
 use Rattle.desk_model.specs.declared.refusal.CataloguePart.{CataloguePart}
 use Rattle.desk_model.specs.declared.refusal.CataloguePart.TheVariants as part

@@ -1,5 +1,6 @@
 -- The answer to each query.
-use Rattle.std.specs.Prelude.{ℕ, ◌&&◌, Bool, List, [], ◌∷◌, length, filter, map, find, count_by, Option, Some, None, is_some, if◌then◌else◌}
+use Rattle.std.specs.Prelude.{ℕ, ◌&&◌, Bool, List, [], ◌∷◌, length, filter, map, find, count_by}
+use Rattle.std.specs.Prelude.{Option, Some, None, is_some, if◌then◌else◌}
 use Rattle.desk_model.specs.Readings.{Readings}
 use Rattle.std.specs.List.{flat_map, list_any}
 use Rattle.std.specs.Str.{bytes_eq}
@@ -70,7 +71,8 @@ abbrev pub duties_of : Readings → List Command → List ℕ → List DutyRow
 duties_of w h r = filter (is_duty_of r) (duties w h)
 
 -- the line of a package, from its conclusion in force and what is chosen for it
-abbrev pub package_line : (PackageRow → Option Conclusion) → (PackageRow → List (List ℕ)) → PackageRow → PackageLine
+abbrev pub package_line : (PackageRow → Option Conclusion) → (PackageRow → List (List ℕ))
+    → PackageRow → PackageLine
 package_line concluded chosen p = record {
   document = p.document;
   package_id = p.id;
@@ -81,7 +83,10 @@ package_line concluded chosen p = record {
 
 -- the line of a release, from all duties
 abbrev pub release_line : List DutyRow → ReleaseRow → ReleaseLine
-release_line rows release = record { release = release; totals = totals_of (filter (is_duty_of release.name) rows) }
+release_line rows release = record {
+  release = release;
+  totals = totals_of (filter (is_duty_of release.name) rows);
+}
 
 -- a document without its bytes
 abbrev pub head_of : DocumentRow → DocumentHead
@@ -89,7 +94,10 @@ head_of row = record { number = row.number; namespace = row.namespace; profile =
 
 -- the line of a document, from all packages
 abbrev pub document_line : List PackageRow → DocumentRow → DocumentLine
-document_line rows document = record { head = head_of document; shipped = length (filter (is_shipped_by document.number) rows) }
+document_line rows document = record {
+  head = head_of document;
+  shipped = length (filter (is_shipped_by document.number) rows);
+}
 
 -- a duty was raised for a release, and is open
 abbrev pub is_open_of : List ℕ → DutyRow → Bool
@@ -112,23 +120,31 @@ listing w h d p = record {
 
 abbrev pub queried : Readings → List Command → Query → Answer
 queried w h (query.Duties r) =
-    if is_some (form_of h r) then answered.Duties (map (duty_line (changes w h)) (duties_of w h r)) else answered.Refused why.UnknownRelease
+    if is_some (form_of h r) then answered.Duties (map (duty_line (changes w h)) (duties_of w h r))
+    else answered.Refused why.UnknownRelease
 queried w h (query.Totals r) =
-    if is_some (form_of h r) then answered.Totals (totals_of (duties_of w h r)) else answered.Refused why.UnknownRelease
+    if is_some (form_of h r) then answered.Totals (totals_of (duties_of w h r))
+    else answered.Refused why.UnknownRelease
 queried w h (query.Changes q) =
-    if is_some (duty_at w h q) then answered.Changes (changes w h q) else answered.Refused why.UnknownDuty
+    if is_some (duty_at w h q) then answered.Changes (changes w h q)
+    else answered.Refused why.UnknownDuty
 queried w h (query.Findings d) = findings_answer w (find (is_document d) (documents w h))
 queried w h (query.Release r) =
-    if is_some (form_of h r) then answered.Release (release_row h r) (map (package_line (conclusion w h) (chosen_in w h r)) (shipped w h r))
+    if is_some (form_of h r) then answered.Release (release_row h r)
+    (map (package_line (conclusion w h) (chosen_in w h r)) (shipped w h r))
     else answered.Refused why.UnknownRelease
 queried w h (query.Alternatives d p) = alternatives_answer w (listing w h d p)
 queried w h (query.Cheapest d p form) =
-    cheapest_answer w (list_any (bytes_eq form) (forms_in (in_force w h))) (term_cost w (adoptions w h) (rules_in (in_force w h)) form) (listing w h d p)
+    cheapest_answer w (list_any (bytes_eq form) (forms_in (in_force w h)))
+    (term_cost w (adoptions w h) (rules_in (in_force w h)) form) (listing w h d p)
 queried w h (query.Bill r) =
     let t = tables w h in
-    if is_some (form_of h r) then bill_answer (bill_of w t.catalogue t.extracted t.frozen (shipped w h r) (release_row h r)) (state_of h r)
+    if is_some (form_of h r) then bill_answer
+    (bill_of w t.catalogue t.extracted t.frozen (shipped w h r) (release_row h r)) (state_of h r)
     else answered.Refused why.UnknownRelease
 queried w h query.Releases = answered.Releases (map (release_line (duties w h)) (release_rows h))
-queried w h query.Documents = answered.Documents (map (document_line (packages w h)) (documents w h))
-queried w h query.OpenDuties = answered.OpenDuties (flat_map (open_duties (changes w h) (duties w h)) (release_rows h))
+queried w h query.Documents = answered.Documents
+    (map (document_line (packages w h)) (documents w h))
+queried w h query.OpenDuties = answered.OpenDuties
+    (flat_map (open_duties (changes w h) (duties w h)) (release_rows h))
 queried w h (query.Wanting r) = wanting_answer (obstacles w h r)

@@ -1,5 +1,6 @@
--- What texts say. The definitions of the history take it as an argument; which reading is right is said where texts are read: of licence expressions by SPDX
--- 2.3, Annex D, of documents by its tag-value form.
+-- What texts say. The definitions of the history take it as an argument; which reading is right is
+-- said where texts are read: of licence expressions by SPDX 2.3, Annex D, of documents by its
+-- tag-value form.
 use Rattle.std.specs.Prelude.{ℕ, Bool, List, Option, Result}
 use Rattle.desk_model.specs.declared.reading.Catalogue.{Catalogue}
 use Rattle.desk_model.specs.declared.reading.Document.{Document}
@@ -26,7 +27,8 @@ pub record Readings : Type 0 where
   pub is_licence : List ℕ → Bool
   -- a licence, with the exception of a printed term
   pub adopted_as : List ℕ → List ℕ → List ℕ
-  -- the id of the licence that a printed term names, without its plus and exception, if it names no reference
+  -- the id of the licence that a printed term names, without its plus and exception, if it names no
+  -- reference
   pub licence_id : List ℕ → List ℕ
   -- the exception of a printed term, if it has one
   pub exception : List ℕ → Option (List ℕ)
@@ -38,11 +40,13 @@ pub record Readings : Type 0 where
   pub expression_fault : Profile → List ℕ → Option ExpressionFault
   -- the verdict on a list of printed terms for the expression that a text spells
   pub verdict : Profile → List ℕ → List (List ℕ) → Verdict
-  -- the minimal sets of terms under which the expression of a text is true, printed, or why they aren't listed
+  -- the minimal sets of terms under which the expression of a text is true, printed, or why they
+  -- aren't listed
   pub alternatives : Profile → List ℕ → Result (List (List (List ℕ))) ListFault
   -- the distinct terms of the expression of a text, printed, in order
   pub terms : Profile → List ℕ → List (List ℕ)
-  -- the cheapest set of terms under which the expression of a text is true, given what printed terms cost, if there is one
+  -- the cheapest set of terms under which the expression of a text is true, given what printed
+  -- terms cost, if there is one
   pub cheapest : Profile → List ℕ → (List ℕ → Option ℕ) → Result (Option Cheapest) ListFault
   -- the findings of the document that bytes spell
   pub findings : Profile → List ℕ → List Finding

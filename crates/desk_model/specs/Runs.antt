@@ -14,7 +14,8 @@ is_kept (Failed fault) = false
 abbrev pub history_with : List Command → Command → Outcome → List Command
 history_with h c o = if is_kept o then c ∷ h else h
 
--- the history after commands with these outcomes: those that were recorded come before it, the last one first
+-- the history after commands with these outcomes: those that were recorded come before it, the last
+-- one first
 abbrev pub history_after : List Command → List Command → List Outcome → List Command
 history_after h cs [] = h
 history_after h [] (o ∷ os) = h

@@ -2,8 +2,12 @@
 use Rattle.std.specs.Prelude.{ℕ, Bool, not, List, [], ◌∷◌, ◌++◌, filter, map}
 use Rattle.desk_model.specs.Lists.{put, put_all, updated, replaced, in_order}
 use Rattle.desk_model.specs.Readings.{Readings}
-use Rattle.desk_model.specs.Keys.{release_below, choice_order, frozen_order, change_below, below_by, attached_order, conclusion_order, adoption_order, is_release, is_duty, is_choice_of, is_choice_in, is_conclusion, is_adoption}
-use Rattle.desk_model.specs.History.{revisions, in_force, forms_in, rule_rows, documents, packages, references, opened, names, place_in, form_of, state_of, revision_of, attached, term_set}
+use Rattle.desk_model.specs.Keys.{release_below, choice_order, frozen_order, change_below, below_by}
+use Rattle.desk_model.specs.Keys.{attached_order, conclusion_order, adoption_order, is_release}
+use Rattle.desk_model.specs.Keys.{is_duty, is_choice_of, is_choice_in, is_conclusion, is_adoption}
+use Rattle.desk_model.specs.History.{revisions, in_force, forms_in, rule_rows, documents, packages}
+use Rattle.desk_model.specs.History.{references, opened, names, place_in, form_of, state_of}
+use Rattle.desk_model.specs.History.{revision_of, attached, term_set}
 use Rattle.desk_model.specs.Conclusions.{conclusions, adoptions}
 use Rattle.desk_model.specs.Raised.{frozen}
 use Rattle.desk_model.specs.Moves.{duties, all_changes}
@@ -30,7 +34,8 @@ use Rattle.desk_model.specs.declared.command.Change.TheVariants as change
 use Rattle.desk_model.specs.declared.command.Command.{Command}
 use Rattle.desk_model.specs.declared.command.Command.TheVariants.{Choose, Unchoose, Withdraw}
 
--- all rows, each list sorted by its key; and the forms of the catalogue in force, which only its body has
+-- all rows, each list sorted by its key; and the forms of the catalogue in force, which only its
+-- body has
 pub record Tables : Type 0 where
   pub catalogue : List CatalogueRow
   pub forms : List (List ℕ)
@@ -68,10 +73,12 @@ is_other_choice r d p row = not (is_choice_of r d p row)
 abbrev pub is_choice_elsewhere : List ℕ → ChoiceRow → Bool
 is_choice_elsewhere r row = not (is_choice_in r row)
 
--- the choices in force: a later choice for the same package replaces an earlier one, and a withdrawn release holds none
+-- the choices in force: a later choice for the same package replaces an earlier one, and a
+-- withdrawn release holds none
 abbrev pub standing : Readings → List Command → List ChoiceRow
 standing w [] = []
-standing w (Choose r d p texts ∷ h) = map (choice_row r d p) (term_set w texts) ++ filter (is_other_choice r d p) (standing w h)
+standing w (Choose r d p texts ∷ h) = map (choice_row r d p) (term_set w texts)
+    ++ filter (is_other_choice r d p) (standing w h)
 standing w (Unchoose r d p ∷ h) = filter (is_other_choice r d p) (standing w h)
 standing w (Withdraw r day text ∷ h) = filter (is_choice_elsewhere r) (standing w h)
 standing w (_ ∷ h) = standing w h
@@ -110,19 +117,30 @@ with_duty_state state row = record row { state = state }
 -- the duties, each of them that has a change in the state in which that leaves it
 abbrev pub moved_by : List ChangeRow → List DutyRow → List DutyRow
 moved_by [] rows = rows
-moved_by (change ∷ changes) rows = updated (is_duty change.duty) (with_duty_state (state_after change.word)) (moved_by changes rows)
+moved_by (change ∷ changes) rows = updated (is_duty change.duty)
+    (with_duty_state (state_after change.word)) (moved_by changes rows)
 
 -- the tables after a change
 abbrev pub applied : Change → Tables → Tables
-applied (change.Loaded row rules forms) t = record t { catalogue = t.catalogue ++ row ∷ []; rule = t.rule ++ rules; forms = forms }
+applied (change.Loaded row rules forms) t = record t {
+  catalogue = t.catalogue ++ row ∷ [];
+  rule = t.rule ++ rules;
+  forms = forms;
+}
 applied (change.Imported row ps refs) t = record t {
   document = t.document ++ row ∷ [];
   packages = t.packages ++ ps;
   extracted = t.extracted ++ refs;
 }
 applied (change.Opened row) t = record t { releases = put release_below row t.releases }
-applied (change.Attached row) t = record t { attached = put (below_by attached_order) row t.attached }
-applied (change.Chosen r d p rows) t = record t { choice = put_all (below_by choice_order) rows (filter (is_other_choice r d p) t.choice) }
+applied (change.Attached row) t = record t {
+  attached = put (below_by attached_order) row
+      t.attached;
+}
+applied (change.Chosen r d p rows) t = record t {
+  choice = put_all (below_by choice_order) rows
+      (filter (is_other_choice r d p) t.choice);
+}
 applied (change.Froze r revision rows new moved) t = record t {
   releases = updated (is_release r) (with_release_state Frozen revision) t.releases;
   frozen = put_all (below_by frozen_order) rows t.frozen;
@@ -139,5 +157,11 @@ applied (change.Withdrew r moved) t = record t {
   duty = moved_by moved t.duty;
   changes = put_all change_below moved t.changes;
 }
-applied (change.Concluded row) t = record t { conclusion = replaced (below_by conclusion_order) (is_conclusion row.document row.package_id) row t.conclusion }
-applied (change.Adopted row) t = record t { adoption = replaced (below_by adoption_order) (is_adoption row.document row.reference) row t.adoption }
+applied (change.Concluded row) t = record t {
+  conclusion = replaced (below_by conclusion_order)
+      (is_conclusion row.document row.package_id) row t.conclusion;
+}
+applied (change.Adopted row) t = record t {
+  adoption = replaced (below_by adoption_order)
+      (is_adoption row.document row.reference) row t.adoption;
+}

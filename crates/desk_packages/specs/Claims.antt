@@ -18,6 +18,8 @@ read_claim w Nothing = None
 -- what was read of this conclusion
 module _ {E : Type 0} (is_of : Profile → List ℕ → E → Type 0) where
   abbrev pub InForceOf : Readings → Option Conclusion → InForce E → Type 0
-  InForceOf w conclusion (read.Expression e) = (c : Conclusion) × (conclusion ≡ Some c) × is_of c.profile c.text e
-  InForceOf w conclusion read.NoExpression = (c : Conclusion) × (conclusion ≡ Some c) × IsNone w c.profile c.text
+  InForceOf w conclusion (read.Expression e) = (c : Conclusion) × (conclusion ≡ Some c)
+      × is_of c.profile c.text e
+  InForceOf w conclusion read.NoExpression = (c : Conclusion) × (conclusion ≡ Some c)
+      × IsNone w c.profile c.text
   InForceOf w conclusion read.Nothing = conclusion ≡ None

@@ -20,7 +20,8 @@ hyphen_below : (b : ℕ) → (b == 45) ≡ true → b < 128
 hyphen_below b is = grind (arith, nat_tests)
 
 -- the parts of the test for a written day: its digits and its two hyphens
-day_of_ten : (y e a r f m n s d c : ℕ) → writes_day y e a r f m n s d c ≡ true → IsAscii (y ∷ e ∷ a ∷ r ∷ f ∷ m ∷ n ∷ s ∷ d ∷ c ∷ [])
+day_of_ten : (y e a r f m n s d c : ℕ) → writes_day y e a r f m n s d c ≡ true
+    → IsAscii (y ∷ e ∷ a ∷ r ∷ f ∷ m ∷ n ∷ s ∷ d ∷ c ∷ [])
 day_of_ten y e a r f m n s d c is =
     let dated = both _ _ is in
     let marked = both _ _ dated.0 in
@@ -41,7 +42,8 @@ day_of_ten y e a r f m n s d c is =
     let from-f = IsAscii-cons f (m ∷ n ∷ s ∷ d ∷ c ∷ []) (hyphen_below f split.1) from-m in
     let from-r = IsAscii-cons r (f ∷ m ∷ n ∷ s ∷ d ∷ c ∷ []) (digit_below r at-r.0) from-f in
     let from-a = IsAscii-cons a (r ∷ f ∷ m ∷ n ∷ s ∷ d ∷ c ∷ []) (digit_below a at-a.0) from-r in
-    let from-e = IsAscii-cons e (a ∷ r ∷ f ∷ m ∷ n ∷ s ∷ d ∷ c ∷ []) (digit_below e at-e.0) from-a in
+    let from-e = IsAscii-cons e (a ∷ r ∷ f ∷ m ∷ n ∷ s ∷ d ∷ c ∷ []) (digit_below e at-e.0)
+    from-a in
     IsAscii-cons y (e ∷ a ∷ r ∷ f ∷ m ∷ n ∷ s ∷ d ∷ c ∷ []) (digit_below y at-y.0) from-e
 
 is_ten : (n : ℕ) → (n == 10) ≡ true → n ≡ 10
@@ -51,9 +53,11 @@ ten_bytes : (day : List ℕ) → IsTrue (is_day day) → length day ≡ 10
 ten_bytes day is = is_ten (length day) (both (length day == 10) _ is).0
 
 written_day_is_text : (day : List ℕ) → IsTrue (is_day day) → IsUtf8 day
-written_day_is_text (y ∷ e ∷ a ∷ r ∷ f ∷ m ∷ n ∷ s ∷ d ∷ c ∷ []) is = IsUtf8-from_ascii (y ∷ e ∷ a ∷ r ∷ f ∷ m ∷ n ∷ s ∷ d ∷ c ∷ []) (day_of_ten y e a r f m n s d c is)
+written_day_is_text (y ∷ e ∷ a ∷ r ∷ f ∷ m ∷ n ∷ s ∷ d ∷ c ∷ []) is = IsUtf8-from_ascii
+    (y ∷ e ∷ a ∷ r ∷ f ∷ m ∷ n ∷ s ∷ d ∷ c ∷ []) (day_of_ten y e a r f m n s d c is)
 written_day_is_text (y ∷ e ∷ a ∷ r ∷ f ∷ m ∷ n ∷ s ∷ d ∷ c ∷ x ∷ more) is =
-    let ten = ten_bytes (y ∷ e ∷ a ∷ r ∷ f ∷ m ∷ n ∷ s ∷ d ∷ c ∷ x ∷ more) is in absurd (omega arith)
+    let ten = ten_bytes (y ∷ e ∷ a ∷ r ∷ f ∷ m ∷ n ∷ s ∷ d ∷ c ∷ x ∷ more) is in
+    absurd (omega arith)
 written_day_is_text _ is = absurd (cc)
 
 pub day_text-written : (day : List ℕ) → IsTrue (is_day day) → day_text (Some day) ≡ day

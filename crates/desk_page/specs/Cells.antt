@@ -1,12 +1,14 @@
 -- The cells of a row.
 use Rattle.std.specs.Prelude.{ℕ, List}
 use Rattle.std.specs.List.{flat_map}
-use Rattle.desk_page.specs.Pieces.{anchor_cell, bar_cell, last_cell, link_cell, name_cell, number_cell, rules_cell, text_cell}
+use Rattle.desk_page.specs.Pieces.{anchor_cell, bar_cell, last_cell, link_cell, name_cell}
+use Rattle.desk_page.specs.Pieces.{number_cell, rules_cell, text_cell}
 use Rattle.desk_page.specs.declared.cell.Cell.{Cell}
 use Rattle.desk_page.specs.declared.cell.Cell.TheVariants as cells
 
--- What names a row: a text, a duty that others link to, or a duty with a link to its own row. Then a text, a
--- count, or licences. What ends a row: a text that keeps its lines, or a bar as long as a part of a whole.
+-- What names a row: a text, a duty that others link to, or a duty with a link to its own row. Then
+-- a text, a count, or licences. What ends a row: a text that keeps its lines, or a bar as long as a
+-- part of a whole.
 pub data CellText : Type 0 where
   name : List ℕ → CellText
   anchor : ℕ → CellText

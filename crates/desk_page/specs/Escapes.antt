@@ -1,5 +1,7 @@
--- A text as HTML shows it (the HTML standard, 3.2.5.2.5 and 13.1.4). 34 is `"`, 38 `&`, 39 `'`, 60 `<` and 62 `>`.
-use Rattle.std.specs.Prelude.{◌≡◌, ℕ, ◌%◌, ◌==◌, ◌&&◌, ◌||◌, nat_le, not, Bool, false, List, [], ◌∷◌, ◌++◌, codes, if◌then◌else◌}
+-- A text as HTML shows it (the HTML standard, 3.2.5.2.5 and 13.1.4). 34 is `"`, 38 `&`, 39 `'`, 60
+-- `<` and 62 `>`.
+use Rattle.std.specs.Prelude.{◌≡◌, ℕ, ◌%◌, ◌==◌, ◌&&◌, ◌||◌, nat_le, not, Bool, false, List, []}
+use Rattle.std.specs.Prelude.{◌∷◌, ◌++◌, codes, if◌then◌else◌}
 use Rattle.std.specs.Char.{encode_utf8, is_ascii_whitespace, is_control}
 use Rattle.std.specs.List.{flat_map}
 use Rattle.std.specs.Str.{chars}
@@ -8,7 +10,8 @@ use Rattle.std.specs.Str.{chars}
 abbrev pub is_noncharacter : ℕ → Bool
 is_noncharacter c = (nat_le 64976 c && nat_le c 65007) || nat_le 65534 (c % 65536)
 
--- what a text of a page may not contain: control characters other than white space, and noncharacters
+-- what a text of a page may not contain: control characters other than white space, and
+-- noncharacters
 abbrev pub is_barred : ℕ → Bool
 is_barred c = (is_control c && not (is_ascii_whitespace c)) || is_noncharacter c
 

@@ -1,4 +1,5 @@
--- The pieces that cells are made of. The cell that names a row begins it, and one of two kinds ends it.
+-- The pieces that cells are made of. The cell that names a row begins it, and one of two kinds ends
+-- it.
 use Rattle.std.specs.Prelude.{ℕ, List, ◌++◌, codes, decimal}
 use Rattle.std.specs.List.{flat_map}
 use Rattle.desk_page.specs.Escapes.{escaped}
@@ -13,7 +14,8 @@ counted before number after = before ++ decimal number ++ after
 
 -- two numbers between fixed texts
 unfoldable pub paired : List ℕ → ℕ → List ℕ → ℕ → List ℕ → List ℕ
-paired before number between other after = before ++ decimal number ++ between ++ decimal other ++ after
+paired before number between other after = before ++ decimal number ++ between ++ decimal other
+    ++ after
 
 -- the cell that names a row
 unfoldable pub name_cell : List ℕ → List ℕ
@@ -21,11 +23,13 @@ name_cell text = framed (codes "<tr><th scope=\"row\">") text (codes "</th>")
 
 -- the cell that names the row of a duty, and that others link to
 unfoldable pub anchor_cell : ℕ → List ℕ
-anchor_cell duty = paired (codes "<tr><th scope=\"row\" id=\"duty-") duty (codes "\">") duty (codes "</th>")
+anchor_cell duty = paired (codes "<tr><th scope=\"row\" id=\"duty-") duty (codes "\">") duty
+    (codes "</th>")
 
 -- the cell that names a row by a duty, and links to it
 unfoldable pub link_cell : ℕ → List ℕ
-link_cell duty = paired (codes "<tr><th scope=\"row\"><a href=\"#duty-") duty (codes "\">") duty (codes "</a></th>")
+link_cell duty = paired (codes "<tr><th scope=\"row\"><a href=\"#duty-") duty (codes "\">") duty
+    (codes "</a></th>")
 
 unfoldable pub text_cell : List ℕ → List ℕ
 text_cell text = framed (codes "<td>") text (codes "</td>")

@@ -1,5 +1,7 @@
 -- The rows of a page's tables.
-use Rattle.std.specs.Prelude.{ℕ, ◌-◌, ◌&&◌, Bool, List, [], ◌∷◌, ◌++◌, codes, count_by, filter, length, map, not, Option, Some, None, slice_get, unwrap_or, if◌then◌else◌}
+use Rattle.std.specs.Prelude.{ℕ, ◌-◌, ◌&&◌, Bool, List, [], ◌∷◌, ◌++◌, codes, count_by, filter}
+use Rattle.std.specs.Prelude.{length, map, not, Option, Some, None, slice_get, unwrap_or}
+use Rattle.std.specs.Prelude.{if◌then◌else◌}
 use Rattle.std.specs.List.{flat_map}
 use Rattle.std.specs.Option.{option_map_or}
 use Rattle.std.specs.Str.{bytes_eq, is_utf8}
@@ -18,7 +20,8 @@ total_cells word number raised = name word ∷ count number ∷ bar number raise
 
 unfoldable pub totals_rows : Totals → List ℕ
 totals_rows t =
-    row_text (total_cells (codes "Raised") t.raised t.raised ++ total_cells (codes "Open") t.still_open t.raised
+    row_text (total_cells (codes "Raised") t.raised t.raised
+    ++ total_cells (codes "Open") t.still_open t.raised
     ++ total_cells (codes "Met") t.met t.raised ++ total_cells (codes "Waived") t.waived t.raised
     ++ total_cells (codes "Withdrawn") t.withdrawn t.raised)
 
@@ -27,7 +30,8 @@ totals_rows t =
 -- its name, its version, its licences and its copyright
 unfoldable pub package_row : BillLine → List ℕ
 package_row line =
-    row_text (name line.name ∷ plain (unwrap_or line.version []) ∷ rules line.rules ∷ last (unwrap_or line.copyright (codes "none given")) ∷ [])
+    row_text (name line.name ∷ plain (unwrap_or line.version []) ∷ rules line.rules
+    ∷ last (unwrap_or line.copyright (codes "none given")) ∷ [])
 
 -- ---- licences
 
@@ -57,21 +61,25 @@ standing licence state duties = count_by (is_in licence state) duties
 -- how many duties a licence has and how many are in each state, with a bar for those that are open
 unfoldable pub licence_row : List DutyLine → List ℕ → List ℕ
 licence_row duties licence =
-    row_text (name licence ∷ count (raised_for licence duties) ∷ count (standing licence (codes "met") duties)
-    ∷ count (standing licence (codes "waived") duties) ∷ count (standing licence (codes "withdrawn") duties)
-    ∷ count (standing licence (codes "open") duties) ∷ bar (standing licence (codes "open") duties) (raised_for licence duties) ∷ [])
+    row_text (name licence ∷ count (raised_for licence duties)
+    ∷ count (standing licence (codes "met") duties)
+    ∷ count (standing licence (codes "waived") duties)
+    ∷ count (standing licence (codes "withdrawn") duties)
+    ∷ count (standing licence (codes "open") duties)
+    ∷ bar (standing licence (codes "open") duties) (raised_for licence duties) ∷ [])
 
 -- ---- duties
 
--- A day as it is written. Empty if there is none, which no recorded history gives for a duty, or if its bytes
--- are not UTF-8, as those of a written day are.
+-- A day as it is written. Empty if there is none, which no recorded history gives for a duty, or if
+-- its bytes are not UTF-8, as those of a written day are.
 abbrev pub day_text : Option (List ℕ) → List ℕ
 day_text None = []
 day_text (Some day) = if is_utf8 day then day else []
 
 unfoldable pub duty_row : DutyLine → List ℕ
 duty_row duty =
-    row_text (anchor duty.number ∷ count duty.document ∷ plain duty.package_id ∷ plain duty.rule ∷ plain duty.code
+    row_text (anchor duty.number ∷ count duty.document ∷ plain duty.package_id ∷ plain duty.rule
+    ∷ plain duty.code
     ∷ plain (duty_state_name duty.state) ∷ last (day_text duty.day) ∷ [])
 
 -- ---- waivers that end
@@ -82,7 +90,8 @@ last_change changes = slice_get changes (length changes - 1)
 -- what becomes due again after a day, and why it was waived
 unfoldable pub ending_row : DutyLine → List ℕ → List ℕ → List ℕ
 ending_row duty day reason =
-    row_text (link duty.number ∷ plain duty.rule ∷ plain duty.code ∷ plain (day_text (Some day)) ∷ last reason ∷ [])
+    row_text (link duty.number ∷ plain duty.rule ∷ plain duty.code ∷ plain (day_text (Some day))
+    ∷ last reason ∷ [])
 
 -- only a waiver has a last day
 abbrev pub waiver_row : DutyLine → ChangeRow → List ℕ
@@ -102,5 +111,6 @@ waiver_rows (duty ∷ duties) (changes ∷ more) = last_waiver duty changes ++ w
 
 unfoldable pub change_row : ChangeRow → List ℕ
 change_row change =
-    row_text (link change.duty ∷ plain (day_text (Some change.day)) ∷ plain (word_name change.word) ∷ plain (day_text change.last_day)
+    row_text (link change.duty ∷ plain (day_text (Some change.day)) ∷ plain (word_name change.word)
+    ∷ plain (day_text change.last_day)
     ∷ last change.body ∷ [])

@@ -16,7 +16,8 @@ use Rattle.desk_preparing.specs.declared.choice.Found.{Found}
 use Rattle.desk_preparing.specs.declared.choice.Found.TheVariants.{Here, Nowhere}
 use Rattle.desk_preparing.specs.declared.choice.TermsRead.{TermsRead}
 use Rattle.desk_preparing.specs.declared.choice.TermsRead.TheVariants.{Terms, BadTerm}
-use Rattle.desk_model.specs.Answers.{refused_first, unless, first_bad, unready, unconcluded, verdict_on, not_enough, not_minimal}
+use Rattle.desk_model.specs.Answers.{refused_first, unless, first_bad, unready, unconcluded}
+use Rattle.desk_model.specs.Answers.{verdict_on, not_enough, not_minimal}
 use Rattle.desk_model.specs.declared.reading.Conclusion.{Conclusion}
 use Rattle.desk_model.specs.declared.refusal.Refusal.TheVariants as why
 use Rattle.desk_model.specs.declared.reading.Verdict.{Verdict}
@@ -29,7 +30,8 @@ AreTermsOf w texts (BadTerm i) = first_bad w 0 texts ≡ Some i
 
 -- The answer to a choice, from one step on: of terms with this verdict
 abbrev pub judged : List (List ℕ) → Verdict → Answer
-judged terms verdict = refused_first (not_enough verdict ∷ not_minimal terms verdict ∷ []) answered.Done
+judged terms verdict = refused_first (not_enough verdict ∷ not_minimal terms verdict ∷ [])
+    answered.Done
 
 -- for a package with this conclusion
 abbrev pub choose_for : Readings → List (List ℕ) → Option Conclusion → PackageRow → Answer
@@ -40,7 +42,8 @@ choose_for w terms conclusion p = refused_first (
     ∷ []) answered.Done
 
 -- for a package in a release in this state
-abbrev pub choose_shipped : Readings → List (List ℕ) → Bool → (PackageRow → Option Conclusion) → ReleaseState → PackageRow → Answer
+abbrev pub choose_shipped : Readings → List (List ℕ) → Bool → (PackageRow → Option Conclusion)
+    → ReleaseState → PackageRow → Answer
 choose_shipped w terms is_attached concluded state p = refused_first (
     unready state
     ∷ unless (is_attached && p.shipped) why.NotShipped
@@ -59,31 +62,45 @@ choose_found w t r d p terms =
     ∷ unless (stands_document t d) why.UnknownDocument
     ∷ unless (is_some row_found) why.UnknownPackage
     ∷ option_and_then unready (state_found t r)
-    ∷ unless (list_any (is_attachment r d) t.attached && option_map_or (λ row. row.shipped) row_found false) why.NotShipped
+    ∷ unless (list_any (is_attachment r d) t.attached
+    && option_map_or (λ row. row.shipped) row_found false) why.NotShipped
     ∷ option_and_then (unconcluded (option_and_then (conclusion_found w t) row_found)) row_found
     ∷ option_and_then not_enough verdict
     ∷ option_and_then (not_minimal terms) verdict
     ∷ []) answered.Done
 
 -- and of a document that was found, in a release in this state
-abbrev pub choose_in : Readings → Tables → ReleaseState → List ℕ → ℕ → List ℕ → List (List ℕ) → Answer
-choose_in w t state r d p terms = option_map_or (choose_shipped w terms (list_any (is_attachment r d) t.attached) (conclusion_found w t) state) (package_found t d p) (answered.Refused why.UnknownPackage)
+abbrev pub choose_in : Readings → Tables → ReleaseState → List ℕ → ℕ → List ℕ → List (List ℕ)
+    → Answer
+choose_in w t state r d p terms = option_map_or
+    (choose_shipped w terms (list_any (is_attachment r d) t.attached) (conclusion_found w t) state)
+    (package_found t d p) (answered.Refused why.UnknownPackage)
 
 -- where terms may be chosen, or the refusal, whatever the terms are
 abbrev pub IsFound : Tables → List ℕ → ℕ → List ℕ → Found → Type 0
 IsFound t r d p (Here place) =
-    (place.document ≡ d) × ((w : Readings) (terms : List (List ℕ)) → choose_for w terms (conclusion_found w t place.row) place.row ≡ choose_found w t r d p terms)
-IsFound t r d p (Nowhere refusal) = (w : Readings) (terms : List (List ℕ)) → answered.Refused refusal ≡ choose_found w t r d p terms
+    (place.document ≡ d) × ((w : Readings) (terms : List (List ℕ))
+    → choose_for w terms (conclusion_found w t place.row) place.row ≡ choose_found w t r d p terms)
+IsFound t r d p (Nowhere refusal) = (w : Readings) (terms : List (List ℕ))
+    → answered.Refused refusal ≡ choose_found w t r d p terms
 
 -- the same of a document that was found, in a release in this state
 abbrev pub IsFoundIn : Tables → ReleaseState → List ℕ → ℕ → List ℕ → Found → Type 0
 IsFoundIn t state r d p (Here place) =
-    (place.document ≡ d) × ((w : Readings) (terms : List (List ℕ)) → choose_for w terms (conclusion_found w t place.row) place.row ≡ choose_in w t state r d p terms)
-IsFoundIn t state r d p (Nowhere refusal) = (w : Readings) (terms : List (List ℕ)) → answered.Refused refusal ≡ choose_in w t state r d p terms
+    (place.document ≡ d) × ((w : Readings) (terms : List (List ℕ))
+    → choose_for w terms (conclusion_found w t place.row) place.row
+    ≡ choose_in w t state r d p terms)
+IsFoundIn t state r d p (Nowhere refusal) = (w : Readings) (terms : List (List ℕ))
+    → answered.Refused refusal ≡ choose_in w t state r d p terms
 
--- the same of a place that was looked up, by the state of the release and whether the document is attached
+-- the same of a place that was looked up, by the state of the release and whether the document is
+-- attached
 abbrev pub IsOpenPlace : ReleaseState → Bool → Place → Found → Type 0
 IsOpenPlace state attached place (Here found) =
-    (found ≡ place) × ((w : Readings) (terms : List (List ℕ)) (concluded : PackageRow → Option Conclusion) → choose_for w terms (concluded place.row) place.row ≡ choose_shipped w terms attached concluded state place.row)
+    (found ≡ place) × ((w : Readings) (terms : List (List ℕ))
+    (concluded : PackageRow → Option Conclusion)
+    → choose_for w terms (concluded place.row) place.row
+    ≡ choose_shipped w terms attached concluded state place.row)
 IsOpenPlace state attached place (Nowhere refusal) =
-    (w : Readings) (terms : List (List ℕ)) (concluded : PackageRow → Option Conclusion) → answered.Refused refusal ≡ choose_shipped w terms attached concluded state place.row
+    (w : Readings) (terms : List (List ℕ)) (concluded : PackageRow → Option Conclusion)
+    → answered.Refused refusal ≡ choose_shipped w terms attached concluded state place.row

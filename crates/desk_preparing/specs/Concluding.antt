@@ -1,5 +1,6 @@
 -- What the steps of a conclusion and of an adoption have found.
-use Rattle.std.specs.Prelude.{◌≡◌, ◌||◌, ℕ, true, List, [], ◌∷◌, nat_lt, find, is_some, Option, Some, None, if◌then◌else◌}
+use Rattle.std.specs.Prelude.{◌≡◌, ◌||◌, ℕ, true, List, [], ◌∷◌, nat_lt, find, is_some, Option}
+use Rattle.std.specs.Prelude.{Some, None, if◌then◌else◌}
 use Rattle.std.specs.Option.{option_map}
 use Rattle.desk_base.specs.Limits as most
 use Rattle.desk_model.specs.Readings.{Readings}
@@ -44,13 +45,16 @@ adopted_row d reference licence = record { document = d; reference = reference; 
 -- both texts were read, or the first that isn't what it should be
 abbrev pub AreAdopted : Readings → List ℕ → List ℕ → AdoptionRead → Type 0
 AreAdopted w r l (Pair reference licence) =
-    (is_reference w r ≡ true) × (is_plain w l ≡ true) × (w.term r ≡ Some reference) × (w.term l ≡ Some licence)
+    (is_reference w r ≡ true) × (is_plain w l ≡ true) × (w.term r ≡ Some reference)
+    × (w.term l ≡ Some licence)
 AreAdopted w r l (BadTerm i) =
-    refused_first (unless (is_reference w r) (why.BadTerm 0) ∷ unless (is_plain w l) (why.BadTerm 1) ∷ []) answered.Done ≡ answered.Refused (why.BadTerm i)
+    refused_first (unless (is_reference w r) (why.BadTerm 0) ∷ unless (is_plain w l) (why.BadTerm 1)
+    ∷ []) answered.Done ≡ answered.Refused (why.BadTerm i)
 
 -- of a reference and a licence
 abbrev pub adopt_known : Tables → ℕ → List ℕ → Answer
 adopt_known t d reference = refused_first (
     unless (is_some (find (is_document d) t.document)) why.UnknownDocument
-    ∷ unless (is_some (licence_for t.adoption d reference) || nat_lt (adoption_count t d) most.adoptions) (why.Full limit.Adoptions)
+    ∷ unless (is_some (licence_for t.adoption d reference)
+    || nat_lt (adoption_count t d) most.adoptions) (why.Full limit.Adoptions)
     ∷ []) answered.Done

@@ -11,7 +11,8 @@ use Rattle.desk_history.specs.FromTables.{terms_found}
 
 -- with these terms chosen
 abbrev pub drop_answer : ℕ → List ℕ → List (List ℕ) → Answer
-drop_answer d p chosen = refused_first (unless (nat_lt 0 (length chosen)) (why.NoChoice d p) ∷ []) answered.Done
+drop_answer d p chosen = refused_first (unless (nat_lt 0 (length chosen)) (why.NoChoice d p) ∷ [])
+    answered.Done
 
 -- of a document that was found, in a release in this state
 abbrev pub unchoose_in : Tables → ReleaseState → List ℕ → ℕ → List ℕ → Answer

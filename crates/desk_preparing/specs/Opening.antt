@@ -15,7 +15,8 @@ use Rattle.desk_model.specs.declared.command.Answer.TheVariants as answered
 
 -- of a name that is free, beside so many releases
 abbrev pub open_next : ℕ → Answer
-open_next releases = refused_first (unless (nat_lt releases most.releases) (why.Full limit.Releases) ∷ []) answered.Done
+open_next releases = refused_first
+    (unless (nat_lt releases most.releases) (why.Full limit.Releases) ∷ []) answered.Done
 
 abbrev pub attached_row : List ℕ → ℕ → AttachedRow
 attached_row r d = record { release = r; document = d }

@@ -6,15 +6,19 @@ use Rattle.desk_access.specs.Seen.{Seen, Same, OfRows}
 use Rattle.desk_access.proofs.Chains.{same_then_same}
 use Rattle.desk_wanting.proofs.SoFar.{SoFar}
 
-module _ {Left X L : Type 0} (line_of : Tables → X → L) (done : List X) (x : X) (lines after : List L) (line : L) (a b c : Seen Left) where
-  pub line_more : Same a b → Same b c → OfRows (λ t. lines ≡ map (line_of t) done) a b → OfRows (λ t. line ≡ line_of t x) b c → after ≡ lines ++ line ∷ []
+module _ {Left X L : Type 0} (line_of : Tables → X → L) (done : List X) (x : X)
+    (lines after : List L) (line : L) (a b c : Seen Left) where
+  pub line_more : Same a b → Same b c → OfRows (λ t. lines ≡ map (line_of t) done) a b
+      → OfRows (λ t. line ≡ line_of t x) b c → after ≡ lines ++ line ∷ []
       → OfRows (λ t. after ≡ map (line_of t) (done ++ x ∷ [])) a c
   line_more first second told one pushed honest t held =
       pushed
       ∙ (ap (λ xs. xs ++ line ∷ []) (told (second.kept.spared.honest honest) t held)
-      ∙ (ap (λ l. map (line_of t) done ++ l ∷ []) (one honest t (first.kept.spared.holds t held)) ∙ sym (map-append (line_of t) done (x ∷ []))))
+      ∙ (ap (λ l. map (line_of t) done ++ l ∷ []) (one honest t (first.kept.spared.holds t held))
+      ∙ sym (map-append (line_of t) done (x ∷ []))))
 
-  pub one_more : SoFar (OfRows (λ t. lines ≡ map (line_of t) done)) a b → Same b c → OfRows (λ t. line ≡ line_of t x) b c → after ≡ lines ++ line ∷ []
+  pub one_more : SoFar (OfRows (λ t. lines ≡ map (line_of t) done)) a b → Same b c
+      → OfRows (λ t. line ≡ line_of t x) b c → after ≡ lines ++ line ∷ []
       → SoFar (OfRows (λ t. after ≡ map (line_of t) (done ++ x ∷ []))) a c
   one_more before second one pushed = record {
     same = same_then_same a b c before.same second;

@@ -31,7 +31,8 @@ is_of key row = is_frozen_of key.release.now key.document key.id.now row
 
 -- the text of a term's reference, or else of its licence
 abbrev pub main_text : Readings → ℕ → List ℕ → TextOf
-main_text w d term = option_map_or (λ reference. Reference d reference) (w.reference term) (Licence (w.licence_id term))
+main_text w d term = option_map_or (λ reference. Reference d reference) (w.reference term)
+    (Licence (w.licence_id term))
 
 -- it is the text of a licence
 abbrev pub is_licence : TextOf → Bool
@@ -40,7 +41,8 @@ is_licence (Reference d reference) = false
 
 -- each of these texts is among those
 abbrev pub AreAmong : List TextOf → List TextOf → Type 0
-AreAmong xs texts = (x : TextOf) → list_any (is_same_text x) texts ≡ true → list_any (is_same_text x) xs ≡ true
+AreAmong xs texts = (x : TextOf) → list_any (is_same_text x) texts ≡ true
+    → list_any (is_same_text x) xs ≡ true
 
 -- a term is among those that were met
 abbrev pub is_met : Named → Bor (List ℕ) → Bool
@@ -49,9 +51,11 @@ is_met named term = sorted.contains_by (λ k. slice_cmp nat_cmp term.now k.now) 
 -- these are the texts that terms named, as far as first uses matter
 pub record AreNamed (w : Readings) (xs : List TextOf) (named : Named) : Type 0 where
   pub uses : first_uses named.texts.items ≡ first_uses xs
-  pub same : (x : TextOf) → list_any (is_same_text x) named.texts.items ≡ list_any (is_same_text x) xs
+  pub same : (x : TextOf) → list_any (is_same_text x) named.texts.items
+      ≡ list_any (is_same_text x) xs
   -- a term that was met names only these, in any document
-  pub met : (term : Bor (List ℕ)) → is_met named term ≡ true → (d : ℕ) → AreAmong xs (texts_named w d term.now)
+  pub met : (term : Bor (List ℕ)) → is_met named term ≡ true → (d : ℕ)
+      → AreAmong xs (texts_named w d term.now)
 
 -- these texts are named too
 abbrev pub Adds : Readings → List TextOf → Named → Named → Type 0
@@ -67,7 +71,9 @@ key_order = then_cmp (on (λ k. k.document) nat_cmp) (on (λ k. k.name) (slice_c
 
 -- the set has the keys of these texts, and no others
 abbrev pub HasTexts : List TextOf → BTreeSet TextKey → Type 0
-HasTexts texts seen = (key : TextKey) → sorted.contains_by (key_order key) seen ≡ list_any (λ text. is_eq (key_order key (text_key text))) texts
+HasTexts texts seen = (key : TextKey)
+    → sorted.contains_by (key_order key) seen
+    ≡ list_any (λ text. is_eq (key_order key (text_key text))) texts
 
 -- the text of a licence or an exception in a catalogue, if there is one
 abbrev pub licence_found : Readings → Option (List ℕ) → List ℕ → Option LicenceText
@@ -79,9 +85,15 @@ licence_ids (Licence id) = id ∷ []
 licence_ids (Reference d reference) = []
 
 -- the texts of these ids in a catalogue are what remains of those that were found
-abbrev pub AreLeft : Readings → Option (List ℕ) → List (List ℕ) → IntoIter (Option LicenceText) Global → Type 0
+abbrev pub AreLeft : Readings → Option (List ℕ) → List (List ℕ)
+    → IntoIter (Option LicenceText) Global → Type 0
 AreLeft w catalogue ids left = into_iter_items left ≡ map (licence_found w catalogue) ids
 
 -- the line of a package with the rules for its terms
 abbrev pub line_with : List (List ℕ) → PackageRow → BillLine
-line_with rules p = record { name = p.name; version = p.version; rules = rules; copyright = p.copyright }
+line_with rules p = record {
+  name = p.name;
+  version = p.version;
+  rules = rules;
+  copyright = p.copyright;
+}

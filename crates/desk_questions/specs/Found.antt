@@ -26,7 +26,8 @@ priced (Err fault) = answered.Refused (list_refusal fault)
 
 -- the answer about the conclusion of a package, if it has one
 abbrev pub told_of : (Conclusion → Answer) → Option Conclusion → PackageRow → Answer
-told_of tell conclusion p = option_map_or tell conclusion (answered.Refused (why.NoConclusion p.document p.id))
+told_of tell conclusion p = option_map_or tell conclusion
+    (answered.Refused (why.NoConclusion p.document p.id))
 
 -- the answer about a package of a document
 abbrev pub of_package : (PackageRow → Answer) → Bool → Option PackageRow → Answer
@@ -39,19 +40,24 @@ abbrev pub told_found : (PackageRow → Answer) → Result PackageRow Refusal �
 told_found tell (Ok p) = tell p
 told_found tell (Err refusal) = answered.Refused refusal
 
--- the package of a document of the tables, or why there is none: any answer about a package is the same for both
+-- the package of a document of the tables, or why there is none: any answer about a package is the
+-- same for both
 abbrev pub IsFound : Tables → ℕ → List ℕ → Result PackageRow Refusal → Type 0
-IsFound t d p found = (tell : PackageRow → Answer) → told_found tell found ≡ of_package tell (stands_document t d) (package_found t d p)
+IsFound t d p found = (tell : PackageRow → Answer)
+    → told_found tell found ≡ of_package tell (stands_document t d) (package_found t d p)
 
 -- the sets of its conclusion
 abbrev pub listed_found : Readings → Tables → PackageRow → Answer
-listed_found w t p = told_of (λ c. listed (w.alternatives c.profile c.text)) (conclusion_found w t p) p
+listed_found w t p = told_of (λ c. listed (w.alternatives c.profile c.text))
+    (conclusion_found w t p) p
 
 -- the cheapest of them, by what its terms cost in a form
 abbrev pub priced_by : Readings → Tables → List ℕ → PackageRow → Answer
 priced_by w t form p =
-    told_of (λ c. priced (w.cheapest c.profile c.text (term_cost w t.adoption (rules_found t) form p.document))) (conclusion_found w t p) p
+    told_of (λ c. priced (w.cheapest c.profile c.text
+    (term_cost w t.adoption (rules_found t) form p.document))) (conclusion_found w t p) p
 
 -- the same in a form that the catalogue in force has, or why not
 abbrev pub priced_found : Readings → Tables → List ℕ → PackageRow → Answer
-priced_found w t form p = if not (list_any (bytes_eq form) t.forms) then answered.Refused why.UnknownForm else priced_by w t form p
+priced_found w t form p = if not (list_any (bytes_eq form) t.forms)
+    then answered.Refused why.UnknownForm else priced_by w t form p

@@ -15,11 +15,15 @@ use Rattle.desk_history.specs.FromTables.{release_found}
 abbrev pub counted_line : Tables → ReleaseRow → ReleaseLine
 counted_line t row = record {
   release = row;
-  totals = unwrap_or (option_map (λ found. totals_of (filter (is_duty_of row.name) t.duty)) (release_found t row.name)) (totals_of []);
+  totals = unwrap_or (option_map (λ found. totals_of (filter (is_duty_of row.name) t.duty))
+      (release_found t row.name)) (totals_of []);
 }
 
 abbrev pub head_line : Tables → DocumentHead → DocumentLine
-head_line t head = record { head = head; shipped = length (filter (is_shipped_by head.number) t.packages) }
+head_line t head = record {
+  head = head;
+  shipped = length (filter (is_shipped_by head.number) t.packages);
+}
 
 abbrev pub changes_found : Tables → ℕ → List ChangeRow
 changes_found t q = filter (is_change_of q) t.changes

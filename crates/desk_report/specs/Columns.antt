@@ -1,5 +1,7 @@
--- The table of duties laid out in columns, for a terminal. 10 is the line feed, 32 the blank and 63 `?`.
-use Rattle.std.specs.Prelude.{ℕ, ◌-◌, ◌+◌, false, ◌==◌, ◌||◌, nat_lt, List, [], ◌∷◌, ◌++◌, map, max, chars, codes, decimal, replicate, unwrap_or, if◌then◌else◌}
+-- The table of duties laid out in columns, for a terminal. 10 is the line feed, 32 the blank and 63
+-- `?`.
+use Rattle.std.specs.Prelude.{ℕ, ◌-◌, ◌+◌, false, ◌==◌, ◌||◌, nat_lt, List, [], ◌∷◌, ◌++◌, map, max}
+use Rattle.std.specs.Prelude.{chars, codes, decimal, replicate, unwrap_or, if◌then◌else◌}
 use Rattle.std.specs.List.{flat_map}
 use Rattle.unicode_width.specs.Width.{str_width}
 use Rattle.desk_model.specs.Names.{duty_state_name}
@@ -18,11 +20,13 @@ width text = str_width false (chars text)
 
 -- the names of the columns before the last
 abbrev pub front_names : List (List ℕ)
-front_names = codes "number" ∷ codes "document" ∷ codes "package" ∷ codes "term" ∷ codes "rule" ∷ codes "code" ∷ codes "state" ∷ []
+front_names = codes "number" ∷ codes "document" ∷ codes "package" ∷ codes "term" ∷ codes "rule"
+    ∷ codes "code" ∷ codes "state" ∷ []
 
 -- the cells of a duty in these columns
 abbrev pub front_cells : DutyLine → List (List ℕ)
-front_cells line = decimal line.number ∷ decimal line.document ∷ line.package_id ∷ line.term ∷ line.rule ∷ line.code ∷ duty_state_name line.state ∷ []
+front_cells line = decimal line.number ∷ decimal line.document ∷ line.package_id ∷ line.term
+    ∷ line.rule ∷ line.code ∷ duty_state_name line.state ∷ []
 
 -- the widths of columns, widened for these cells
 abbrev pub widened : List ℕ → List (List ℕ) → List ℕ
@@ -57,4 +61,5 @@ duty_row ws line = row_line ws (front_cells line) (unwrap_or line.day [])
 
 -- the names of the columns, and a row for each duty
 unfoldable pub columns_text : List DutyLine → List ℕ
-columns_text lines = row_line (widths lines) front_names (codes "since") ++ flat_map (duty_row (widths lines)) lines
+columns_text lines = row_line (widths lines) front_names (codes "since")
+    ++ flat_map (duty_row (widths lines)) lines

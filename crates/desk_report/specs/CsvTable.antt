@@ -1,4 +1,5 @@
--- The table of duties as comma-separated values (RFC 4180, section 2), each record ended by LF, as the `csv` crate writes it by default.
+-- The table of duties as comma-separated values (RFC 4180, section 2), each record ended by LF, as
+-- the `csv` crate writes it by default.
 use Rattle.std.specs.Prelude.{◌≡◌, ℕ, false, List, [], ◌∷◌, ◌++◌, codes, decimal, unwrap_or}
 use Rattle.std.specs.List.{flat_map}
 use Rattle.csv.specs.Writing.{default_writer, fields_written, has_written, row_text, writer_setup}
@@ -11,12 +12,14 @@ unfoldable pub record_text : List (List ℕ) → List ℕ
 record_text fields = row_text default_writer fields
 
 abbrev pub column_names : List (List ℕ)
-column_names = codes "number" ∷ codes "document" ∷ codes "package" ∷ codes "term" ∷ codes "rule" ∷ codes "code" ∷ codes "state" ∷ codes "since" ∷ []
+column_names = codes "number" ∷ codes "document" ∷ codes "package" ∷ codes "term" ∷ codes "rule"
+    ∷ codes "code" ∷ codes "state" ∷ codes "since" ∷ []
 
--- the fields of a duty after its numbers; the day's is empty if there is none, which no recorded history
--- gives
+-- the fields of a duty after its numbers; the day's is empty if there is none, which no recorded
+-- history gives
 abbrev pub cells_behind : DutyLine → List (List ℕ)
-cells_behind line = line.package_id ∷ line.term ∷ line.rule ∷ line.code ∷ duty_state_name line.state ∷ unwrap_or line.day [] ∷ []
+cells_behind line = line.package_id ∷ line.term ∷ line.rule ∷ line.code ∷ duty_state_name line.state
+    ∷ unwrap_or line.day [] ∷ []
 
 abbrev pub duty_cells : DutyLine → List (List ℕ)
 duty_cells line = decimal line.number ∷ decimal line.document ∷ cells_behind line
@@ -30,4 +33,5 @@ table_text lines = record_text column_names ++ flat_map duty_record lines
 
 -- a writer with the crate's defaults, between two records
 abbrev pub is_between_rows : {W : Type 0} → Writer W → Type 0
-is_between_rows writer = (writer_setup writer ≡ default_writer) × (fields_written writer ≡ 0) × (has_written writer ≡ false)
+is_between_rows writer = (writer_setup writer ≡ default_writer) × (fields_written writer ≡ 0)
+    × (has_written writer ≡ false)

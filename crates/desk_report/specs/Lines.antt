@@ -10,7 +10,8 @@ counted word count = word ++ codes " " ++ decimal count
 
 -- how many duties were raised, and how many of these are in each state
 abbrev pub totals_line : Totals → List ℕ
-totals_line t = counted (codes "raised") t.raised ++ counted (codes " open") t.still_open ++ counted (codes " met") t.met
+totals_line t = counted (codes "raised") t.raised ++ counted (codes " open") t.still_open
+    ++ counted (codes " met") t.met
     ++ counted (codes " waived") t.waived ++ counted (codes " withdrawn") t.withdrawn ++ codes "\n"
 
 -- a word after a blank

@@ -13,7 +13,8 @@ framed before value after = before ++ value ++ after
 
 -- the release and the form in which it ships
 abbrev pub heading : Bill → List ℕ
-heading bill = framed (codes "Notices for ") bill.release (codes " ") ++ framed (codes "(") bill.form (codes ")\n")
+heading bill = framed (codes "Notices for ") bill.release (codes " ")
+    ++ framed (codes "(") bill.form (codes ")\n")
 
 -- a package: its name and, if it has one, its version
 unfoldable pub name_line : BillLine → List ℕ
@@ -25,11 +26,13 @@ rule_line rule = framed (codes "Licence: ") rule (codes "\n")
 
 -- the line of its copyright, or `none given` if the document gives none
 unfoldable pub copyright_line : Option (List ℕ) → List ℕ
-copyright_line copyright = framed (codes "Copyright: ") (unwrap_or copyright (codes "none given")) (codes "\n")
+copyright_line copyright = framed (codes "Copyright: ") (unwrap_or copyright (codes "none given"))
+    (codes "\n")
 
 -- the notice of a package, after an empty line
 unfoldable pub package_notice : BillLine → List ℕ
-package_notice line = codes "\n" ++ name_line line ++ flat_map rule_line line.rules ++ copyright_line line.copyright
+package_notice line = codes "\n" ++ name_line line ++ flat_map rule_line line.rules
+    ++ copyright_line line.copyright
 
 -- a body that ends with a line feed, which is added if it has none
 abbrev pub ended : List ℕ → List ℕ
@@ -45,4 +48,5 @@ text_notice text = framed (codes "\n---- ") text.title (codes " ----\n") ++ body
 
 -- the packages of a release, then the texts of their terms
 abbrev pub notices_text : Bill → List ℕ
-notices_text bill = heading bill ++ flat_map package_notice bill.lines ++ flat_map text_notice bill.texts
+notices_text bill = heading bill ++ flat_map package_notice bill.lines
+    ++ flat_map text_notice bill.texts

@@ -4,8 +4,8 @@ use Rattle.desk_base.specs.Limits as most
 use Rattle.desk_script.specs.declared.serving.ScriptFault.{ScriptFault}
 use Rattle.desk_script.specs.declared.serving.ScriptFault.TheVariants.{Read, Write, Turns, Memory, Refused, Failed}
 
--- a reply that couldn't be written, no memory for a line or a reply, or a line that isn't done if a script is
--- to stop there
+-- a reply that couldn't be written, no memory for a line or a reply, or a line that isn't done if a
+-- script is to stop there
 abbrev pub IsOfReply : ScriptFault → Type 0
 IsOfReply Write = Unit {0}
 IsOfReply Memory = Unit {0}
@@ -23,7 +23,8 @@ IsOfWriter Turns = ⊥
 IsOfWriter Refused = ⊥
 IsOfWriter Failed = ⊥
 
--- a reader that gave this many bytes and failed, or was asked too often and gave at least one byte each time
+-- a reader that gave this many bytes and failed, or was asked too often and gave at least one byte
+-- each time
 abbrev pub IsOfReader : ScriptFault → ℕ → Type 0
 IsOfReader Read count = Unit {0}
 IsOfReader Turns count = most.script_reads ≤ count

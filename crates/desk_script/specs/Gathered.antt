@@ -1,11 +1,12 @@
 -- What is kept of a line as far as it came.
-use Rattle.std.specs.Prelude.{◌≡◌, ◌≢◌, ℕ, ◌-◌, Bool, true, false, List, [], ◌∷◌, ◌++◌, nat_lt, length, take, slice_index}
+use Rattle.std.specs.Prelude.{◌≡◌, ◌≢◌, ℕ, ◌-◌, Bool, true, false, List, [], ◌∷◌, ◌++◌, nat_lt}
+use Rattle.std.specs.Prelude.{length, take, slice_index}
 use Rattle.desk_base.specs.Limits.{line_bytes}
 use Rattle.desk_script.specs.Lines.{is_blank_line}
 use Rattle.desk_script.specs.declared.line.Line.{Line}
 
--- these bytes of a line came: as many as a request may have are kept, and it is known whether there are more,
--- and whether they are blank
+-- these bytes of a line came: as many as a request may have are kept, and it is known whether there
+-- are more, and whether they are blank
 pub record HasCome (line : Line) (text : List ℕ) : Type 0 where
   pub kept : line.kept.items ≡ take line_bytes text
   pub long : line.is_long ≡ nat_lt line_bytes (length text)

@@ -23,10 +23,12 @@ request_at text = if is_blank_line text then [] else request_of text ∷ []
 -- the requests of lines; a blank line has none
 abbrev pub requests_of : List LineText → List Request
 requests_of [] = []
-requests_of (line ∷ lines) = if is_blank_line line.text then requests_of lines else request_of line.text ∷ requests_of lines
+requests_of (line ∷ lines) = if is_blank_line line.text then requests_of lines
+    else request_of line.text ∷ requests_of lines
 
 -- bytes begin with these lines, numbered from a number on, and a rest follows
 abbrev pub BeginsWith : ℕ → List ℕ → List LineText → List ℕ → Type 0
 BeginsWith number bytes [] rest = bytes ≡ rest
 BeginsWith number bytes (line ∷ lines) rest =
-    (more : List ℕ) × (line.number ≡ number) × IsLine bytes line.text line.end more × BeginsWith (number + 1) more lines rest
+    (more : List ℕ) × (line.number ≡ number) × IsLine bytes line.text line.end more
+    × BeginsWith (number + 1) more lines rest

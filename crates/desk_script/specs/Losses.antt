@@ -14,7 +14,8 @@ IsFrontOf front bytes = (rest : List ℕ) × (bytes ≡ front ++ rest)
 abbrev pub AppendsFront : Option (List ℕ) → Option (List ℕ) → List ℕ → Type 0
 AppendsFront old new bytes = (front : List ℕ) × IsFrontOf front bytes × Appends old new front
 
--- if a script is to stop at the first line that isn't done: the fault is that the line of this reply isn't
+-- if a script is to stop at the first line that isn't done: the fault is that the line of this
+-- reply isn't
 abbrev pub IsStopAt : Reply → ScriptFault → Type 0
 IsStopAt reply Refused = count_refused reply ≡ 1
 IsStopAt reply Failed = count_failed reply ≡ 1
@@ -30,9 +31,9 @@ IfStop fact _ = Unit {0}
 abbrev pub AreDone : List Reply → Type 0
 AreDone replies = (sum_by count_refused replies ≡ 0) × (sum_by count_failed replies ≡ 0)
 
--- Why a reply is the last one, and what is written of it: its line couldn't be written, and some prefix of it
--- was; no memory was left for its text, and nothing of it was written; or its line isn't done, and all of it
--- is written.
+-- Why a reply is the last one, and what is written of it: its line couldn't be written, and some
+-- prefix of it was; no memory was left for its text, and nothing of it was written; or its line
+-- isn't done, and all of it is written.
 abbrev pub IsLost : ScriptFault → Reply → List ℕ → Type 0
 IsLost Write reply front = IsFrontOf front (line_of reply)
 IsLost Memory reply front = TakesMemory reply × (front ≡ [])
@@ -56,9 +57,10 @@ pub record Loses (fault : ScriptFault) (reply : Reply) (old new : Option (List �
   pub lost : IsLost fault reply front
   pub written : Appends old new front
 
--- the last of some replies is lost or ends the script, after the lines of the ones before it; if it ends the
--- script, it is the first whose line isn't done
-pub record LosesLast (fault : ScriptFault) (replies : List Reply) (old new : Option (List ℕ)) : Type 0 where
+-- the last of some replies is lost or ends the script, after the lines of the ones before it; if it
+-- ends the script, it is the first whose line isn't done
+pub record LosesLast (fault : ScriptFault) (replies : List Reply)
+    (old new : Option (List ℕ)) : Type 0 where
   pub told : List Reply
   pub last : Reply
   pub are : replies ≡ told ++ last ∷ []
@@ -69,4 +71,5 @@ pub record LosesLast (fault : ScriptFault) (replies : List Reply) (old new : Opt
 
 -- the replies are written, a line each, except the last one if it is lost
 abbrev pub AreToldUntil : ScriptFault → List Reply → Option (List ℕ) → Option (List ℕ) → Type 0
-AreToldUntil fault replies old new = (IsOfLine fault × Appends old new (lines_of replies)) ⊎ LosesLast fault replies old new
+AreToldUntil fault replies old new = (IsOfLine fault × Appends old new (lines_of replies))
+    ⊎ LosesLast fault replies old new

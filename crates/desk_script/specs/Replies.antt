@@ -55,37 +55,46 @@ is_recorded_by (Act c) (Became (Answered a)) = is_recorded a
 is_recorded_by _ _ = false
 
 abbrev pub is_any_recorded : List Request → List Reply → Bool
-is_any_recorded (request ∷ requests) (reply ∷ replies) = is_recorded_by request reply || is_any_recorded requests replies
+is_any_recorded (request ∷ requests) (reply ∷ replies) = is_recorded_by request reply
+    || is_any_recorded requests replies
 is_any_recorded _ _ = false
 
 -- what a stop may leave after a reply; only a command adds to what it could leave before
-abbrev pub IsLeftBy : {Left : Type 0} → (Left → Tables → Type 0) → Readings → List Command → Seen Left → Request → Reply → Left → Type 0
+abbrev pub IsLeftBy : {Left : Type 0} → (Left → Tables → Type 0) → Readings → List Command
+    → Seen Left → Request → Reply → Left → Type 0
 IsLeftBy stands w h old (Act c) (Became o) x = IsLeft stands w h old c o x
 IsLeftBy stands w h old _ _ x = old.is_open → old.leaves x
 
-module _ (is_right : Readings → Type 0) (tells : StoreFault → Type 0) {Left : Type 0} (stands : Left → Tables → Type 0) where
-  -- A desk gives a request this reply. Whatever its rows are, they are as they were if nothing was recorded.
-  -- For each right reading and each history whose tables they are, the reply is the answer of the history,
-  -- and the desk then has the tables of the history with the command. It is also said what a stop leaves, and
-  -- that the desk still shows its rows if the reply is no fault, and after a fault unless its disk failed.
-  pub record Replies (old : Seen Left) (request : Request) (reply : Reply) (new : Seen Left) : Type 0 where
+module _ (is_right : Readings → Type 0) (tells : StoreFault → Type 0) {Left : Type 0}
+    (stands : Left → Tables → Type 0) where
+  -- A desk gives a request this reply. Whatever its rows are, they are as they were if nothing was
+  -- recorded. For each right reading and each history whose tables they are, the reply is the
+  -- answer of the history, and the desk then has the tables of the history with the command. It is
+  -- also said what a stop leaves, and that the desk still shows its rows if the reply is no fault,
+  -- and after a fault unless its disk failed.
+  pub record Replies (old : Seen Left) (request : Request) (reply : Reply)
+      (new : Seen Left) : Type 0 where
     pub fits : Fits tells request reply
     pub honest : new.is_honest → old.is_honest
     pub keeps : is_recorded_by request reply ≡ false → Spared old new
     pub outlasts : Outlasts old new
     pub answer : InHistory is_right (λ w h. IsReply w h request reply) old new
-    pub content : InHistory is_right (λ w h. new.holds (tables w (history_past h request reply))) old new
+    pub content : InHistory is_right (λ w h. new.holds (tables w (history_past h request reply)))
+        old new
     pub alone : (w : Readings) → is_right w → SparesStore w request reply
-    pub stays : count_failed reply ≡ 0 → InHistory is_right (λ w h. old.is_open → new.is_open) old new
-    pub leaves : InHistory is_right (λ w h. (x : Left) → new.leaves x → IsLeftBy stands w h old request reply x) old new
+    pub stays : count_failed reply ≡ 0
+        → InHistory is_right (λ w h. old.is_open → new.is_open) old new
+    pub leaves : InHistory is_right
+        (λ w h. (x : Left) → new.leaves x → IsLeftBy stands w h old request reply x) old new
 
   module _ {Desk : Type 0} (seen : Desk → Seen Left) where
-    -- A desk gives requests these replies, one after another, each as the ones before it left the desk: so
-    -- there is a desk between any two of them.
+    -- A desk gives requests these replies, one after another, each as the ones before it left the
+    -- desk: so there is a desk between any two of them.
     abbrev pub AreReplied : Desk → List Request → List Reply → Desk → Type 0
     AreReplied before [] [] after = before ≡ after
     AreReplied before (request ∷ requests) (reply ∷ replies) after =
-        (between : Desk) × Replies (seen before) request reply (seen between) × AreReplied between requests replies after
+        (between : Desk) × Replies (seen before) request reply (seen between)
+        × AreReplied between requests replies after
     AreReplied before _ _ after = ⊥
 
 -- the commands among requests, and their outcomes
@@ -99,18 +108,29 @@ outcomes_of (Act c ∷ requests) (Became o ∷ replies) = o ∷ outcomes_of requ
 outcomes_of (_ ∷ requests) (_ ∷ replies) = outcomes_of requests replies
 outcomes_of _ _ = []
 
--- The commands among the requests are a run. Whatever the rows were, they are as they were if no command was
--- recorded. For each right reading and each history whose tables were the rows before, each outcome that is
--- no fault is the answer at its place, the recorded commands are added to the history, and the rows
--- afterwards are its tables. If there was no fault, and a stop left the rows before the run and no others, a
--- stop leaves the rows after it and no others. Only a fault of its disk closes the desk.
-pub record IsRun {Left : Type 0} (is_right : Readings → Type 0) (stands : Left → Tables → Type 0) (old : Seen Left) (requests : List Request) (replies : List Reply) (new : Seen Left) : Type 0 where
+-- The commands among the requests are a run. Whatever the rows were, they are as they were if no
+-- command was recorded. For each right reading and each history whose tables were the rows before,
+-- each outcome that is no fault is the answer at its place, the recorded commands are added to the
+-- history, and the rows afterwards are its tables. If there was no fault, and a stop left the rows
+-- before the run and no others, a stop leaves the rows after it and no others. Only a fault of its
+-- disk closes the desk.
+pub record IsRun {Left : Type 0} (is_right : Readings → Type 0) (stands : Left → Tables → Type 0)
+    (old : Seen Left) (requests : List Request) (replies : List Reply)
+    (new : Seen Left) : Type 0 where
   pub honest : new.is_honest → old.is_honest
   pub keeps : is_any_recorded requests replies ≡ false → Spared old new
   pub outlasts : Outlasts old new
-  pub alone : (w : Readings) → is_right w → AllSpareStore w (commands_of requests) (outcomes_of requests replies)
-  pub answers : InHistory is_right (λ w h. AreAnswers w h (commands_of requests) (outcomes_of requests replies)) old new
-  pub history : InHistory is_right (λ w h. IsHistory w (history_after h (commands_of requests) (outcomes_of requests replies))) old new
-  pub content : InHistory is_right (λ w h. new.holds (tables w (history_after h (commands_of requests) (outcomes_of requests replies)))) old new
+  pub alone : (w : Readings) → is_right w
+      → AllSpareStore w (commands_of requests) (outcomes_of requests replies)
+  pub answers : InHistory is_right
+      (λ w h. AreAnswers w h (commands_of requests) (outcomes_of requests replies)) old new
+  pub history : InHistory is_right
+      (λ w h. IsHistory w (history_after h (commands_of requests) (outcomes_of requests replies)))
+      old new
+  pub content : InHistory is_right
+      (λ w h. new.holds (tables w (history_after h (commands_of requests)
+      (outcomes_of requests replies)))) old new
   pub secures : sum_by count_failed replies ≡ 0 → InHistory is_right
-      (λ w h. Secures stands (tables w h) old → Secures stands (tables w (history_after h (commands_of requests) (outcomes_of requests replies))) new) old new
+      (λ w h. Secures stands (tables w h) old
+      → Secures stands (tables w (history_after h (commands_of requests)
+      (outcomes_of requests replies))) new) old new

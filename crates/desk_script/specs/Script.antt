@@ -26,17 +26,22 @@ IsUncounted from to = (to.refused ≡ from.refused) × (to.failed ≡ from.faile
 abbrev pub AreLeft : Option (List ℕ) → List ℕ → Type 0
 AreLeft remaining bytes = IfSome remaining (λ told. told ≡ bytes)
 
-module _ (is_right : Readings → Type 0) (tells : StoreFault → Type 0) {Left Desk : Type 0} (stands : Left → Tables → Type 0) (seen : Desk → Seen Left) where
-  -- After this many requests they are a run, on the way from one desk to the other: what is said of a run is
-  -- true after each reply.
-  pub record HasRun (n : ℕ) (requests : List Request) (replies : List Reply) (before after : Desk) : Type 0 where
+module _ (is_right : Readings → Type 0) (tells : StoreFault → Type 0) {Left Desk : Type 0}
+    (stands : Left → Tables → Type 0) (seen : Desk → Seen Left) where
+  -- After this many requests they are a run, on the way from one desk to the other: what is said of
+  -- a run is true after each reply.
+  pub record HasRun (n : ℕ) (requests : List Request) (replies : List Reply)
+      (before after : Desk) : Type 0 where
     pub between : Desk
-    pub replied : AreReplied is_right tells stands seen before (take n requests) (take n replies) between
+    pub replied : AreReplied is_right tells stands seen before (take n requests) (take n replies)
+        between
     pub run : IsRun is_right stands (seen before) (take n requests) (take n replies) (seen between)
-    pub rest : AreReplied is_right tells stands seen between (drop n requests) (drop n replies) after
+    pub rest : AreReplied is_right tells stands seen between (drop n requests) (drop n replies)
+        after
 
   -- requests were answered, and the replies were written as lines and counted
-  pub record Serves (requests : List Request) (before after : Desk) (old new : Option (List ℕ)) (from to : ScriptEnd) : Type 0 where
+  pub record Serves (requests : List Request) (before after : Desk) (old new : Option (List ℕ))
+      (from to : ScriptEnd) : Type 0 where
     pub replies : List Reply
     pub replied : AreReplied is_right tells stands seen before requests replies after
     pub written : Appends old new (lines_of replies)
@@ -44,14 +49,17 @@ module _ (is_right : Readings → Type 0) (tells : StoreFault → Type 0) {Left 
     pub failed : to.failed ≡ from.failed + sum_by count_failed replies
 
   -- requests were answered until a fault, and the replies were written as far as it allowed
-  pub record ServesUntil (fault : ScriptFault) (requests : List Request) (before after : Desk) (old new : Option (List ℕ)) : Type 0 where
+  pub record ServesUntil (fault : ScriptFault) (requests : List Request) (before after : Desk)
+      (old new : Option (List ℕ)) : Type 0 where
     pub replies : List Reply
     pub replied : AreReplied is_right tells stands seen before requests replies after
     pub told : AreToldUntil fault replies old new
 
-  -- A whole script: the bytes are cut into lines, the request of each line that isn't blank is answered, the
-  -- commands among the requests are a run, and the replies are written, a line each, and counted.
-  pub record IsScript (bytes : List ℕ) (before after : Desk) (old new : Option (List ℕ)) (end : ScriptEnd) : Type 0 where
+  -- A whole script: the bytes are cut into lines, the request of each line that isn't blank is
+  -- answered, the commands among the requests are a run, and the replies are written, a line each,
+  -- and counted.
+  pub record IsScript (bytes : List ℕ) (before after : Desk) (old new : Option (List ℕ))
+      (end : ScriptEnd) : Type 0 where
     pub lines : List LineText
     pub replies : List Reply
     pub cut : CutsInto 1 bytes lines
@@ -62,10 +70,12 @@ module _ (is_right : Readings → Type 0) (tells : StoreFault → Type 0) {Left 
     pub refused : end.refused ≡ sum_by count_refused replies
     pub failed : end.failed ≡ sum_by count_failed replies
 
-  -- A script that stopped: the bytes begin with some lines that were answered, and nothing else was; the
-  -- commands among them are a run; and the replies are written, a line each, except the last one if it is
-  -- lost. A script that was to stop at the first line that isn't done stopped there.
-  pub record IsFront (fault : ScriptFault) (bytes : List ℕ) (before after : Desk) (old new : Option (List ℕ)) : Type 0 where
+  -- A script that stopped: the bytes begin with some lines that were answered, and nothing else
+  -- was; the commands among them are a run; and the replies are written, a line each, except the
+  -- last one if it is lost. A script that was to stop at the first line that isn't done stopped
+  -- there.
+  pub record IsFront (fault : ScriptFault) (bytes : List ℕ) (before after : Desk)
+      (old new : Option (List ℕ)) : Type 0 where
     pub lines : List LineText
     pub rest : List ℕ
     pub replies : List Reply
@@ -75,9 +85,10 @@ module _ (is_right : Readings → Type 0) (tells : StoreFault → Type 0) {Left 
     pub fronts : (n : ℕ) → HasRun n (requests_of lines) replies before after
     pub told : AreToldUntil fault replies old new
 
-  -- a script whose reader gave no more than these bytes: the lines that an LF ended are answered, their
-  -- replies are written, and nothing else is
-  pub record IsCutOff (bytes : List ℕ) (before after : Desk) (old new : Option (List ℕ)) : Type 0 where
+  -- a script whose reader gave no more than these bytes: the lines that an LF ended are answered,
+  -- their replies are written, and nothing else is
+  pub record IsCutOff (bytes : List ℕ) (before after : Desk)
+      (old new : Option (List ℕ)) : Type 0 where
     pub lines : List LineText
     pub rest : List ℕ
     pub replies : List Reply
@@ -89,23 +100,26 @@ module _ (is_right : Readings → Type 0) (tells : StoreFault → Type 0) {Left 
     pub fronts : (n : ℕ) → HasRun n (requests_of lines) replies before after
     pub written : Appends old new (lines_of replies)
 
-  -- a part of a script that stopped: the bytes begin with some lines, numbered from a number on, that are
-  -- served until a fault
-  pub record IsFrontAt (number : ℕ) (fault : ScriptFault) (bytes : List ℕ) (before after : Desk) (old new : Option (List ℕ)) : Type 0 where
+  -- a part of a script that stopped: the bytes begin with some lines, numbered from a number on,
+  -- that are served until a fault
+  pub record IsFrontAt (number : ℕ) (fault : ScriptFault) (bytes : List ℕ) (before after : Desk)
+      (old new : Option (List ℕ)) : Type 0 where
     pub lines : List LineText
     pub rest : List ℕ
     pub begins : BeginsWith number bytes lines rest
     pub serves : ServesUntil fault (requests_of lines) before after old new
 
   -- the last part of a script: its bytes are cut into lines, numbered from a number on, and served
-  pub record IsPart (number : ℕ) (bytes : List ℕ) (before after : Desk) (old new : Option (List ℕ)) (from to : ScriptEnd) : Type 0 where
+  pub record IsPart (number : ℕ) (bytes : List ℕ) (before after : Desk) (old new : Option (List ℕ))
+      (from to : ScriptEnd) : Type 0 where
     pub lines : List LineText
     pub cut : CutsInto number bytes lines
     pub serves : Serves (requests_of lines) before after old new from to
 
-  -- as far as some bytes came: the lines that an LF ended, numbered from a number on, are served, and what
-  -- came after them is the line so far
-  pub record HasServed (number : ℕ) (bytes : List ℕ) (before after : Desk) (old new : Option (List ℕ)) (from to : ScriptEnd) (line : Line) : Type 0 where
+  -- as far as some bytes came: the lines that an LF ended, numbered from a number on, are served,
+  -- and what came after them is the line so far
+  pub record HasServed (number : ℕ) (bytes : List ℕ) (before after : Desk)
+      (old new : Option (List ℕ)) (from to : ScriptEnd) (line : Line) : Type 0 where
     pub lines : List LineText
     pub came : List ℕ
     pub begins : BeginsWith number bytes lines came

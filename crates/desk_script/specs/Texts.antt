@@ -19,7 +19,8 @@ line_of reply = text_of reply ++ 10 ∷ []
 abbrev pub lines_of : List Reply → List ℕ
 lines_of replies = flat_map line_of replies
 
--- the text of a reply needs memory, unless it says that no memory was left or that there was no request
+-- the text of a reply needs memory, unless it says that no memory was left or that there was no
+-- request
 abbrev pub TakesMemory : Reply → Type 0
 TakesMemory (Became (Failed Memory)) = ⊥
 TakesMemory (Became _) = Unit {0}

@@ -1,6 +1,10 @@
--- The ten conditions that the tables of a desk meet (schema version 3), each defined for a snapshot whose lists are in the order of their tables' keys. What
--- texts say is given by a reading (`desk_model`): licence expressions by SPDX 2.3, Annex D, documents by its tag-value form, catalogues by their own form.
-use Rattle.std.specs.Prelude.{◌≡◌, ℕ, ℤ, pos, ◌&&◌, ◌||◌, not, nat_le, nat_lt, ◌==◌, Bool, true, false, List, [], ◌∷◌, length, map, filter, find, flat_map, Option, is_some, IsPermutation, if◌then◌else◌}
+-- The ten conditions that the tables of a desk meet (schema version 3), each defined for a snapshot
+-- whose lists are in the order of their tables' keys. What texts say is given by a reading
+-- (`desk_model`): licence expressions by SPDX 2.3, Annex D, documents by its tag-value form,
+-- catalogues by their own form.
+use Rattle.std.specs.Prelude.{◌≡◌, ℕ, ℤ, pos, ◌&&◌, ◌||◌, not, nat_le, nat_lt, ◌==◌, Bool, true}
+use Rattle.std.specs.Prelude.{false, List, [], ◌∷◌, length, map, filter, find, flat_map, Option}
+use Rattle.std.specs.Prelude.{is_some, IsPermutation, if◌then◌else◌}
 use Rattle.std.specs.List.{list_all, list_any, AllByRecursion, join_with_byte, range_with_len, slice_split}
 use Rattle.std.specs.Option.{option_map, option_map_or, option_and_then}
 use Rattle.std.specs.Ordering.{int_eq}
@@ -23,7 +27,9 @@ use Rattle.desk_model.specs.declared.state.DutyState.{DutyState}
 use Rattle.desk_model.specs.declared.state.DutyState.TheVariants as duty
 use Rattle.desk_model.specs.declared.state.ReleaseState.TheVariants as release
 use Rattle.desk_snapshot.specs.Changes.{AreChangesOf, is_waived, is_within}
-use Rattle.desk_snapshot.specs.Rows.{AreFrom, is_attachment, is_choice_in, is_choice_of, is_conclusion, is_frozen_in, is_package, is_reading_of, is_release, is_rule_spelled, release_state_named}
+use Rattle.desk_snapshot.specs.Rows.{AreFrom, is_attachment, is_choice_in, is_choice_of}
+use Rattle.desk_snapshot.specs.Rows.{is_conclusion, is_frozen_in, is_package, is_reading_of}
+use Rattle.desk_snapshot.specs.Rows.{is_release, is_rule_spelled, release_state_named}
 use Rattle.desk_snapshot.specs.declared.rows.StoredAdoption.{StoredAdoption}
 use Rattle.desk_snapshot.specs.declared.rows.StoredCatalogue.{StoredCatalogue}
 use Rattle.desk_snapshot.specs.declared.rows.StoredChoice.{StoredChoice}
@@ -47,7 +53,13 @@ pub record AreRevisions (w : Readings) (s : Snapshot) : Type 0 where
   pub read : list_all (λ row. is_some (result_ok (w.catalogue row.body))) s.catalogue ≡ true
 
 abbrev pub stored_rule : ℤ → Rule → StoredRule
-stored_rule revision rule = record { revision = revision; term = rule.term; form = rule.form; spelled = rule.spelled; codes = join_with_byte 32 rule.codes }
+stored_rule revision rule = record {
+  revision = revision;
+  term = rule.term;
+  form = rule.form;
+  spelled = rule.spelled;
+  codes = join_with_byte 32 rule.codes;
+}
 
 abbrev pub rules_by : Readings → StoredCatalogue → List StoredRule
 rules_by w row = map (stored_rule row.revision) (rules_in (result_ok (w.catalogue row.body)))
@@ -61,13 +73,15 @@ abbrev pub document_in : Readings → StoredDocument → Option Document
 document_in w row = result_ok (w.document row.bytes)
 
 abbrev pub is_read : Readings → StoredDocument → Bool
-is_read w row = option_map_or (λ read. bytes_eq read.namespace row.namespace) (document_in w row) false
+is_read w row = option_map_or (λ read. bytes_eq read.namespace row.namespace) (document_in w row)
+    false
 
 -- 1 for operators in capitals, 2 for either case
 abbrev pub is_profile : StoredReading → Bool
 is_profile row = int_eq row.profile (pos 1) || int_eq row.profile (pos 2)
 
--- The documents are 1 to n, the bytes of each are read and have its namespace, and each document, and no other, has one profile.
+-- The documents are 1 to n, the bytes of each are read and have its namespace, and each document,
+-- and no other, has one profile.
 pub record AreDocuments (w : Readings) (s : Snapshot) : Type 0 where
   pub numbered : AreFrom 1 (map (λ row. row.number) s.document)
   pub read : list_all (is_read w) s.document ≡ true
@@ -86,13 +100,15 @@ stored_package document p = record {
 }
 
 abbrev pub packages_by : Readings → StoredDocument → List StoredPackage
-packages_by w row = option_map_or (λ read. map (stored_package row.number) read.packages) (document_in w row) []
+packages_by w row = option_map_or (λ read. map (stored_package row.number) read.packages)
+    (document_in w row) []
 
 abbrev pub stored_extracted : ℤ → Reference → StoredExtracted
 stored_extracted document r = record { document = document; reference = r.id; body = r.body }
 
 abbrev pub extracted_by : Readings → StoredDocument → List StoredExtracted
-extracted_by w row = option_map_or (λ read. map (stored_extracted row.number) read.references) (document_in w row) []
+extracted_by w row = option_map_or (λ read. map (stored_extracted row.number) read.references)
+    (document_in w row) []
 
 -- The packages and the extracted licences are those of the documents' bytes.
 pub record ArePackages (w : Readings) (s : Snapshot) : Type 0 where
@@ -109,7 +125,9 @@ is_printed w text = is_that text (w.term text)
 
 -- from a reference alone to a licence alone: no plus, no exception, no reference
 abbrev pub is_adoption : Readings → StoredAdoption → Bool
-is_adoption w row = (is_printed w row.reference && is_that row.reference (w.reference row.reference)) && (is_printed w row.licence && w.is_licence row.licence)
+is_adoption w row = (is_printed w row.reference
+    && is_that row.reference (w.reference row.reference))
+    && (is_printed w row.licence && w.is_licence row.licence)
 
 abbrev pub is_withdrawn : StoredRelease → Bool
 is_withdrawn row = bytes_eq row.state (release_state_name release.Withdrawn)
@@ -124,14 +142,17 @@ profile_of row = if int_eq row.profile (pos 2) then Either else Capitals
 abbrev pub profile_at : Snapshot → ℤ → Profile
 profile_at s document = option_map_or profile_of (find (is_reading_of document) s.reading) Capitals
 
--- the conclusion in force for a package: the office's, or else its own field if that is an expression
+-- the conclusion in force for a package: the office's, or else its own field if that is an
+-- expression
 abbrev pub conclusion_at : Readings → Snapshot → StoredPackage → Option Conclusion
 conclusion_at w s p =
-    conclusion_by w (option_map (λ row. row.expression) (find (is_conclusion p.document p.id) s.conclusion)) (profile_at s p.document) p.concluded
+    conclusion_by w (option_map (λ row. row.expression)
+    (find (is_conclusion p.document p.id) s.conclusion)) (profile_at s p.document) p.concluded
 
 -- the terms that a release holds for a package
 abbrev pub terms_at : Snapshot → StoredChoice → List (List ℕ)
-terms_at s row = map (λ other. other.term) (filter (is_choice_of row.release row.document row.package_id) s.choice)
+terms_at s row = map (λ other. other.term)
+    (filter (is_choice_of row.release row.document row.package_id) s.choice)
 
 abbrev pub is_minimal : Verdict → Bool
 is_minimal verdict.Minimal = true
@@ -139,19 +160,23 @@ is_minimal _ = false
 
 -- terms as they are printed, which are a minimal set for a conclusion
 abbrev pub are_minimal : Readings → List (List ℕ) → Conclusion → Bool
-are_minimal w terms conclusion = list_all (is_printed w) terms && is_minimal (w.verdict conclusion.profile conclusion.text terms)
+are_minimal w terms conclusion = list_all (is_printed w) terms
+    && is_minimal (w.verdict conclusion.profile conclusion.text terms)
 
 -- a package ships, and the terms are a minimal set for its conclusion
 abbrev pub ships_under : Readings → Snapshot → List (List ℕ) → StoredPackage → Bool
-ships_under w s terms p = int_eq p.shipped (pos 1) && option_map_or (are_minimal w terms) (conclusion_at w s p) false
+ships_under w s terms p = int_eq p.shipped (pos 1)
+    && option_map_or (are_minimal w terms) (conclusion_at w s p) false
 
--- A choice is in a release that isn't withdrawn, for a shipped package of an attached document, and the terms of the release for this package are a minimal set
--- for its conclusion.
+-- A choice is in a release that isn't withdrawn, for a shipped package of an attached document, and
+-- the terms of the release for this package are a minimal set for its conclusion.
 abbrev pub is_choice : Readings → Snapshot → StoredChoice → Bool
 is_choice w s row =
-    option_map_or (λ release. not (is_withdrawn release)) (find (is_release row.release) s.releases) false
+    option_map_or (λ release. not (is_withdrawn release)) (find (is_release row.release) s.releases)
+    false
     && (list_any (is_attachment row.release row.document) s.attached
-    && option_map_or (ships_under w s (terms_at s row)) (find (is_package row.document row.package_id) s.packages) false)
+    && option_map_or (ships_under w s (terms_at s row))
+    (find (is_package row.document row.package_id) s.packages) false)
 
 -- a package and a term for it
 pub record Held : Type 0 where
@@ -160,10 +185,14 @@ pub record Held : Type 0 where
   pub term : List ℕ
 
 abbrev pub chosen_in : Snapshot → List ℕ → List Held
-chosen_in s release = map (λ row. record { document = row.document; package_id = row.package_id; term = row.term }) (filter (is_choice_in release) s.choice)
+chosen_in s release = map (λ row.
+    record { document = row.document; package_id = row.package_id; term = row.term })
+    (filter (is_choice_in release) s.choice)
 
 abbrev pub frozen_in : Snapshot → List ℕ → List Held
-frozen_in s release = map (λ row. record { document = row.document; package_id = row.package_id; term = row.term }) (filter (is_frozen_in release) s.frozen)
+frozen_in s release = map (λ row.
+    record { document = row.document; package_id = row.package_id; term = row.term })
+    (filter (is_frozen_in release) s.frozen)
 
 -- a frozen release's choices are its frozen terms
 abbrev pub IsKept : Snapshot → StoredRelease → Type 0
@@ -173,8 +202,8 @@ IsKept s release = is_frozen release ≡ true → chosen_in s release.name ≡ f
 abbrev pub numbers_to : ℕ → List ℤ
 numbers_to n = map pos (range_with_len 1 n)
 
--- Conclusions are expressions, adoptions go from references to plain licence ids, places are 1 to n, choices are ones that can be held, and a frozen release's
--- choices are its frozen terms.
+-- Conclusions are expressions, adoptions go from references to plain licence ids, places are 1 to
+-- n, choices are ones that can be held, and a frozen release's choices are its frozen terms.
 pub record AreChoices (w : Readings) (s : Snapshot) : Type 0 where
   pub conclusions : list_all (λ row. w.is_expression Capitals row.expression) s.conclusion ≡ true
   pub adoptions : list_all (is_adoption w) s.adoption ≡ true
@@ -184,7 +213,8 @@ pub record AreChoices (w : Readings) (s : Snapshot) : Type 0 where
 
 -- the release with a name was frozen: its revision isn't 0
 abbrev pub was_frozen : Snapshot → List ℕ → Bool
-was_frozen s name = option_map_or (λ release. not (int_eq release.revision (pos 0))) (find (is_release name) s.releases) false
+was_frozen s name = option_map_or (λ release. not (int_eq release.revision (pos 0)))
+    (find (is_release name) s.releases) false
 
 -- The duties are 1 to n, with n at most 100,000, each of a release that was frozen.
 pub record AreNumbered (s : Snapshot) : Type 0 where
@@ -195,7 +225,8 @@ pub record AreNumbered (s : Snapshot) : Type 0 where
 -- the rule of a release's revision and form that is spelled like a frozen term's rule
 abbrev pub rule_for : Snapshot → StoredFrozen → Option StoredRule
 rule_for s row =
-    option_and_then (λ release. find (is_rule_spelled release.revision release.form row.rule) s.rule) (find (is_release row.release) s.releases)
+    option_and_then (λ release. find (is_rule_spelled release.revision release.form row.rule)
+    s.rule) (find (is_release row.release) s.releases)
 
 -- the codes that are joined by one blank in a text
 abbrev pub codes_in : List ℕ → List (List ℕ)
@@ -211,20 +242,35 @@ pub record Owed : Type 0 where
   pub rule : List ℕ
 
 abbrev pub owed_for : StoredFrozen → List ℕ → Owed
-owed_for row code = record { release = row.release; document = row.document; package_id = row.package_id; term = row.term; code = code; rule = row.rule }
+owed_for row code = record {
+  release = row.release;
+  document = row.document;
+  package_id = row.package_id;
+  term = row.term;
+  code = code;
+  rule = row.rule;
+}
 
 -- what a frozen term owes: each code of its rule
 abbrev pub owed_by : Snapshot → StoredFrozen → List Owed
 owed_by s row = option_map_or (λ rule. map (owed_for row) (codes_in rule.codes)) (rule_for s row) []
 
 abbrev pub owed_of : StoredDuty → Owed
-owed_of row = record { release = row.release; document = row.document; package_id = row.package_id; term = row.term; code = row.code; rule = row.rule }
+owed_of row = record {
+  release = row.release;
+  document = row.document;
+  package_id = row.package_id;
+  term = row.term;
+  code = row.code;
+  rule = row.rule;
+}
 
 -- a frozen term is of a release that was frozen, and its rule is there
 abbrev pub is_ruled : Snapshot → StoredFrozen → Bool
 is_ruled s row = was_frozen s row.release && is_some (rule_for s row)
 
--- The duties of each release are exactly those that its frozen terms owe, each by the rule of the release's revision and form.
+-- The duties of each release are exactly those that its frozen terms owe, each by the rule of the
+-- release's revision and form.
 pub record AreDuties (s : Snapshot) : Type 0 where
   pub ruled : list_all (is_ruled s) s.frozen ≡ true
   pub owed : IsPermutation (flat_map (owed_by s) s.frozen) (map owed_of s.duty)
@@ -238,12 +284,16 @@ pub record AreChanges (s : Snapshot) : Type 0 where
 abbrev pub is_in_state : DutyState → StoredDuty → Bool
 is_in_state state row = bytes_eq row.state (duty_state_name state)
 
--- a duty of a withdrawn release is neither open nor waived, and one of another release isn't withdrawn
+-- a duty of a withdrawn release is neither open nor waived, and one of another release isn't
+-- withdrawn
 abbrev pub stands_as : StoredRelease → StoredDuty → Bool
 stands_as release row =
-    if is_withdrawn release then not (is_in_state duty.IsOpen row || is_in_state duty.Waived row) else not (is_in_state duty.Withdrawn row)
+    if is_withdrawn release then not (is_in_state duty.IsOpen row || is_in_state duty.Waived row)
+    else not (is_in_state duty.Withdrawn row)
 
--- A withdrawn release has no open or waived duty, and any other release no withdrawn one. A release is open, frozen or withdrawn.
+-- A withdrawn release has no open or waived duty, and any other release no withdrawn one. A release
+-- is open, frozen or withdrawn.
 pub record AreStates (s : Snapshot) : Type 0 where
   pub releases : list_all (λ row. is_some (release_state_named row.state)) s.releases ≡ true
-  pub duties : list_all (λ row. option_map_or (λ release. stands_as release row) (find (is_release row.release) s.releases) true) s.duty ≡ true
+  pub duties : list_all (λ row. option_map_or (λ release. stands_as release row)
+      (find (is_release row.release) s.releases) true) s.duty ≡ true

@@ -66,7 +66,8 @@ pub package_total : IsTotalOrder package_order
 package_total = then_total (number_total (λ row. row.document)) (text_total (λ row. row.id))
 
 pub conclusion_total : IsTotalOrder conclusion_order
-conclusion_total = then_total (number_total (λ row. row.document)) (text_total (λ row. row.package_id))
+conclusion_total = then_total (number_total (λ row. row.document))
+    (text_total (λ row. row.package_id))
 
 pub release_total : IsTotalOrder release_order
 release_total = text_total (λ row. row.name)

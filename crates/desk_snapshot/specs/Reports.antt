@@ -1,9 +1,14 @@
 -- What an audit reports: the ten conditions in their order, and the first that isn't met.
 use Rattle.std.specs.Prelude.{◌≡◌, ◌⊎◌, ℕ, ◌<◌, List, [], ◌∷◌, Option, Some, None, codes}
 use Rattle.desk_model.specs.Readings.{Readings}
-use Rattle.desk_snapshot.specs.Conditions.{HasVersion, AreRevisions, AreRules, AreDocuments, ArePackages, AreChoices, AreNumbered, AreDuties, AreChanges, AreStates}
+use Rattle.desk_snapshot.specs.Conditions.{HasVersion, AreRevisions, AreRules, AreDocuments}
+use Rattle.desk_snapshot.specs.Conditions.{ArePackages, AreChoices, AreNumbered, AreDuties}
+use Rattle.desk_snapshot.specs.Conditions.{AreChanges, AreStates}
 use Rattle.desk_snapshot.specs.declared.fault.AuditFault.{AuditFault}
-use Rattle.desk_snapshot.specs.declared.fault.AuditFault.TheVariants.{BadMeta, BadRevision, BadRule, BadDocument, BadPackage, BadChoice, BadNumber, BadDuty, BadChange, BadState}
+use Rattle.desk_snapshot.specs.declared.fault.AuditFault.TheVariants.{BadMeta, BadRevision, BadRule}
+use Rattle.desk_snapshot.specs.declared.fault.AuditFault.TheVariants.{BadDocument, BadPackage}
+use Rattle.desk_snapshot.specs.declared.fault.AuditFault.TheVariants.{BadChoice, BadNumber, BadDuty}
+use Rattle.desk_snapshot.specs.declared.fault.AuditFault.TheVariants.{BadChange, BadState}
 use Rattle.desk_snapshot.specs.declared.fault.AuditReport.{AuditReport}
 use Rattle.desk_snapshot.specs.declared.fault.AuditReport.TheVariants.{Sound, Unsound}
 use Rattle.desk_snapshot.specs.declared.snapshot.Snapshot.{Snapshot}
@@ -49,10 +54,12 @@ Meets w s BadState = AreStates s
 -- all ten conditions are met; or this one isn't, and those before it are
 abbrev pub IsReport : Readings → Snapshot → AuditReport → Type 0
 IsReport w s Sound = (f : AuditFault) → Meets w s f
-IsReport w s (Unsound f) = (Meets w s f → ⊥) × ((g : AuditFault) → audit_number g < audit_number f → Meets w s g)
+IsReport w s (Unsound f) = (Meets w s f → ⊥)
+    × ((g : AuditFault) → audit_number g < audit_number f → Meets w s g)
 
 -- of some conditions, each given by its fault, the first that isn't met, if there is one
 abbrev pub IsFirst : Readings → Snapshot → List AuditFault → Option AuditFault → Type 0
 IsFirst w s [] None = Unit {0}
 IsFirst w s [] (Some f) = ⊥
-IsFirst w s (g ∷ gs) found = ((found ≡ Some g) × (Meets w s g → ⊥)) ⊎ (Meets w s g × IsFirst w s gs found)
+IsFirst w s (g ∷ gs) found = ((found ≡ Some g) × (Meets w s g → ⊥))
+    ⊎ (Meets w s g × IsFirst w s gs found)

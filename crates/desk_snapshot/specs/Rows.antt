@@ -45,14 +45,16 @@ abbrev pub is_choice_in : List ℕ → StoredChoice → Bool
 is_choice_in release row = bytes_eq row.release release
 
 abbrev pub is_choice_of : List ℕ → ℤ → List ℕ → StoredChoice → Bool
-is_choice_of release document id row = bytes_eq row.release release && (int_eq row.document document && bytes_eq row.package_id id)
+is_choice_of release document id row = bytes_eq row.release release
+    && (int_eq row.document document && bytes_eq row.package_id id)
 
 abbrev pub is_frozen_in : List ℕ → StoredFrozen → Bool
 is_frozen_in release row = bytes_eq row.release release
 
 -- the rule of a revision and a form with this spelling
 abbrev pub is_rule_spelled : ℤ → List ℕ → List ℕ → StoredRule → Bool
-is_rule_spelled revision form spelled row = int_eq row.revision revision && (bytes_eq row.form form && bytes_eq row.spelled spelled)
+is_rule_spelled revision form spelled row = int_eq row.revision revision
+    && (bytes_eq row.form form && bytes_eq row.spelled spelled)
 
 abbrev pub is_change_of : ℤ → StoredChange → Bool
 is_change_of duty row = int_eq row.duty duty
@@ -66,10 +68,13 @@ is_waiver_at duty step row = int_eq row.duty duty && int_eq row.step step
 -- States and words, by their texts
 
 abbrev pub release_state_named : List ℕ → Option ReleaseState
-release_state_named text = find (λ state. bytes_eq (release_state_name state) text) (release.IsOpen ∷ release.Frozen ∷ release.Withdrawn ∷ [])
+release_state_named text = find (λ state. bytes_eq (release_state_name state) text)
+    (release.IsOpen ∷ release.Frozen ∷ release.Withdrawn ∷ [])
 
 abbrev pub duty_state_named : List ℕ → Option DutyState
-duty_state_named text = find (λ state. bytes_eq (duty_state_name state) text) (duty.IsOpen ∷ duty.Met ∷ duty.Waived ∷ duty.Withdrawn ∷ [])
+duty_state_named text = find (λ state. bytes_eq (duty_state_name state) text)
+    (duty.IsOpen ∷ duty.Met ∷ duty.Waived ∷ duty.Withdrawn ∷ [])
 
 abbrev pub word_named : List ℕ → Option Word
-word_named text = find (λ word. bytes_eq (word_name word) text) (word.Raised ∷ word.Met ∷ word.Waived ∷ word.Reopened ∷ word.Withdrawn ∷ word.Ended ∷ [])
+word_named text = find (λ word. bytes_eq (word_name word) text)
+    (word.Raised ∷ word.Met ∷ word.Waived ∷ word.Reopened ∷ word.Withdrawn ∷ word.Ended ∷ [])

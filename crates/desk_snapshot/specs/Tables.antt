@@ -38,13 +38,26 @@ abbrev pub catalogue_stored : CatalogueRow → StoredCatalogue
 catalogue_stored row = record { revision = pos row.revision; body = row.body }
 
 abbrev pub rule_stored : RuleRow → StoredRule
-rule_stored row = record { revision = pos row.revision; term = row.term; form = row.form; spelled = row.spelled; codes = join_with_byte 32 row.codes }
+rule_stored row = record {
+  revision = pos row.revision;
+  term = row.term;
+  form = row.form;
+  spelled = row.spelled;
+  codes = join_with_byte 32 row.codes;
+}
 
 abbrev pub document_stored : DocumentRow → StoredDocument
-document_stored row = record { number = pos row.number; namespace = row.namespace; bytes = row.bytes }
+document_stored row = record {
+  number = pos row.number;
+  namespace = row.namespace;
+  bytes = row.bytes;
+}
 
 abbrev pub reading_stored : DocumentRow → StoredReading
-reading_stored row = record { document = pos row.number; profile = pos (profile_number row.profile) }
+reading_stored row = record {
+  document = pos row.number;
+  profile = pos (profile_number row.profile);
+}
 
 abbrev pub package_stored : PackageRow → StoredPackage
 package_stored row = record {
@@ -58,25 +71,54 @@ package_stored row = record {
 }
 
 abbrev pub extracted_stored : ExtractedRow → StoredExtracted
-extracted_stored row = record { document = pos row.document; reference = row.reference; body = row.body }
+extracted_stored row = record {
+  document = pos row.document;
+  reference = row.reference;
+  body = row.body;
+}
 
 abbrev pub conclusion_stored : ConclusionRow → StoredConclusion
-conclusion_stored row = record { document = pos row.document; package_id = row.package_id; expression = row.expression }
+conclusion_stored row = record {
+  document = pos row.document;
+  package_id = row.package_id;
+  expression = row.expression;
+}
 
 abbrev pub adoption_stored : AdoptionRow → StoredAdoption
-adoption_stored row = record { document = pos row.document; reference = row.reference; licence = row.licence }
+adoption_stored row = record {
+  document = pos row.document;
+  reference = row.reference;
+  licence = row.licence;
+}
 
 abbrev pub release_stored : ReleaseRow → StoredRelease
-release_stored row = record { name = row.name; place = pos row.place; form = row.form; state = release_state_name row.state; revision = pos row.revision }
+release_stored row = record {
+  name = row.name;
+  place = pos row.place;
+  form = row.form;
+  state = release_state_name row.state;
+  revision = pos row.revision;
+}
 
 abbrev pub attached_stored : AttachedRow → StoredAttached
 attached_stored row = record { release = row.release; document = pos row.document }
 
 abbrev pub choice_stored : ChoiceRow → StoredChoice
-choice_stored row = record { release = row.release; document = pos row.document; package_id = row.package_id; term = row.term }
+choice_stored row = record {
+  release = row.release;
+  document = pos row.document;
+  package_id = row.package_id;
+  term = row.term;
+}
 
 abbrev pub frozen_stored : FrozenRow → StoredFrozen
-frozen_stored row = record { release = row.release; document = pos row.document; package_id = row.package_id; term = row.term; rule = row.rule }
+frozen_stored row = record {
+  release = row.release;
+  document = pos row.document;
+  package_id = row.package_id;
+  term = row.term;
+  rule = row.rule;
+}
 
 abbrev pub duty_stored : DutyRow → StoredDuty
 duty_stored row = record {
@@ -91,13 +133,23 @@ duty_stored row = record {
 }
 
 abbrev pub change_stored : ChangeRow → StoredChange
-change_stored row = record { duty = pos row.duty; step = pos row.step; day = row.day; word = word_name row.word; body = row.body }
+change_stored row = record {
+  duty = pos row.duty;
+  step = pos row.step;
+  day = row.day;
+  word = word_name row.word;
+  body = row.body;
+}
 
 abbrev pub is_waiver : ChangeRow → Bool
 is_waiver row = is_some row.last_day
 
 abbrev pub waiver_stored : ChangeRow → StoredWaiver
-waiver_stored row = record { duty = pos row.duty; step = pos row.step; last_day = unwrap_or row.last_day [] }
+waiver_stored row = record {
+  duty = pos row.duty;
+  step = pos row.step;
+  last_day = unwrap_or row.last_day [];
+}
 
 abbrev pub snapshot_of : Tables → Snapshot
 snapshot_of t = record {

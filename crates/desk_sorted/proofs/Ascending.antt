@@ -1,5 +1,6 @@
 -- Rows that ascend, and still do after a change.
-use Rattle.std.proofs.Common.{◌≡◌, ℕ, zero, suc, ◌<◌, ◌≤◌, Bool, true, false, cond, List, [], ◌∷◌, length, get_or, refl, ◌∙◌, arith}
+use Rattle.std.proofs.Common.{◌≡◌, ℕ, zero, suc, ◌<◌, ◌≤◌, Bool, true, false, cond, List, [], ◌∷◌}
+use Rattle.std.proofs.Common.{length, get_or, refl, ◌∙◌, arith}
 use Rattle.std.specs.Prelude.{if◌then◌else◌, filter, not}
 use Rattle.std.specs.Ordering.{ordering_index}
 use Rattle.std.specs.declared.cmp.Ordering.{Ordering}
@@ -11,13 +12,16 @@ use Rattle.desk_model.proofs.Orders.{IsOrder, ascends-put}
 
 -- a row that is put in its place
 
-pub ascends-put_all : {A : Type 0} (below : A → A → Bool) → IsOrder below → (xs ys : List A) → ascends below ys ≡ true → ascends below (put_all below xs ys) ≡ true
+pub ascends-put_all : {A : Type 0} (below : A → A → Bool) → IsOrder below → (xs ys : List A)
+    → ascends below ys ≡ true → ascends below (put_all below xs ys) ≡ true
 ascends-put_all below o [] ys up = up
-ascends-put_all below o (x ∷ xs) ys up = ascends-put below o x (put_all below xs ys) (ascends-put_all below o xs ys up)
+ascends-put_all below o (x ∷ xs) ys up = ascends-put below o x (put_all below xs ys)
+    (ascends-put_all below o xs ys up)
 
 -- rows that are cut out
 
-over-filter : {A : Type 0} (below : A → A → Bool) (test : A → Bool) (y : A) (zs : List A) → over below y zs ≡ true → over below y (filter test zs) ≡ true
+over-filter : {A : Type 0} (below : A → A → Bool) (test : A → Bool) (y : A) (zs : List A)
+    → over below y zs ≡ true → over below y (filter test zs) ≡ true
 over-filter below test y [] e = refl
 over-filter below test y (z ∷ zs) e =
     let here = and_left (not (below z y)) (over below y zs) e in
@@ -27,12 +31,14 @@ over-filter below test y (z ∷ zs) e =
       | false ↦ rest
     ]
 
-pub ascends-filter : {A : Type 0} (below : A → A → Bool) (test : A → Bool) (ys : List A) → ascends below ys ≡ true → ascends below (filter test ys) ≡ true
+pub ascends-filter : {A : Type 0} (below : A → A → Bool) (test : A → Bool) (ys : List A)
+    → ascends below ys ≡ true → ascends below (filter test ys) ≡ true
 ascends-filter below test [] up = refl
 ascends-filter below test (y ∷ ys) up =
     let rest = ascends-filter below test ys (and_right (over below y ys) (ascends below ys) up) in
     elim (test y) as (λ b. ascends below (cond b (y ∷ filter test ys) (filter test ys)) ≡ true) [
-      | true ↦ both (over below y (filter test ys)) (ascends below (filter test ys)) (over-filter below test y ys (and_left (over below y ys) (ascends below ys) up)) rest
+      | true ↦ both (over below y (filter test ys)) (ascends below (filter test ys))
+          (over-filter below test y ys (and_left (over below y ys) (ascends below ys) up)) rest
       | false ↦ rest
     ]
 
@@ -42,36 +48,54 @@ pub record KeepsPlaces {A : Type 0} (below : A → A → Bool) (change : A → A
   pub first : (x y : A) → below (change x) y ≡ below x y
   pub second : (x y : A) → below x (change y) ≡ below x y
 
-either_first : {A : Type 0} (below : A → A → Bool) (change : A → A) → KeepsPlaces below change → (x y : A) (b : Bool) → below (if b then change x else x) y ≡ below x y
+either_first : {A : Type 0} (below : A → A → Bool) (change : A → A) → KeepsPlaces below change
+    → (x y : A) (b : Bool) → below (if b then change x else x) y ≡ below x y
 either_first below change k x y true = k.first x y
 either_first below change k x y false = refl
 
-either_second : {A : Type 0} (below : A → A → Bool) (change : A → A) → KeepsPlaces below change → (x y : A) (b : Bool) → below x (if b then change y else y) ≡ below x y
+either_second : {A : Type 0} (below : A → A → Bool) (change : A → A) → KeepsPlaces below change
+    → (x y : A) (b : Bool) → below x (if b then change y else y) ≡ below x y
 either_second below change k x y true = k.second x y
 either_second below change k x y false = refl
 
-over-updated : {A : Type 0} (below : A → A → Bool) (test : A → Bool) (change : A → A) → KeepsPlaces below change → (y : A) (b : Bool) (zs : List A) → over below (if b then change y else y) (updated test change zs) ≡ over below y zs
+over-updated : {A : Type 0} (below : A → A → Bool) (test : A → Bool) (change : A → A)
+    → KeepsPlaces below change → (y : A) (b : Bool) (zs : List A)
+    → over below (if b then change y else y) (updated test change zs) ≡ over below y zs
 over-updated below test change k y b [] = refl
 over-updated below test change k y b (z ∷ zs) =
-    let here = either_first below change k z (if b then change y else y) (test z) ∙ either_second below change k z y b in
+    let here = either_first below change k z (if b then change y else y) (test z)
+    ∙ either_second below change k z y b in
     rw (here, over-updated below test change k y b zs) refl
 
-pub ascends-updated : {A : Type 0} (below : A → A → Bool) (test : A → Bool) (change : A → A) → KeepsPlaces below change → (ys : List A) → ascends below (updated test change ys) ≡ ascends below ys
+pub ascends-updated : {A : Type 0} (below : A → A → Bool) (test : A → Bool) (change : A → A)
+    → KeepsPlaces below change → (ys : List A)
+    → ascends below (updated test change ys) ≡ ascends below ys
 ascends-updated below test change k [] = refl
-ascends-updated below test change k (y ∷ ys) = rw (over-updated below test change k y (test y) ys, ascends-updated below test change k ys) refl
+ascends-updated below test change k (y ∷ ys) = rw (
+  over-updated below test change k y (test y) ys,
+  ascends-updated below test change k ys,
+) refl
 
 -- what is sought among rows that ascend
 
-over_at : {A : Type 0} (below : A → A → Bool) (y : A) (zs : List A) (j : ℕ) (d : A) → over below y zs ≡ true → j < length zs → below (get_or zs j d) y ≡ false
+over_at : {A : Type 0} (below : A → A → Bool) (y : A) (zs : List A) (j : ℕ) (d : A)
+    → over below y zs ≡ true → j < length zs → below (get_or zs j d) y ≡ false
 over_at below y [] j d e lt = absurd (omega (arith, lt))
-over_at below y (z ∷ zs) zero d e lt = not_true (below z y) (and_left (not (below z y)) (over below y zs) e)
-over_at below y (z ∷ zs) (suc j) d e lt = over_at below y zs j d (and_right (not (below z y)) (over below y zs) e) (omega (arith, lt))
+over_at below y (z ∷ zs) zero d e lt = not_true (below z y)
+    (and_left (not (below z y)) (over below y zs) e)
+over_at below y (z ∷ zs) (suc j) d e lt = over_at below y zs j d
+    (and_right (not (below z y)) (over below y zs) e) (omega (arith, lt))
 
-pub rises_along : {A : Type 0} (order : A → A → Ordering) (side : A → Ordering) → IsSideOf order side → (xs : List A) → ascends (below_by order) xs ≡ true → (i j : ℕ) (d : A) → i ≤ j → j < length xs → ordering_index (side (get_or xs i d)) ≤ ordering_index (side (get_or xs j d))
+pub rises_along : {A : Type 0} (order : A → A → Ordering) (side : A → Ordering)
+    → IsSideOf order side → (xs : List A) → ascends (below_by order) xs ≡ true → (i j : ℕ) (d : A)
+    → i ≤ j → j < length xs → ordering_index (side (get_or xs i d))
+    ≤ ordering_index (side (get_or xs j d))
 rises_along order side s [] up i j d le lt = absurd (omega (arith, lt))
 rises_along order side s (x ∷ xs) up zero zero d le lt = omega arith
 rises_along order side s (x ∷ xs) up zero (suc j) d le lt =
-    s x (get_or xs j d) (over_at (below_by order) x xs j d (and_left (over (below_by order) x xs) (ascends (below_by order) xs) up) (omega (arith, lt)))
+    s x (get_or xs j d) (over_at (below_by order) x xs j d
+    (and_left (over (below_by order) x xs) (ascends (below_by order) xs) up) (omega (arith, lt)))
 rises_along order side s (x ∷ xs) up (suc i) zero d le lt = absurd (omega (arith, le))
 rises_along order side s (x ∷ xs) up (suc i) (suc j) d le lt =
-    rises_along order side s xs (and_right (over (below_by order) x xs) (ascends (below_by order) xs) up) i j d (omega (arith, le)) (omega (arith, lt))
+    rises_along order side s xs (and_right (over (below_by order) x xs)
+    (ascends (below_by order) xs) up) i j d (omega (arith, le)) (omega (arith, lt))

@@ -4,7 +4,8 @@ use Rattle.std.specs.Cmp.{IsTotalOrder}
 use Rattle.std.specs.Cmp.Lexicographic.{slice_cmp}
 use Rattle.std.specs.declared.cmp.Ordering.{Ordering}
 use Rattle.std.proofs.lemmas.Cmp.{on_total, then_total, nat_list_cmp_total, nat_cmp_total}
-use Rattle.desk_model.specs.Keys.{adoption_order, attached_order, choice_order, conclusion_order, frozen_order, package_order}
+use Rattle.desk_model.specs.Keys.{adoption_order, attached_order, choice_order, conclusion_order}
+use Rattle.desk_model.specs.Keys.{frozen_order, package_order}
 use Rattle.desk_model.specs.declared.row.DocumentRow.{DocumentRow}
 use Rattle.desk_model.specs.declared.row.ExtractedRow.{ExtractedRow}
 use Rattle.desk_model.specs.declared.row.ReleaseRow.{ReleaseRow}
@@ -16,35 +17,45 @@ abbrev pub release_order : ReleaseRow → ReleaseRow → Ordering
 release_order = on (λ row. row.name) (slice_cmp nat_cmp)
 
 abbrev pub extracted_order : ExtractedRow → ExtractedRow → Ordering
-extracted_order = then_cmp (on (λ row. row.document) nat_cmp) (on (λ row. row.reference) (slice_cmp nat_cmp))
+extracted_order = then_cmp (on (λ row. row.document) nat_cmp)
+    (on (λ row. row.reference) (slice_cmp nat_cmp))
 
 pub document_total : IsTotalOrder document_order
 document_total = on_total (λ row. row.number) nat_cmp_total
 
 pub package_total : IsTotalOrder package_order
-package_total = then_total (on_total (λ row. row.document) nat_cmp_total) (on_total (λ row. row.id) nat_list_cmp_total)
+package_total = then_total (on_total (λ row. row.document) nat_cmp_total)
+    (on_total (λ row. row.id) nat_list_cmp_total)
 
 pub extracted_total : IsTotalOrder extracted_order
-extracted_total = then_total (on_total (λ row. row.document) nat_cmp_total) (on_total (λ row. row.reference) nat_list_cmp_total)
+extracted_total = then_total (on_total (λ row. row.document) nat_cmp_total)
+    (on_total (λ row. row.reference) nat_list_cmp_total)
 
 pub release_total : IsTotalOrder release_order
 release_total = on_total (λ row. row.name) nat_list_cmp_total
 
 pub conclusion_total : IsTotalOrder conclusion_order
-conclusion_total = then_total (on_total (λ row. row.document) nat_cmp_total) (on_total (λ row. row.package_id) nat_list_cmp_total)
+conclusion_total = then_total (on_total (λ row. row.document) nat_cmp_total)
+    (on_total (λ row. row.package_id) nat_list_cmp_total)
 
 pub adoption_total : IsTotalOrder adoption_order
-adoption_total = then_total (on_total (λ row. row.document) nat_cmp_total) (on_total (λ row. row.reference) nat_list_cmp_total)
+adoption_total = then_total (on_total (λ row. row.document) nat_cmp_total)
+    (on_total (λ row. row.reference) nat_list_cmp_total)
 
 pub attached_total : IsTotalOrder attached_order
-attached_total = then_total (on_total (λ row. row.release) nat_list_cmp_total) (on_total (λ row. row.document) nat_cmp_total)
+attached_total = then_total (on_total (λ row. row.release) nat_list_cmp_total)
+    (on_total (λ row. row.document) nat_cmp_total)
 
 pub choice_total : IsTotalOrder choice_order
 choice_total =
-    then_total (on_total (λ row. row.release) nat_list_cmp_total) (then_total (on_total (λ row. row.document) nat_cmp_total)
-    (then_total (on_total (λ row. row.package_id) nat_list_cmp_total) (on_total (λ row. row.term) nat_list_cmp_total)))
+    then_total (on_total (λ row. row.release) nat_list_cmp_total)
+    (then_total (on_total (λ row. row.document) nat_cmp_total)
+    (then_total (on_total (λ row. row.package_id) nat_list_cmp_total)
+    (on_total (λ row. row.term) nat_list_cmp_total)))
 
 pub frozen_total : IsTotalOrder frozen_order
 frozen_total =
-    then_total (on_total (λ row. row.release) nat_list_cmp_total) (then_total (on_total (λ row. row.document) nat_cmp_total)
-    (then_total (on_total (λ row. row.package_id) nat_list_cmp_total) (on_total (λ row. row.term) nat_list_cmp_total)))
+    then_total (on_total (λ row. row.release) nat_list_cmp_total)
+    (then_total (on_total (λ row. row.document) nat_cmp_total)
+    (then_total (on_total (λ row. row.package_id) nat_list_cmp_total)
+    (on_total (λ row. row.term) nat_list_cmp_total)))

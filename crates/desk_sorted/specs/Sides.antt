@@ -18,7 +18,8 @@ not_less : (o : Ordering) → o ≡ Less → is_lt o ≡ false → ⊥
 not_less o e f = let t : is_lt o ≡ true = ap is_lt e in cc
 
 module _ {K : Type 0} (R : K → K → Ordering) (t : IsTotalOrder R) where
-  sides_of : (a b k : K) (o p : Ordering) → R a k ≡ o → R b k ≡ p → is_lt (R b a) ≡ false → ordering_index o ≤ ordering_index p
+  sides_of : (a b k : K) (o p : Ordering) → R a k ≡ o → R b k ≡ p → is_lt (R b a) ≡ false
+      → ordering_index o ≤ ordering_index p
   sides_of a b k Less p e f n = omega arith
   sides_of a b k Equal Less e f n =
       let turned : R k b ≡ Greater = t.antisymm k b ∙ ap ordering_reverse f in
@@ -35,16 +36,20 @@ untrue : (a b : Bool) → (a ≡ true → b ≡ true) → b ≡ false → a ≡ 
 untrue true b f e = sym (f refl) ∙ e
 untrue false b f e = refl
 
-pub side_by : {A K : Type 0} (order : A → A → Ordering) (key : A → K) (R : K → K → Ordering) → IsTotalOrder R → ((x y : A) → is_lt (R (key y) (key x)) ≡ true → is_lt (order y x) ≡ true) → (k : K) → IsSideOf order (λ x. R (key x) k)
+pub side_by : {A K : Type 0} (order : A → A → Ordering) (key : A → K) (R : K → K → Ordering)
+    → IsTotalOrder R → ((x y : A) → is_lt (R (key y) (key x)) ≡ true → is_lt (order y x) ≡ true)
+    → (k : K) → IsSideOf order (λ x. R (key x) k)
 side_by order key R t begins k =
-    λ x y h. sides_of R t (key x) (key y) k (R (key x) k) (R (key y) k) refl refl (untrue (is_lt (R (key y) (key x))) (is_lt (order y x)) (begins x y) h)
+    λ x y h. sides_of R t (key x) (key y) k (R (key x) k) (R (key y) k) refl refl
+    (untrue (is_lt (R (key y) (key x))) (is_lt (order y x)) (begins x y) h)
 
 -- keys made of a number and a text
 abbrev pub number_cmp : ℕ × List ℕ → ℕ × List ℕ → Ordering
 number_cmp = then_cmp (on (λ p. p.0) nat_cmp) (on (λ p. p.1) (slice_cmp nat_cmp))
 
 pub number_total : IsTotalOrder number_cmp
-number_total = then_total (on_total (λ p. p.0) nat_cmp_total) (on_total (λ p. p.1) nat_list_cmp_total)
+number_total = then_total (on_total (λ p. p.0) nat_cmp_total)
+    (on_total (λ p. p.1) nat_list_cmp_total)
 
 pub first_less : (o p : Ordering) → is_lt o ≡ true → is_lt (ordering_then o p) ≡ true
 first_less Less p e = refl
@@ -59,7 +64,8 @@ texts_meet a b = sym (is_eq-slice_cmp a b)
 pub numbers_meet : (m n : ℕ) → (m == n) ≡ is_eq (nat_cmp m n)
 numbers_meet m n = grind (arith, nat_tests)
 
-pub then_meets : (o p : Ordering) (a b : Bool) → a ≡ is_eq o → b ≡ is_eq p → (a && b) ≡ is_eq (ordering_then o p)
+pub then_meets : (o p : Ordering) (a b : Bool) → a ≡ is_eq o → b ≡ is_eq p
+    → (a && b) ≡ is_eq (ordering_then o p)
 then_meets Less p a b e f = rw e refl
 then_meets Equal p a b e f = rw e f
 then_meets Greater p a b e f = rw e refl
@@ -71,9 +77,11 @@ equal_of Less e = cc
 equal_of Equal e = refl
 equal_of Greater e = cc
 
-pub alike : {A K : Type 0} (key : A → K) (R : K → K → Ordering) → IsTotalOrder R → (k : K) (x y : A) → is_eq (R (key x) k) ≡ true → is_eq (R (key y) k) ≡ true → is_lt (R (key x) (key y)) ≡ false
+pub alike : {A K : Type 0} (key : A → K) (R : K → K → Ordering) → IsTotalOrder R → (k : K) (x y : A)
+    → is_eq (R (key x) k) ≡ true → is_eq (R (key y) k) ≡ true → is_lt (R (key x) (key y)) ≡ false
 alike key R t k x y e f =
-    let turned : R k (key y) ≡ Equal = t.antisymm k (key y) ∙ ap ordering_reverse (equal_of (R (key y) k) f) in
+    let turned : R k (key y) ≡ Equal = t.antisymm k (key y)
+    ∙ ap ordering_reverse (equal_of (R (key y) k) f) in
     ap is_lt (t.congr (key x) k (key y) (equal_of (R (key x) k) e) ∙ turned)
 
 -- No row is sought

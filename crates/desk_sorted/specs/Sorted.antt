@@ -18,7 +18,8 @@ Climbs below xs = AllAdjacentBelow (λ x y. below x y ≡ true) xs (length xs)
 
 -- for rows that ascend, the sides on which they are do not fall
 abbrev pub IsSideOf : {A : Type 0} → (A → A → Ordering) → (A → Ordering) → Type 0
-IsSideOf {A} order side = (x y : A) → is_lt (order y x) ≡ false → ordering_index (side x) ≤ ordering_index (side y)
+IsSideOf {A} order side = (x y : A) → is_lt (order y x) ≡ false
+    → ordering_index (side x) ≤ ordering_index (side y)
 
 abbrev pub Rises : {A : Type 0} → (A → Ordering) → List A → Type 0
 Rises side xs = IsNonDecreasingBy (λ x. ordering_index (side x)) xs

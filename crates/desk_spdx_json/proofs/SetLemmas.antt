@@ -15,9 +15,12 @@ either true c = refl
 either false c = refl
 
 -- one more text
-one_more : (v : Bor (List ℕ)) (old new : BTreeSet (Bor (List ℕ))) → UpdatesBy borrowed_cmp (borrowed_cmp v) old new true → (q : List ℕ) → has_text new q ≡ (bytes_eq v.now q || has_text old q)
+one_more : (v : Bor (List ℕ)) (old new : BTreeSet (Bor (List ℕ)))
+    → UpdatesBy borrowed_cmp (borrowed_cmp v) old new true → (q : List ℕ)
+    → has_text new q ≡ (bytes_eq v.now q || has_text old q)
 one_more v old new h q =
-    h.0 (record v { now = q }) ∙ ap (λ b. cond b true (has_text old q)) (is_eq-slice_cmp v.now q) ∙ either (bytes_eq v.now q) (has_text old q)
+    h.0 (record v { now = q }) ∙ ap (λ b. cond b true (has_text old q)) (is_eq-slice_cmp v.now q)
+    ∙ either (bytes_eq v.now q) (has_text old q)
 
 or_moves : (a b c : Bool) → (b || (a || c)) ≡ ((a || b) || c)
 or_moves true true c = refl
@@ -25,9 +28,14 @@ or_moves true false c = refl
 or_moves false b c = refl
 
 -- a text moves from those that are still to come to those in the set
-pub set_step : (listed : List (Bor (List ℕ))) (i : ℕ) (v : Bor (List ℕ)) (old new : BTreeSet (Bor (List ℕ))) → i < length listed → UpdatesBy borrowed_cmp (borrowed_cmp (get_or listed i v)) old new true
-    → (q : List ℕ) → (is_among (texts (drop (i + 1) listed)) q || has_text new q) ≡ (is_among (texts (drop i listed)) q || has_text old q)
+pub set_step : (listed : List (Bor (List ℕ))) (i : ℕ) (v : Bor (List ℕ))
+    (old new : BTreeSet (Bor (List ℕ))) → i < length listed
+    → UpdatesBy borrowed_cmp (borrowed_cmp (get_or listed i v)) old new true
+    → (q : List ℕ) → (is_among (texts (drop (i + 1) listed)) q || has_text new q)
+    ≡ (is_among (texts (drop i listed)) q || has_text old q)
 set_step listed i v old new within h q =
-    ap (λ b. is_among (texts (drop (i + 1) listed)) q || b) (one_more (get_or listed i v) old new h q)
-    ∙ or_moves (bytes_eq (get_or listed i v).now q) (is_among (texts (drop (i + 1) listed)) q) (has_text old q)
+    ap (λ b. is_among (texts (drop (i + 1) listed)) q || b)
+    (one_more (get_or listed i v) old new h q)
+    ∙ or_moves (bytes_eq (get_or listed i v).now q) (is_among (texts (drop (i + 1) listed)) q)
+    (has_text old q)
     ∙ ap (λ l. is_among (texts l) q || has_text old q) (sym (drop_more listed i v within))

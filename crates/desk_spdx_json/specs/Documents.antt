@@ -1,6 +1,8 @@
 -- The steps of a document: its own fields, the files, the packages, the extracted licences, the
--- relationships. Files come before packages, so only relationships say to which package a file belongs.
-use Rattle.std.specs.Prelude.{ℕ, Bool, ◌&&◌, List, [], ◌∷◌, ◌++◌, Option, Some, None, option_and_then, is_some, false, codes, if◌then◌else◌}
+-- relationships. Files come before packages, so only relationships say to which package a file
+-- belongs.
+use Rattle.std.specs.Prelude.{ℕ, Bool, ◌&&◌, List, [], ◌∷◌, ◌++◌, Option, Some, None}
+use Rattle.std.specs.Prelude.{option_and_then, is_some, false, codes, if◌then◌else◌}
 use Rattle.std.specs.List.{list_any}
 use Rattle.std.specs.Str.{bytes_eq}
 use Rattle.serde_json.specs.Data.{Data, Items, no_items, item}
@@ -28,7 +30,8 @@ document_id = codes "SPDXRef-DOCUMENT"
 -- whether a relationship says that the document describes an element
 abbrev pub is_describing : Data → Bool
 is_describing d =
-    bytes_eq (word_in (codes "spdxElementId") d) document_id && bytes_eq (word_in (codes "relationshipType") d) (codes "DESCRIBES")
+    bytes_eq (word_in (codes "spdxElementId") d) document_id
+    && bytes_eq (word_in (codes "relationshipType") d) (codes "DESCRIBES")
 
 -- this element, if the relationship says so
 abbrev pub target_of : Data → List (List ℕ)
@@ -51,7 +54,8 @@ is_listed ids (Some id) = is_among ids id
 
 abbrev pub described_steps : List (List ℕ) → List ℕ → Data → List StepText
 described_steps ids at d =
-    if is_listed ids (as_str d) then [] else tie_step at document_id (codes "DESCRIBES") (as_str d) ∷ []
+    if is_listed ids (as_str d) then []
+    else tie_step at document_id (codes "DESCRIBES") (as_str d) ∷ []
 
 abbrev pub targets : Data → List (List ℕ)
 targets d = targets_of (option_and_then as_array (get (codes "relationships") d))
@@ -65,7 +69,8 @@ steps_at at d =
     ++ (all_parts parts.File at (codes "files") d
     ++ (all_parts parts.Package at (codes "packages") d
     ++ (all_parts parts.Extracted at (codes "hasExtractedLicensingInfos") d
-    ++ (if_array (described_steps (targets d)) (member_at at (codes "documentDescribes")) (get (codes "documentDescribes") d)
+    ++ (if_array (described_steps (targets d)) (member_at at (codes "documentDescribes"))
+    (get (codes "documentDescribes") d)
     ++ all_parts parts.Relationship at (codes "relationships") d)))))
 
 -- some tools write the document as the member `sbom` of an object without a version
@@ -74,4 +79,5 @@ from_member d None = steps_at [] d
 from_member d (Some inner) = steps_at (codes "/sbom") inner
 
 abbrev pub document_steps : Data → List StepText
-document_steps d = if is_some (get (codes "spdxVersion") d) then steps_at [] d else from_member d (get (codes "sbom") d)
+document_steps d = if is_some (get (codes "spdxVersion") d) then steps_at [] d
+    else from_member d (get (codes "sbom") d)

@@ -1,5 +1,6 @@
--- The members of the objects of a document (SPDX 2.3, JSON schema), each with the field of the tag-value form that says the same
--- (clauses 6 to 10), in the order in which the fields are written.
+-- The members of the objects of a document (SPDX 2.3, JSON schema), each with the field of the
+-- tag-value form that says the same (clauses 6 to 10), in the order in which the fields are
+-- written.
 use Rattle.std.specs.Prelude.{ℕ, Bool, true, false, List, [], ◌∷◌, codes}
 use Rattle.desk_fields.specs.declared.tag.Tag.TheVariants as tags
 use Rattle.desk_spdx_json.specs.declared.steps.Kind.TheVariants as kinds

@@ -11,7 +11,8 @@ use Rattle.desk_spdx_json.specs.declared.parts.Part.{Part}
 use Rattle.desk_spdx_json.specs.declared.parts.Part.TheVariants as parts
 use Rattle.desk_spdx_json.specs.Words.{is_word}
 use Rattle.desk_spdx_json.specs.Steps.{StepText, step, put, left_out, missing, bad_type, bad_value, member_at}
-use Rattle.desk_spdx_json.specs.Members.{MemberText, package_members, file_members, extracted_members, relationship_members}
+use Rattle.desk_spdx_json.specs.Members.{MemberText, package_members, file_members}
+use Rattle.desk_spdx_json.specs.Members.{extracted_members, relationship_members}
 use Rattle.desk_spdx_json.specs.Values.{value_steps, if_array, word_fault, word_in}
 
 -- ---- an object, member by member
@@ -47,11 +48,13 @@ object_steps at ms d = of_members at ms d (as_object d)
 -- ---- relationships (clause 11.1)
 
 abbrev pub relationship_line : List ℕ → List ℕ → List ℕ → LineText
-relationship_line left kind right = one_line tags.Relationship (left ++ (codes " " ++ (kind ++ (codes " " ++ right))))
+relationship_line left kind right = one_line tags.Relationship
+    (left ++ (codes " " ++ (kind ++ (codes " " ++ right))))
 
 abbrev pub words_of : Data → LineText
 words_of d =
-    relationship_line (word_in (codes "spdxElementId") d) (word_in (codes "relationshipType") d) (word_in (codes "relatedSpdxElement") d)
+    relationship_line (word_in (codes "spdxElementId") d) (word_in (codes "relationshipType") d)
+    (word_in (codes "relatedSpdxElement") d)
 
 abbrev pub relationship_steps : List ℕ → Data → List StepText
 relationship_steps at d =
@@ -64,7 +67,8 @@ relationship_steps at d =
 -- a relationship from an element to the one that a value names
 abbrev pub tie_step : List ℕ → List ℕ → List ℕ → Option (List ℕ) → StepText
 tie_step at left kind None = step at bad_type
-tie_step at left kind (Some right) = if is_word right then step at (put (relationship_line left kind right)) else step at bad_value
+tie_step at left kind (Some right) = if is_word right
+    then step at (put (relationship_line left kind right)) else step at bad_value
 
 -- the relationship by which a package CONTAINS a file that it lists
 abbrev pub contained_steps : List ℕ → List ℕ → Data → List StepText
@@ -77,7 +81,8 @@ abbrev pub part_steps : Part → List ℕ → Data → List StepText
 part_steps parts.Package at d =
     step [] (put blank)
     ∷ (object_steps at package_members d
-    ++ if_array (contained_steps (word_in (codes "SPDXID") d)) (member_at at (codes "hasFiles")) (get (codes "hasFiles") d))
+    ++ if_array (contained_steps (word_in (codes "SPDXID") d)) (member_at at (codes "hasFiles"))
+    (get (codes "hasFiles") d))
 part_steps parts.File at d = step [] (put blank) ∷ object_steps at file_members d
 part_steps parts.Extracted at d = step [] (put blank) ∷ object_steps at extracted_members d
 part_steps parts.Relationship at d = relationship_steps at d

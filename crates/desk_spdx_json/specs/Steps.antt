@@ -8,8 +8,8 @@ use Rattle.desk_spdx_json.specs.declared.steps.Step.{Step}
 use Rattle.desk_spdx_json.specs.declared.steps.What.{What}
 use Rattle.desk_spdx_json.specs.declared.steps.What.TheVariants as what
 
--- a line is written; something is left out; a required member is missing; a value is of the wrong type; a
--- value can't be written in its field
+-- a line is written; something is left out; a required member is missing; a value is of the wrong
+-- type; a value can't be written in its field
 pub data WhatText : Type 0 where
   put : LineText → WhatText
   left_out : Kind → WhatText

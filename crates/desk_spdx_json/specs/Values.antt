@@ -1,5 +1,6 @@
 -- The steps of a member's value.
-use Rattle.std.specs.Prelude.{ℕ, ◌+◌, Bool, true, false, List, [], ◌∷◌, ◌++◌, Option, Some, None, unwrap_or, option_and_then, option_map, codes, if◌then◌else◌}
+use Rattle.std.specs.Prelude.{ℕ, ◌+◌, Bool, true, false, List, [], ◌∷◌, ◌++◌, Option, Some, None}
+use Rattle.std.specs.Prelude.{unwrap_or, option_and_then, option_map, codes, if◌then◌else◌}
 use Rattle.desk_fields.specs.declared.tag.Tag.{Tag}
 use Rattle.desk_tagvalue.specs.Drafts.{LineText, one_line, in_text}
 use Rattle.serde_json.specs.Data.{Data, Items, no_items, item}
@@ -8,7 +9,8 @@ use Rattle.desk_spdx_json.specs.declared.steps.Kind.{Kind}
 use Rattle.desk_spdx_json.specs.declared.members.Form.{Form}
 use Rattle.desk_spdx_json.specs.declared.members.Form.TheVariants as forms
 use Rattle.desk_spdx_json.specs.Words.{is_word, is_name, is_keyword}
-use Rattle.desk_spdx_json.specs.Steps.{StepText, WhatText, step, put, left_out, missing, bad_type, bad_value, member_at, item_at}
+use Rattle.desk_spdx_json.specs.Steps.{StepText, WhatText, step, put, left_out, missing, bad_type}
+use Rattle.desk_spdx_json.specs.Steps.{bad_value, member_at, item_at}
 
 -- ---- texts and flags
 
@@ -71,11 +73,13 @@ word_in key d = text_or_empty (option_and_then as_str (get key d))
 
 -- a checksum (clause 8.4)
 abbrev pub checksum_line : Tag → Data → LineText
-checksum_line tag d = one_line tag (word_in (codes "algorithm") d ++ (codes ": " ++ word_in (codes "checksumValue") d))
+checksum_line tag d = one_line tag
+    (word_in (codes "algorithm") d ++ (codes ": " ++ word_in (codes "checksumValue") d))
 
 abbrev pub checksum_steps : Tag → List ℕ → Data → List StepText
 checksum_steps tag at d =
-    word_fault at (codes "algorithm") d ++ (word_fault at (codes "checksumValue") d ++ step at (put (checksum_line tag d)) ∷ [])
+    word_fault at (codes "algorithm") d
+    ++ (word_fault at (codes "checksumValue") d ++ step at (put (checksum_line tag d)) ∷ [])
 
 -- what is wrong with the name of a file that a verification code excludes (clause 7.9)
 abbrev pub name_fault : List ℕ → Data → List StepText
@@ -87,7 +91,8 @@ more_names (item d ds) = codes ", " ++ (text_or_empty (as_str d) ++ more_names d
 
 abbrev pub names_text : Items → List ℕ
 names_text no_items = []
-names_text (item d ds) = codes " (excludes: " ++ (text_or_empty (as_str d) ++ (more_names ds ++ codes ")"))
+names_text (item d ds) = codes " (excludes: "
+    ++ (text_or_empty (as_str d) ++ (more_names ds ++ codes ")"))
 
 abbrev pub excluded_text : Option Items → List ℕ
 excluded_text None = []
@@ -98,12 +103,15 @@ names_in d = get (codes "packageVerificationCodeExcludedFiles") d
 
 -- a verification code
 abbrev pub code_line : Tag → Data → LineText
-code_line tag d = one_line tag (word_in (codes "packageVerificationCodeValue") d ++ excluded_text (option_and_then as_array (names_in d)))
+code_line tag d = one_line tag
+    (word_in (codes "packageVerificationCodeValue") d
+    ++ excluded_text (option_and_then as_array (names_in d)))
 
 abbrev pub code_steps : List ℕ → Tag → Data → List StepText
 code_steps at tag d =
     word_fault at (codes "packageVerificationCodeValue") d
-    ++ (if_array name_fault (member_at at (codes "packageVerificationCodeExcludedFiles")) (names_in d) ++ step at (put (code_line tag d)) ∷ [])
+    ++ (if_array name_fault (member_at at (codes "packageVerificationCodeExcludedFiles"))
+    (names_in d) ++ step at (put (code_line tag d)) ∷ [])
 
 -- ---- what is left out: each item of an array, or any other value as one
 abbrev pub left_items : Kind → Items → List StepText
@@ -119,7 +127,8 @@ abbrev pub value_steps : List ℕ → Form → Data → List StepText
 value_steps at (forms.OneLine tag) d = line_step at (one_line tag) (as_str d) ∷ []
 value_steps at (forms.InText tag) d = line_step at (in_text tag) (as_str d) ∷ []
 value_steps at (forms.Copyright tag) d = line_step at (copyright_line tag) (as_str d) ∷ []
-value_steps at (forms.Flag tag) d = line_step at (one_line tag) (option_map flag_text (as_bool d)) ∷ []
+value_steps at (forms.Flag tag) d = line_step at (one_line tag) (option_map flag_text (as_bool d))
+    ∷ []
 value_steps at (forms.Texts tag) d = in_array (text_steps tag) at (as_array d)
 value_steps at (forms.Checksums tag) d = in_array (checksum_steps tag) at (as_array d)
 value_steps at (forms.Code tag) d = code_steps at tag d

@@ -1,5 +1,6 @@
 -- A text that only reads leaves every database as it is.
-use Rattle.std.proofs.Common.{◌≡◌, ◌⊎◌, inl, inr, ℕ, ◌+◌, Bool, true, false, List, IsTrue, Option, Some, None, Ok, Err, refl, sym, ap, subst, ◌∙◌}
+use Rattle.std.proofs.Common.{◌≡◌, ◌⊎◌, inl, inr, ℕ, ◌+◌, Bool, true, false, List, IsTrue, Option}
+use Rattle.std.proofs.Common.{Some, None, Ok, Err, refl, sym, ap, subst, ◌∙◌}
 use Rattle.std.specs.Prelude.{IsSome}
 use Rattle.sqlite_value.specs.Order.{Row}
 use Rattle.sqlite_trees.specs.Tree.{Trees}
@@ -15,12 +16,15 @@ use Rattle.sqlite_resolve.specs.Compile.{small, first, returning, command, meani
 use Rattle.sqlite.specs.declared.error.Error.{Error}
 use Rattle.sqlite.specs.Clock.{timed}
 use Rattle.sqlite.specs.Listing.{understood, reads_listing, if_select, is_select, listing_schema}
-use Rattle.sqlite.specs.State.{State, HasCleanDisk, Survives, IsUnchanged, IsRolledBack, FailsToQuery, FailsToShow, IsNotRun, Shown, ShowsRows, CommitsShowing}
+use Rattle.sqlite.specs.State.{State, HasCleanDisk, Survives, IsUnchanged, IsRolledBack}
+use Rattle.sqlite.specs.State.{FailsToQuery, FailsToShow, IsNotRun, Shown, ShowsRows}
+use Rattle.sqlite.specs.State.{CommitsShowing}
 use Rattle.desk_sql_adopt.specs.Reading.{Asks, Answers, IsSpared}
 
 -- ---- what a text is, whatever the schema
 
-then_gives : {A B : Type 0} (x : Checked A) (f : A → Checked B) (b : B) → and_then x f ≡ Ok b → (a : A) × (x ≡ Ok a) × (f a ≡ Ok b)
+then_gives : {A B : Type 0} (x : Checked A) (f : A → Checked B) (b : B) → and_then x f ≡ Ok b
+    → (a : A) × (x ≡ Ok a) × (f a ≡ Ok b)
 then_gives (Ok a) f b h = (a, refl, h)
 then_gives (Err e) f b h = absurd (cc)
 
@@ -30,31 +34,45 @@ checked a = Ok a
 same_ok : {A : Type 0} (a b : A) → checked a ≡ Ok b → a ≡ b
 same_ok a b h = cc
 
-meaning_none : (schema : Schema) (p : Parsed) (base : ℕ) (m : Command × Option Returning) → returning schema base p.statement ≡ Ok None → meaning schema p base ≡ Ok m → m.1 ≡ None
+meaning_none : (schema : Schema) (p : Parsed) (base : ℕ) (m : Command × Option Returning)
+    → returning schema base p.statement ≡ Ok None → meaning schema p base ≡ Ok m → m.1 ≡ None
 unfolding meaning
 meaning_none schema p base m none h =
-    let shown = then_gives (returning schema base p.statement) (λ shown. and_then (command schema p.formats base p.statement) (λ c. Ok (c, shown))) m h in
-    let c = then_gives (command schema p.formats base p.statement) (λ c. Ok (c, shown.0)) m shown.2 in
-    sym (ap (λ (m : Command × Option Returning). m.1) (same_ok (c.0, shown.0) m c.2)) ∙ same_ok shown.0 None (sym shown.1 ∙ none)
+    let shown = then_gives (returning schema base p.statement)
+    (λ shown. and_then (command schema p.formats base p.statement) (λ c. Ok (c, shown))) m h in
+    let c = then_gives (command schema p.formats base p.statement) (λ c. Ok (c, shown.0)) m
+    shown.2 in
+    sym (ap (λ (m : Command × Option Returning). m.1) (same_ok (c.0, shown.0) m c.2))
+    ∙ same_ok shown.0 None (sym shown.1 ∙ none)
 
-planned_none : (schema : Schema) (p : Parsed) (plan : List Name × (Command × Option Returning)) → ((base : ℕ) → returning schema base p.statement ≡ Ok None) → planned schema p ≡ Ok plan → plan.1.1 ≡ None
+planned_none : (schema : Schema) (p : Parsed) (plan : List Name × (Command × Option Returning))
+    → ((base : ℕ) → returning schema base p.statement ≡ Ok None) → planned schema p ≡ Ok plan
+    → plan.1.1 ≡ None
 unfolding planned
 planned_none schema p plan none h =
     let formats = compile.timed schema p.formats p.statement in
     let base = small p.names + small formats in
     let found = then_gives (meaning schema p base) (λ found. Ok (formats, found)) plan h in
-    sym (ap (λ (plan : List Name × (Command × Option Returning)). plan.1.1) (same_ok (formats, found.0) plan found.2)) ∙ meaning_none schema p base found.0 (none base) found.1
+    sym (ap (λ (plan : List Name × (Command × Option Returning)). plan.1.1)
+    (same_ok (formats, found.0) plan found.2))
+    ∙ meaning_none schema p base found.0 (none base) found.1
 
-module _ (text : List ℕ) (none : (schema : Schema) (base : ℕ) → and_then (first text) (λ p. returning schema base p.statement) ≡ Ok None) where
-  compiled_none : (schema : Schema) (c : Compiled) → compiled schema text ≡ Ok c → c.returning ≡ None
+module _ (text : List ℕ) (none : (schema : Schema) (base : ℕ)
+    → and_then (first text) (λ p. returning schema base p.statement) ≡ Ok None) where
+  compiled_none : (schema : Schema) (c : Compiled) → compiled schema text ≡ Ok c
+      → c.returning ≡ None
   unfolding compiled
   compiled_none schema c h =
-      let p = then_gives (first text) (λ p. and_then (planned schema p) (λ plan. Ok (with_command p plan))) c h in
+      let p = then_gives (first text)
+      (λ p. and_then (planned schema p) (λ plan. Ok (with_command p plan))) c h in
       let plan = then_gives (planned schema p.0) (λ plan. Ok (with_command p.0 plan)) c p.2 in
-      let bare = λ (base : ℕ). subst (λ (x : Checked Parsed). and_then x (λ p. returning schema base p.statement) ≡ Ok None) p.1 (none schema base) in
-      sym (ap (λ (c : Compiled). c.returning) (same_ok (with_command p.0 plan.0) c plan.2)) ∙ planned_none schema p.0 plan.0 bare plan.1
+      let bare = λ (base : ℕ). subst (λ (x : Checked Parsed). and_then x
+      (λ p. returning schema base p.statement) ≡ Ok None) p.1 (none schema base) in
+      sym (ap (λ (c : Compiled). c.returning) (same_ok (with_command p.0 plan.0) c plan.2))
+      ∙ planned_none schema p.0 plan.0 bare plan.1
 
-  listed_none : (x : Checked Compiled) → ((c : Compiled) → x ≡ Ok c → c.returning ≡ None) → (c : Compiled) → if_select x ≡ Ok c → c.returning ≡ None
+  listed_none : (x : Checked Compiled) → ((c : Compiled) → x ≡ Ok c → c.returning ≡ None)
+      → (c : Compiled) → if_select x ≡ Ok c → c.returning ≡ None
   listed_none (Ok d) bare c h = go (is_select d.command) refl
     where
       go : (b : Bool) → is_select d.command ≡ b → c.returning ≡ None
@@ -67,7 +85,8 @@ module _ (text : List ℕ) (none : (schema : Schema) (base : ℕ) → and_then (
   asks schema c h = go (reads_listing schema text) refl
     where
       go : (b : Bool) → reads_listing schema text ≡ b → c.returning ≡ None
-      go true is = listed_none (compiled listing_schema text) (compiled_none listing_schema) c (rw is at h)
+      go true is = listed_none (compiled listing_schema text) (compiled_none listing_schema) c
+          (rw is at h)
       go false is = compiled_none schema c (rw is at h)
 
 -- ---- what it does to a connection
@@ -79,7 +98,8 @@ module _ (sql : List ℕ) (params : Row) (old new : State) (bare : Asks sql) whe
   pub shown_unchanged : (rows : List Row) → Shown sql params old new rows → IsUnchanged old new
   unfolding Shown
   shown_unchanged rows h =
-      let it = subst (ShowsRows old new sql h.0 (timed params h.0.formats h.1.now) rows) (bare old.now.schema h.0 h.1.is) h.2 in it.3
+      let it = subst (ShowsRows old new sql h.0 (timed params h.0.formats h.1.now) rows)
+      (bare old.now.schema h.0 h.1.is) h.2 in it.3
 
   pub answers : (rows : List Row) → Shown sql params old new rows → Answers sql params old rows
   unfolding Shown
@@ -96,7 +116,9 @@ module _ (sql : List ℕ) (params : Row) (old new : State) (bare : Asks sql) whe
   pub failed_so : (e : Error) → FailsToQuery sql params old new e → Moves
   unfolding FailsToQuery
   failed_so e (inl h) = not_run e h
-  failed_so e (inr h) = let it = subst (FailsToShow old new sql h.0 (timed params h.0.formats h.1.now) e) (bare old.now.schema h.0 h.1.is) h.2 in inl it.3
+  failed_so e (inr h) = let it =
+      subst (FailsToShow old new sql h.0 (timed params h.0.formats h.1.now) e)
+      (bare old.now.schema h.0 h.1.is) h.2 in inl it.3
 
   no_some : (what : Option Returning) → what ≡ None → IsSome what → ⊥
   no_some None is some = absurd (cc)
@@ -106,7 +128,8 @@ module _ (sql : List ℕ) (params : Row) (old new : State) (bare : Asks sql) whe
   unfolding CommitsShowing
   never x h = no_some h.0.returning (bare old.now.schema h.0 h.1.is) h.2
 
-  module _ (settled : IsTrue old.is_open → old.now ≡ old.committed) (survives : Survives old new (CommitsShowing sql params old)) where
+  module _ (settled : IsTrue old.is_open → old.now ≡ old.committed)
+      (survives : Survives old new (CommitsShowing sql params old)) where
     pub still : Survives old new (λ _. ⊥)
     still = record {
       clean = survives.clean;
@@ -142,9 +165,14 @@ module _ (sql : List ℕ) (params : Row) (old new : State) (bare : Asks sql) whe
     }
 
     -- a query that answered
-    pub answered : (rows : List Row) → (HasCleanDisk new → Shown sql params old new rows) → IsSpared old new × (HasCleanDisk new → IsTrue old.is_open → IsTrue new.is_open)
-    answered rows shown = (spared (λ clean. inl (shown_unchanged rows (shown clean))), λ clean is. (shown_unchanged rows (shown clean)).0.is_open)
+    pub answered : (rows : List Row) → (HasCleanDisk new → Shown sql params old new rows)
+        → IsSpared old new × (HasCleanDisk new → IsTrue old.is_open → IsTrue new.is_open)
+    answered rows shown = (
+      spared (λ clean. inl (shown_unchanged rows (shown clean))),
+      λ clean is. (shown_unchanged rows (shown clean)).0.is_open,
+    )
 
     -- a query that failed
-    pub failed : (e : Error) → (HasCleanDisk new → FailsToQuery sql params old new e) → IsSpared old new
+    pub failed : (e : Error) → (HasCleanDisk new → FailsToQuery sql params old new e)
+        → IsSpared old new
     failed e fails = spared (λ clean. failed_so e (fails clean))

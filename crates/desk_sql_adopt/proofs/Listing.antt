@@ -30,10 +30,12 @@ releases_ask = asks releases_text releases_bare
 -- ---- all duties
 
 abbrev pub duties_text : List ℕ
-duties_text = codes "SELECT number, release, document, package, term, code, rule, state FROM duty ORDER BY number"
+duties_text = codes
+    "SELECT number, release, document, package, term, code, rule, state FROM duty ORDER BY number"
 
 duties_are : IsBareSelect duties_text 0 23 []
-    (col 1 0 ∷ col 1 2 ∷ col 1 3 ∷ col 1 4 ∷ col 1 5 ∷ col 1 6 ∷ col 1 7 ∷ col 1 8 ∷ []) (order_by (0 ∷ []))
+    (col 1 0 ∷ col 1 2 ∷ col 1 3 ∷ col 1 4 ∷ col 1 5 ∷ col 1 6 ∷ col 1 7 ∷ col 1 8 ∷ [])
+    (order_by (0 ∷ []))
     (codes "number" ∷ codes "release" ∷ codes "document" ∷ codes "package" ∷
     codes "term" ∷ codes "code" ∷ codes "rule" ∷ codes "state" ∷ [])
 unfolding first returning understood everything

@@ -10,11 +10,14 @@ use Rattle.desk_sql_adopt.specs.Reading.{Asks}
 use Rattle.desk_sql_adopt.proofs.Asking.{asks}
 
 -- this query of a table for the desk's schema, which changes nothing for any schema
-pub record IsBareSelect (text : List ℕ) (parameters tree : ℕ) (tests project : List Term) (by : List (Term × Key))
+pub record IsBareSelect (text : List ℕ) (parameters tree : ℕ) (tests project : List Term)
+    (by : List (Term × Key))
     (names : List (List ℕ)) : Type 0 where
-  pub bare : (schema : Schema) (base : ℕ) → and_then (first text) (λ p. returning schema base p.statement) ≡ Ok None
+  pub bare : (schema : Schema) (base : ℕ)
+      → and_then (first text) (λ p. returning schema base p.statement) ≡ Ok None
   pub select : IsSelect text parameters tree tests project by names
 
-pub select_asks : {text : List ℕ} {parameters tree : ℕ} {tests project : List Term} {by : List (Term × Key)}
+pub select_asks : {text : List ℕ} {parameters tree : ℕ} {tests project : List Term} {by : List
+    (Term × Key)}
     {names : List (List ℕ)} → IsBareSelect text parameters tree tests project by names → Asks text
 select_asks {text} it = asks text it.bare

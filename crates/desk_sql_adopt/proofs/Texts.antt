@@ -1,4 +1,5 @@
--- What the database answers when it is asked for its version, for how many rows there are, and for a body.
+-- What the database answers when it is asked for its version, for how many rows there are, and for
+-- a body.
 use Rattle.std.proofs.Common.{◌≡◌, ℕ, true, List, [], ◌∷◌, codes, length, None, Ok, refl}
 use Rattle.sqlite_value.specs.Order.{Row, column}
 use Rattle.sqlite_sql.specs.Term.{col}
@@ -39,33 +40,52 @@ version_asks = select_asks version_are
 pub version_asked : IsAsked version_text []
 version_asked = select_asked version_are.select [] refl refl
 
-pub version_read : (old new : State) (rows : List Row) (t : Tables) → Shown version_text [] old new rows
+pub version_read : (old new : State) (rows : List Row) (t : Tables)
+    → Shown version_text [] old new rows
     → Holds t old.now → rows ≡ meta_cells ∷ []
 version_read old new rows t shown holds =
     let this = d.meta_table in
     one_permutation meta_cells rows
     (shows_some this.name 0 this.columns this.key this.primary this.uniques this.orders 0 refl
-    (λ (x : Unit {0}). meta_cells) (rows_of t) (tt ∷ []) refl old.now holds.rows version_text (codes "version" ∷ [])
+    (λ (x : Unit {0}). meta_cells) (rows_of t) (tt ∷ []) refl old.now holds.rows version_text
+    (codes "version" ∷ [])
     [] (col 1 0 ∷ []) ([]) version_are.select.is version_are.select.plain [] (λ (cs : Row). true)
-    (λ (cs : Row). ([], column cs 0 ∷ [])) (λ x. true) (λ r. refl) (λ r. refl) (λ x. refl) old new rows shown refl)
+    (λ (cs : Row). ([], column cs 0 ∷ [])) (λ x. true) (λ r. refl) (λ r. refl) (λ x. refl) old new
+    rows shown refl)
 
 -- ---- how many rows there are
 
 pub revisions : ShowsEach (codes "SELECT revision FROM catalogue") (λ t. length t.catalogue)
 unfolding first returning understood everything
-revisions = shows_each catalogue_view (codes "revision" ∷ []) (col 1 0 ∷ []) (record { bare = λ schema base. refl; select = record { is = (refl, refl); plain = (refl, refl); suits = (refl, refl) } }) refl (λ r. refl)
+revisions = shows_each catalogue_view (codes "revision" ∷ []) (col 1 0 ∷ [])
+    (record {
+      bare = λ schema base. refl;
+      select = record { is = (refl, refl); plain = (refl, refl); suits = (refl, refl) };
+    }) refl (λ r. refl)
 
 pub documents : ShowsEach (codes "SELECT number FROM document") (λ t. length t.document)
 unfolding first returning understood everything
-documents = shows_each document_view (codes "number" ∷ []) (col 1 0 ∷ []) (record { bare = λ schema base. refl; select = record { is = (refl, refl); plain = (refl, refl); suits = (refl, refl) } }) refl (λ r. refl)
+documents = shows_each document_view (codes "number" ∷ []) (col 1 0 ∷ [])
+    (record {
+      bare = λ schema base. refl;
+      select = record { is = (refl, refl); plain = (refl, refl); suits = (refl, refl) };
+    }) refl (λ r. refl)
 
 pub releases : ShowsEach (codes "SELECT name FROM releases") (λ t. length t.releases)
 unfolding first returning understood everything
-releases = shows_each release_view (codes "name" ∷ []) (col 1 1 ∷ []) (record { bare = λ schema base. refl; select = record { is = (refl, refl); plain = (refl, refl); suits = (refl, refl) } }) refl (λ r. refl)
+releases = shows_each release_view (codes "name" ∷ []) (col 1 1 ∷ [])
+    (record {
+      bare = λ schema base. refl;
+      select = record { is = (refl, refl); plain = (refl, refl); suits = (refl, refl) };
+    }) refl (λ r. refl)
 
 pub duties : ShowsEach (codes "SELECT number FROM duty") (λ t. length t.duty)
 unfolding first returning understood everything
-duties = shows_each duty_view (codes "number" ∷ []) (col 1 0 ∷ []) (record { bare = λ schema base. refl; select = record { is = (refl, refl); plain = (refl, refl); suits = (refl, refl) } }) refl (λ r. refl)
+duties = shows_each duty_view (codes "number" ∷ []) (col 1 0 ∷ [])
+    (record {
+      bare = λ schema base. refl;
+      select = record { is = (refl, refl); plain = (refl, refl); suits = (refl, refl) };
+    }) refl (λ r. refl)
 
 -- ---- the body of a revision
 

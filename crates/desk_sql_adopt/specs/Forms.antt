@@ -38,7 +38,15 @@ pub record HasNoMore (table : Table) : Type 0 where
 
 abbrev pub table_by : TableForm → Table
 table_by form =
-    table_of form.name.now form.tree (map column_by form.columns.now) form.key form.primary.now (places_by form.uniques.now) (plain_orders form.uniques.now)
+    table_of form.name.now form.tree (map column_by form.columns.now) form.key form.primary.now
+    (places_by form.uniques.now) (plain_orders form.uniques.now)
 
 abbrev pub index_by : IndexForm → Index
-index_by form = record { name = form.name.now; tree = form.tree; table = form.table; columns = form.columns.now; order = plain; is_unique = true }
+index_by form = record {
+  name = form.name.now;
+  tree = form.tree;
+  table = form.table;
+  columns = form.columns.now;
+  order = plain;
+  is_unique = true;
+}

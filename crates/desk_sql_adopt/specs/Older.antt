@@ -1,6 +1,7 @@
--- Databases of older versions: what they hold, and what becomes of it. Version 1 has neither the profiles of
--- documents nor the last days of waivers, and version 2 has no last days.
-use Rattle.std.specs.Prelude.{◌≡◌, ◌≢◌, ◌⊎◌, ℕ, pos, true, false, not, ◌==◌, if◌then◌else◌, List, [], ◌∷◌, map, take, Some, None}
+-- Databases of older versions: what they hold, and what becomes of it. Version 1 has neither the
+-- profiles of documents nor the last days of waivers, and version 2 has no last days.
+use Rattle.std.specs.Prelude.{◌≡◌, ◌≢◌, ◌⊎◌, ℕ, pos, true, false, not, ◌==◌, if◌then◌else◌, List}
+use Rattle.std.specs.Prelude.{[], ◌∷◌, map, take, Some, None}
 use Rattle.std.specs.List.{list_all}
 use Rattle.sqlite_value.specs.Order.{Row, column}
 use Rattle.sqlite_schema.specs.declared.schema.Schema.{Schema}
@@ -29,20 +30,27 @@ table_count Two = 15
 
 -- the first tables of a desk, declared in the same way, with the indexes of their keys
 abbrev pub older_schema : OlderVersion → Schema
-older_schema version = record { tables = take (table_count version) desk_schema.tables; indexes = take 13 desk_schema.indexes; views = [] }
+older_schema version = record {
+  tables = take (table_count version) desk_schema.tables;
+  indexes = take 13 desk_schema.indexes;
+  views = [];
+}
 
 -- the database has the tables of that version, with these rows in any order
-pub record HasOlderRows (version : OlderVersion) (rows : ℕ → List Row) (db : Database) : Type 0 where
+pub record HasOlderRows (version : OlderVersion) (rows : ℕ → List Row)
+    (db : Database) : Type 0 where
   pub declared : db.schema ≡ older_schema version
   pub stored : AllStored (older_schema version) rows db.trees
   pub sound : IsDatabase db
 
--- the rows, as cells, of the table with this tree, for a desk's tables in a database of that version
+-- the rows, as cells, of the table with this tree, for a desk's tables in a database of that
+-- version
 abbrev pub older_rows : OlderVersion → Tables → ℕ → List Row
-older_rows version t tree = if tree == meta_table.tree then (number (version_number version) ∷ []) ∷ [] else rows_of t tree
+older_rows version t tree = if tree == meta_table.tree
+    then (number (version_number version) ∷ []) ∷ [] else rows_of t tree
 
--- The database holds these tables as that version has them: none of their waivers ends, and in version 1 the
--- profile of each document is 1.
+-- The database holds these tables as that version has them: none of their waivers ends, and in
+-- version 1 the profile of each document is 1.
 pub record HoldsOlder (version : OlderVersion) (t : Tables) (db : Database) : Type 0 where
   pub rows : HasOlderRows version (older_rows version t) db
   pub orderly : AreOrderly t
@@ -58,20 +66,24 @@ abbrev pub readings_for : OlderVersion → (ℕ → List Row) → List Row
 readings_for One rows = first_readings (rows document_table.tree)
 readings_for Two rows = rows reading_table.tree
 
--- What the rows become: the version is 3, a document without a profile gets profile 1, no waiver ends, and
--- all else stays as it is.
+-- What the rows become: the version is 3, a document without a profile gets profile 1, no waiver
+-- ends, and all else stays as it is.
 abbrev pub migrated : OlderVersion → (ℕ → List Row) → ℕ → List Row
 migrated version rows tree =
     if tree == meta_table.tree then (number 3 ∷ []) ∷ []
     else (if tree == reading_table.tree then readings_for version rows
     else (if tree == waiver_table.tree then [] else rows tree))
 
--- What a database is to a migration: the tables of an older version; a table `meta` that gives no single
--- version; another version; or something else, if there is no table `meta`, or if it gives an older version
--- but the schema isn't that of this version.
+-- What a database is to a migration: the tables of an older version; a table `meta` that gives no
+-- single version; another version; or something else, if there is no table `meta`, or if it gives
+-- an older version but the schema isn't that of this version.
 abbrev pub IsOlderContent : State → OlderContent → Type 0
-IsOlderContent s (Older version) = TellsVersion (Some (pos (version_number version))) s × (s.now.schema ≡ older_schema version)
+IsOlderContent s (Older version) = TellsVersion (Some (pos (version_number version))) s
+    × (s.now.schema ≡ older_schema version)
 IsOlderContent s Untold = TellsVersion None s × (has_version s.now.schema ≡ true)
-IsOlderContent s (OtherVersion n) = TellsVersion (Some n) s × (n ≢ pos 1) × (n ≢ pos 2) × (has_version s.now.schema ≡ true)
+IsOlderContent s (OtherVersion n) = TellsVersion (Some n) s × (n ≢ pos 1) × (n ≢ pos 2)
+    × (has_version s.now.schema ≡ true)
 IsOlderContent s Other =
-    (has_version s.now.schema ≡ false) ⊎ ((version : OlderVersion) × TellsVersion (Some (pos (version_number version))) s × (s.now.schema ≢ older_schema version))
+    (has_version s.now.schema ≡ false)
+    ⊎ ((version : OlderVersion) × TellsVersion (Some (pos (version_number version))) s
+    × (s.now.schema ≢ older_schema version))

@@ -13,7 +13,8 @@ use Rattle.desk_model.specs.declared.command.Fault.{Fault}
 abbrev pub Asks : List ℕ → Type 0
 Asks sql = (schema : Schema) (c : Compiled) → understood schema sql ≡ Ok c → c.returning ≡ None
 
--- The connection shows what it showed, as far as it still shows anything, and a stop leaves nothing that it couldn't leave before.
+-- The connection shows what it showed, as far as it still shows anything, and a stop leaves nothing
+-- that it couldn't leave before.
 pub record IsSpared (old new : State) : Type 0 where
   pub survives : Survives old new (λ _. ⊥)
   pub was_open : HasCleanDisk new → IsTrue new.is_open → IsTrue old.is_open
@@ -31,4 +32,6 @@ HasRead old new (Err fault) = IsSpared old new
 -- the database answers a text that only reads with these rows
 abbrev pub Answers : List ℕ → Row → State → List Row → Type 0
 Answers sql params s rows =
-    (c : Compiled) × (it : IsStatement s sql params c) × (c.returning ≡ None) × (db : Database) × IsSourceOf (reads_listing s.now.schema sql) s.now db × Reads c.command db (timed params c.formats it.now) rows
+    (c : Compiled) × (it : IsStatement s sql params c) × (c.returning ≡ None) × (db : Database)
+    × IsSourceOf (reads_listing s.now.schema sql) s.now db
+    × Reads c.command db (timed params c.formats it.now) rows

@@ -19,32 +19,42 @@ use Rattle.desk_sql_write.specs.Written.{Wrote}
 use Rattle.desk_sql_write.proofs.Causes.{later_caused, ends_caused}
 use Rattle.desk_sql_write.proofs.Inside.{clean_before}
 
-module _ {S : Type 0} (g : Ghosts S) (old : Held S) (last new : State) (is_new : Bool) (change : Change) where
+module _ {S : Type 0} (g : Ghosts S) (old : Held S) (last new : State) (is_new : Bool)
+    (change : Change) where
   abbrev begun : State
   begun = state g (record old { in_transaction = true })
 
   -- the writes and the commit were done
-  pub ends_done : Wrote (rows_before is_new change) (rows_after is_new change) begun last → Shows last new last.now last.now false
+  pub ends_done : Wrote (rows_before is_new change) (rows_after is_new change) begun last
+      → Shows last new last.now last.now false
       → Done is_new change (state g old) new
   ends_done wrote shows = record {
     was_open = wrote.kept.was_open shows.was_open;
     is_open = shows.is_open;
     settled = shows.committed_is ∙ sym shows.now_is;
     made = λ t takes has.
-        subst (HasRows (rows_of (applied change t))) (sym shows.now_is) (wrote.change (record { tables = t; takes = takes }) has);
+        subst (HasRows (rows_of (applied change t))) (sym shows.now_is)
+        (wrote.change (record { tables = t; takes = takes }) has);
   }
 
   -- a write failed, and the transaction is dropped
-  pub made_fails : (P : Trees → Type 0) (fault : Fault) → Survives last new P → FailsFor (rows_before is_new change) (rows_after is_new change) (rows_in change) begun last fault → CommitFails is_new change (state g old) new fault
+  pub made_fails : (P : Trees → Type 0) (fault : Fault) → Survives last new P
+      → FailsFor (rows_before is_new change) (rows_after is_new change) (rows_in change) begun last
+      fault → CommitFails is_new change (state g old) new fault
   made_fails P fault s fails = record {
     cause = λ clean opened unlimited t takes has before after room.
         later_caused begun last new P fault s
-        (fails.cause (clean_before last new P s clean) refl opened unlimited (record { tables = t; takes = takes }) has before after room);
+        (fails.cause (clean_before last new P s clean) refl opened unlimited
+        (record { tables = t; takes = takes }) has before after room);
   }
 
   -- the commit failed
-  pub commit_fails : (P Q : Trees → Type 0) (e : Error) → Survives begun last Q → Survives last new P → (HasCleanDisk last → Wrote (rows_before is_new change) (rows_after is_new change) begun last) → (HasCleanDisk last → Uses (rows_before is_new change) (rows_in change) begun last)
-      → (HasCleanDisk new → FailsToCommit last new e) → CommitFails is_new change (state g old) new (fault_by e)
+  pub commit_fails : (P Q : Trees → Type 0) (e : Error) → Survives begun last Q
+      → Survives last new P → (HasCleanDisk last
+      → Wrote (rows_before is_new change) (rows_after is_new change) begun last)
+      → (HasCleanDisk last → Uses (rows_before is_new change) (rows_in change) begun last)
+      → (HasCleanDisk new → FailsToCommit last new e)
+      → CommitFails is_new change (state g old) new (fault_by e)
   commit_fails P Q e s u wrote uses fails = record {
     cause = λ clean opened unlimited t takes has before after room.
         let was = clean_before last new P u clean in
@@ -54,6 +64,8 @@ module _ {S : Type 0} (g : Ghosts S) (old : Held S) (last new : State) (is_new :
         ];
   }
 
-pub err_ends : (is_new : Bool) (change : Change) (old new : State) (r : Result (Unit {0}) Fault) (fault : Fault) → IsErrAnd r (λ e. e ≡ fault) → CommitFails is_new change old new fault → IfErr r (CommitFails is_new change old new)
+pub err_ends : (is_new : Bool) (change : Change) (old new : State) (r : Result (Unit {0}) Fault)
+    (fault : Fault) → IsErrAnd r (λ e. e ≡ fault) → CommitFails is_new change old new fault
+    → IfErr r (CommitFails is_new change old new)
 err_ends is_new change old new (Ok done) fault is fails = absurd is
 err_ends is_new change old new (Err e) fault is fails = rw is fails

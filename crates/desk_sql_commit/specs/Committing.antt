@@ -23,13 +23,15 @@ module _ (is_new : Bool) (change : Change) where
   -- a stop leaves the change
   abbrev pub Leaves : State → Trees → Type 0
   Leaves old trees = (db : Database)
-      × ((t : Tables) → Takes is_new change t → HasRows (rows_of t) old.now → HasRows (rows_of (applied change t)) db)
+      × ((t : Tables) → Takes is_new change t → HasRows (rows_of t) old.now
+      → HasRows (rows_of (applied change t)) db)
       × (trees ≡ db.trees)
 
-  -- If the tables can hold the rows before and after the change, and there are rowids for those that it adds,
-  -- its transaction fails only for such a cause.
+  -- If the tables can hold the rows before and after the change, and there are rowids for those
+  -- that it adds, its transaction fails only for such a cause.
   pub record CommitFails (old new : State) (fault : Fault) : Type 0 where
-    pub cause : HasCleanDisk new → IsTrue old.is_open → old.step_limit ≡ None → (t : Tables) → Takes is_new change t
+    pub cause : HasCleanDisk new → IsTrue old.is_open → old.step_limit ≡ None → (t : Tables)
+        → Takes is_new change t
         → HasRows (rows_of t) old.now → CanStand (rows_of t) → CanStand (rows_of (applied change t))
         → HasRoom (rows_in change) old.now.trees → IsCaused old new fault
 

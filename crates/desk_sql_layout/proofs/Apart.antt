@@ -1,5 +1,6 @@
 -- No two rows of a table have the same values in a key that is declared unique.
-use Rattle.std.proofs.Common.{◌≡◌, inl, inr, ℕ, ℤ, ◌≤◌, Bool, true, false, not, cond, List, [], ◌∷◌, filter, length, refl, ap, subst, arith}
+use Rattle.std.proofs.Common.{◌≡◌, inl, inr, ℕ, ℤ, ◌≤◌, Bool, true, false, not, cond, List, [], ◌∷◌}
+use Rattle.std.proofs.Common.{filter, length, refl, ap, subst, arith}
 use Rattle.std.specs.Prelude.{◌&&◌}
 use Rattle.std.specs.List.{AllByRecursion, list_any}
 use Rattle.std.specs.declared.cmp.Ordering.TheVariants.{Less}
@@ -25,13 +26,19 @@ differ_ints : (m n : ℤ) → value_cmp (Int m) (Int n) ≡ Less → differ (Int
 unfolding binary
 differ_ints m n less = rw less refl
 
-differ_is : (a b : Value) → is_int a ≡ true → is_int b ≡ true → value_cmp a b ≡ Less → differ a b ≡ true
+differ_is : (a b : Value) → is_int a ≡ true → is_int b ≡ true → value_cmp a b ≡ Less
+    → differ a b ≡ true
 differ_is a b one two less =
     let x = int_is a one in
     let y = int_is b two in
-    rw (x, y) (differ_ints (id_in a) (id_in b) (subst (λ v. value_cmp v (Int (id_in b)) ≡ Less) x (subst (λ v. value_cmp a v ≡ Less) y less)))
+    rw (
+      x,
+      y,
+    ) (differ_ints (id_in a) (id_in b)
+    (subst (λ v. value_cmp v (Int (id_in b)) ≡ Less) x (subst (λ v. value_cmp a v ≡ Less) y less)))
 
-none_passes : (p : Row → Bool) (rows : List Row) → ((b : Row) → Has rows b → p b ≡ true → ⊥) → filter p rows ≡ []
+none_passes : (p : Row → Bool) (rows : List Row) → ((b : Row) → Has rows b → p b ≡ true → ⊥)
+    → filter p rows ≡ []
 none_passes p [] none = refl
 none_passes p (r ∷ rows) none = go (none_passes p rows (λ b there. none b (inr there))) (p r) refl
   where
@@ -40,17 +47,22 @@ none_passes p (r ∷ rows) none = go (none_passes p rows (λ b there. none b (in
     go more false is = more
 
 -- if no two rows that pass have different rowids, at most one row passes
-one_passes : (p : Row → Bool) (rows : List Row) → IsTable rows → AllByRecursion (λ r. is_int (rowid r) ≡ true) rows
-    → ((a b : Row) → Has rows a → Has rows b → p a ≡ true → p b ≡ true → differ (rowid a) (rowid b) ≡ false) → length (filter p rows) ≤ 1
+one_passes : (p : Row → Bool) (rows : List Row) → IsTable rows
+    → AllByRecursion (λ r. is_int (rowid r) ≡ true) rows
+    → ((a b : Row) → Has rows a → Has rows b → p a ≡ true → p b ≡ true
+    → differ (rowid a) (rowid b) ≡ false) → length (filter p rows) ≤ 1
 one_passes p [] up keyed same = omega arith
-one_passes p (r ∷ rows) up keyed same = go (one_passes p rows up.1 keyed.1 (λ a b x y. same a b (inr x) (inr y))) (p r) refl
+one_passes p (r ∷ rows) up keyed same = go
+    (one_passes p rows up.1 keyed.1 (λ a b x y. same a b (inr x) (inr y))) (p r) refl
   where
-    go : length (filter p rows) ≤ 1 → (b : Bool) → p r ≡ b → length (cond b (r ∷ filter p rows) (filter p rows)) ≤ 1
+    go : length (filter p rows) ≤ 1 → (b : Bool) → p r ≡ b
+        → length (cond b (r ∷ filter p rows) (filter p rows)) ≤ 1
     go more true is =
         let none = none_passes p rows (λ b there passes.
         let less = all_has (λ x. value_cmp (rowid r) (rowid x) ≡ Less) rows b up.0 there in
         let whole = all_has (λ x. is_int (rowid x) ≡ true) rows b keyed.1 there in
-        contrary (differ (rowid r) (rowid b)) (differ_is (rowid r) (rowid b) keyed.0 whole less) (same r b (inl refl) (inr there) is passes)) in
+        contrary (differ (rowid r) (rowid b)) (differ_is (rowid r) (rowid b) keyed.0 whole less)
+        (same r b (inl refl) (inr there) is passes)) in
         omega (arith, ap length none)
     go more false is = more
 
@@ -63,8 +75,11 @@ second : (a b : Bool) → (a && b) ≡ false → a ≡ true → b ≡ false
 second true b e is = e
 second false b e is = cc
 
-pub one_at_most : (schema : Schema) (table : Table) (index : Index) (db : Trees) → Has schema.tables table → Has schema.indexes index → guards index table ≡ true → Obeys schema db
-    → IsTable (db table.tree) → AllByRecursion (λ r. is_int (rowid r) ≡ true) (db table.tree) → (places : List ℕ) (key : Row)
+pub one_at_most : (schema : Schema) (table : Table) (index : Index) (db : Trees)
+    → Has schema.tables table → Has schema.indexes index → guards index table ≡ true
+    → Obeys schema db
+    → IsTable (db table.tree) → AllByRecursion (λ r. is_int (rowid r) ≡ true) (db table.tree)
+    → (places : List ℕ) (key : Row)
     → length (filter (λ r. agree index.order index.columns r places key) (db table.tree)) ≤ 1
 one_at_most schema table index db listed kept guarded obeys up keyed places key =
     let rows = db table.tree in
@@ -72,14 +87,19 @@ one_at_most schema table index db listed kept guarded obeys up keyed places key 
     let at = index.columns in
     one_passes (λ r. agree o at r places key) rows up keyed (λ a b here there one two.
     let both = agree_chain o at places at a key b one (agree_back o at places b key two) in
-    let all = all_has (λ t. AllByRecursion (λ row. passes Unique schema db t row ≡ true) (db t.tree)) schema.tables table (obeys.rules Unique) listed in
+    let all = all_has (λ t. AllByRecursion (λ row. passes Unique schema db t row ≡ true)
+    (db t.tree)) schema.tables table (obeys.rules Unique) listed in
     let mine = all_has (λ row. passes Unique schema db table row ≡ true) rows b all there in
-    let clear = not_false (guards index table && clashes o at rows b) (test_has (λ i. not (guards i table && clashes i.order i.columns rows b)) schema.indexes index mine kept) in
+    let clear = not_false (guards index table && clashes o at rows b)
+    (test_has (λ i. not (guards i table && clashes i.order i.columns rows b)) schema.indexes index
+    mine kept) in
     let free = second (guards index table) (clashes o at rows b) clear guarded in
-    let none : (agree o at a at b && differ (rowid a) (rowid b)) ≡ false = none_of (λ other. agree o at other at b && differ (rowid other) (rowid b)) rows a free here in
+    let none : (agree o at a at b && differ (rowid a) (rowid b)) ≡ false =
+    none_of (λ other. agree o at other at b && differ (rowid other) (rowid b)) rows a free here in
     second (agree o at a at b) (differ (rowid a) (rowid b)) none both)
   where
-    none_of : (p : Row → Bool) (rows : List Row) (a : Row) → list_any p rows ≡ false → Has rows a → p a ≡ false
+    none_of : (p : Row → Bool) (rows : List Row) (a : Row) → list_any p rows ≡ false → Has rows a
+        → p a ≡ false
     none_of p rows a free there = by (p a) refl
       where
         by : (b : Bool) → p a ≡ b → p a ≡ false

@@ -1,5 +1,6 @@
 -- What a column makes of a value of its own kind, and how a test of equality compares values.
-use Rattle.std.proofs.Common.{◌≡◌, ℕ, ℤ, pos, Bool, true, false, cond, List, [], ◌∷◌, Option, Some, None, refl, ap, ◌∙◌, arith}
+use Rattle.std.proofs.Common.{◌≡◌, ℕ, ℤ, pos, Bool, true, false, cond, List, [], ◌∷◌, Option, Some}
+use Rattle.std.proofs.Common.{None, refl, ap, ◌∙◌, arith}
 use Rattle.std.specs.Prelude.{◌&&◌, ◌==◌, nat_le, bytes_eq}
 use Rattle.std.proofs.lemmas.Bool.Decides.{nat_tests}
 use Rattle.std.proofs.lemmas.Int.{ints}
@@ -41,13 +42,17 @@ cast_text (Some text) = refl
 int_is_eq : (a b : ℕ) → is_eq (int_cmp (pos a) (pos b)) ≡ (a == b)
 int_is_eq a b = grind (arith, ints, nat_tests)
 
-pub int_test : (a b : ℕ) → is_true (binary (Compare Eq Binary) (Int (pos a)) (Int (pos b))) ≡ (a == b)
+pub int_test : (a b : ℕ) → is_true (binary (Compare Eq Binary) (Int (pos a)) (Int (pos b)))
+    ≡ (a == b)
 unfolding binary
-int_test a b = rw (value_cmp-Int (pos a) (pos b)) (truth_is (is_eq (int_cmp (pos a) (pos b))) ∙ int_is_eq a b)
+int_test a b = rw (value_cmp-Int (pos a) (pos b))
+    (truth_is (is_eq (int_cmp (pos a) (pos b))) ∙ int_is_eq a b)
 
-pub text_test : (a b : List ℕ) → is_true (binary (Compare Eq Binary) (Text a) (Text b)) ≡ bytes_eq a b
+pub text_test : (a b : List ℕ)
+    → is_true (binary (Compare Eq Binary) (Text a) (Text b)) ≡ bytes_eq a b
 unfolding binary
-text_test a b = rw (value_cmp-Text a b) (truth_is (is_eq (slice_cmp nat_cmp a b)) ∙ is_eq-slice_cmp a b)
+text_test a b = rw (value_cmp-Text a b)
+    (truth_is (is_eq (slice_cmp nat_cmp a b)) ∙ is_eq-slice_cmp a b)
 
 pub and_true : (b : Bool) → (b && true) ≡ b
 and_true true = refl
@@ -65,16 +70,23 @@ int_is_le a b = grind (arith, ints, nat_tests)
 
 ge_test : (a b : ℕ) → is_true (binary (Compare Ge Binary) (Int (pos a)) (Int (pos b))) ≡ nat_le b a
 unfolding binary
-ge_test a b = rw (value_cmp-Int (pos a) (pos b)) (truth_is (is_ge (int_cmp (pos a) (pos b))) ∙ int_is_ge a b)
+ge_test a b = rw (value_cmp-Int (pos a) (pos b))
+    (truth_is (is_ge (int_cmp (pos a) (pos b))) ∙ int_is_ge a b)
 
 le_test : (a b : ℕ) → is_true (binary (Compare Le Binary) (Int (pos a)) (Int (pos b))) ≡ nat_le a b
 unfolding binary
-le_test a b = rw (value_cmp-Int (pos a) (pos b)) (truth_is (is_le (int_cmp (pos a) (pos b))) ∙ int_is_le a b)
+le_test a b = rw (value_cmp-Int (pos a) (pos b))
+    (truth_is (is_le (int_cmp (pos a) (pos b))) ∙ int_is_le a b)
 
 -- a number is in a range
-pub run_test : (first last n : ℕ) → (is_true (binary (Compare Ge Binary) (Int (pos n)) (Int (pos first))) && (is_true (binary (Compare Le Binary) (Int (pos n)) (Int (pos last))) && true)) ≡ (nat_le first n && nat_le n last)
-run_test first last n = (λ i. ge_test n first i && (le_test n last i && true)) ∙ ap (λ b. nat_le first n && b) (and_true (nat_le n last))
+pub run_test : (first last n : ℕ)
+    → (is_true (binary (Compare Ge Binary) (Int (pos n)) (Int (pos first)))
+    && (is_true (binary (Compare Le Binary) (Int (pos n)) (Int (pos last))) && true))
+    ≡ (nat_le first n && nat_le n last)
+run_test first last n = (λ i. ge_test n first i && (le_test n last i && true))
+    ∙ ap (λ b. nat_le first n && b) (and_true (nat_le n last))
 
 -- a column is a number in the range from one parameter to the next
 abbrev pub within : ℕ → List Term
-within at = op2 (Compare Ge Binary) (col 1 at) (col 0 0) ∷ op2 (Compare Le Binary) (col 1 at) (col 0 1) ∷ []
+within at = op2 (Compare Ge Binary) (col 1 at) (col 0 0)
+    ∷ op2 (Compare Le Binary) (col 1 at) (col 0 1) ∷ []

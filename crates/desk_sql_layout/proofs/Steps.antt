@@ -1,5 +1,7 @@
 -- What INSERT, DELETE and UPDATE of one table do if there are no foreign keys.
-use Rattle.std.proofs.Common.{◌≡◌, ◌⊎◌, inl, inr, ℕ, List, [], ◌∷◌, flat_map, length, slice_get, Option, Some, None, Ok, Err, Result, refl, sym, ap, subst, subst₂, ◌∙◌, append-nil}
+use Rattle.std.proofs.Common.{◌≡◌, ◌⊎◌, inl, inr, ℕ, List, [], ◌∷◌, flat_map, length, slice_get}
+use Rattle.std.proofs.Common.{Option, Some, None, Ok, Err, Result, refl, sym, ap, subst, subst₂}
+use Rattle.std.proofs.Common.{◌∙◌, append-nil}
 use Rattle.std.specs.Prelude.{◌/◌}
 use Rattle.std.specs.List.{AllByRecursion, filter_map}
 use Rattle.sqlite_value.specs.declared.keys.Order.{Order}
@@ -38,7 +40,8 @@ pub record Stepped (schema : Schema) (old new : Database) (edit : Edit) : Type 0
   pub applies : Applies schema Enforced old.trees edit new.trees
 
 -- a part that returned a value did not stop on the way
-pub went : {B E R : Type 0} {b : B} {Stops : E → Type 0} → ((stop : E) × Stops stop × (Ok b ≡ Err stop)) ⊎ R → R
+pub went : {B E R : Type 0} {b : B} {Stops : E → Type 0}
+    → ((stop : E) × Stops stop × (Ok b ≡ Err stop)) ⊎ R → R
 went (inl stopped) = absurd (let e = stopped.2 in cc)
 went (inr on) = on
 
@@ -46,63 +49,98 @@ went (inr on) = on
 abbrev pub HasNoKeys : Schema → Type 0
 HasNoKeys schema = AllByRecursion (λ t. t.references ≡ []) schema.tables
 
-no_actions : (schema : Schema) (keys : Keys) (depth tree : ℕ) (olds news : List Row) → HasNoKeys schema → works schema keys depth tree olds news ≡ []
+no_actions : (schema : Schema) (keys : Keys) (depth tree : ℕ) (olds news : List Row)
+    → HasNoKeys schema → works schema keys depth tree olds news ≡ []
 no_actions schema keys depth tree olds news none = each schema.tables none
   where
-    each : (tables : List Table) → AllByRecursion (λ t. t.references ≡ []) tables → flat_map (λ child. filter_map (work_for schema keys depth tree olds news child) child.references) tables ≡ []
+    each : (tables : List Table) → AllByRecursion (λ t. t.references ≡ []) tables
+        → flat_map (λ child. filter_map (work_for schema keys depth tree olds news child)
+        child.references) tables ≡ []
     each [] h = refl
     each (t ∷ tables) h = rw h.0 (each tables h.1)
 
-module _ (name : List ℕ) (tree : ℕ) (columns : List Column) (key : Option ℕ) (primary : List ℕ) (uniques : List (List ℕ)) (orders : List Order) where
+module _ (name : List ℕ) (tree : ℕ) (columns : List Column) (key : Option ℕ) (primary : List ℕ)
+    (uniques : List (List ℕ)) (orders : List Order) where
   abbrev this : Table
   this = table_of name tree columns key primary uniques orders
 
-  module _ (schema : Schema) (place : ℕ) (listed : slice_get schema.tables place ≡ Some this) (alone : HasNoKeys schema) (s : State) (has : s.now.schema ≡ schema) (params : Row) (text : List ℕ) (new : Database) (tally : Tally) where
-    pub inserts : (terms : List Term) (width : ℕ) (sources : List Row) → value_rows params width (length terms / width) terms ≡ sources
-        → Does s.step_limit (mode_of s) params s.now text None (Insert place (Values terms width)) (Ok (tally, new))
+  module _ (schema : Schema) (place : ℕ) (listed : slice_get schema.tables place ≡ Some this)
+      (alone : HasNoKeys schema) (s : State) (has : s.now.schema ≡ schema) (params : Row)
+      (text : List ℕ) (new : Database) (tally : Tally) where
+    pub inserts : (terms : List Term) (width : ℕ) (sources : List Row)
+        → value_rows params width (length terms / width) terms ≡ sources
+        → Does s.step_limit (mode_of s) params s.now text None (Insert place (Values terms width))
+        (Ok (tally, new))
         → Stepped schema s.now new (edit_of s.now.trees this [] Chosen 0 sources)
     inserts terms width sources source did =
         let db = s.now.trees in
         let it = rw (has, listed) at did in
         let done = went it in
-        let now : new ≡ at schema done.0.trees = ap (λ (p : Tally × Database). p.1) (same_value (went (went done.2).2).2) in
+        let now : new ≡ at schema done.0.trees =
+        ap (λ (p : Tally × Database). p.1) (same_value (went (went done.2).2).2) in
         let given = went done.1 in
         let written = went (went given.2).2 in
         let counted = went written.2 in
-        let trees : done.0.trees ≡ written.0 = ap (λ (it : Written). it.trees) (same_value counted.2) ∙ same_value counted.1 in
+        let trees : done.0.trees ≡ written.0 =
+        ap (λ (it : Written). it.trees) (same_value counted.2) ∙ same_value counted.1 in
         let rows : given.0 ≡ sources = given.1.1 ∙ rw append-nil source in
-        let applies = one_step schema Enforced db written.0 (edit_of db this [] Chosen 0 given.0) (no_works schema Enforced 0 tree _) written.1 in
+        let applies = one_step schema Enforced db written.0 (edit_of db this [] Chosen 0 given.0)
+        (no_works schema Enforced 0 tree _) written.1 in
         let next : written.0 ≡ new.trees = sym (ap (λ (d : Database). d.trees) now ∙ trees) in
-        record { schema_is = ap (λ (d : Database). d.schema) now; applies = subst₂ (λ rows next. Applies schema Enforced db (edit_of db this [] Chosen 0 rows) next) rows next applies }
+        record {
+          schema_is = ap (λ (d : Database). d.schema) now;
+          applies = subst₂ (λ rows next. Applies schema Enforced db
+              (edit_of db this [] Chosen 0 rows) next) rows next applies;
+        }
 
     pub deletes : (q : Program)
         → Does s.step_limit (mode_of s) params s.now text None (Delete place q) (Ok (tally, new))
-        → (rows : List Row) × Answers (at schema s.now.trees) q params rows × Stepped schema s.now new (edit_of s.now.trees this (ids_of rows) Given 0 [])
+        → (rows : List Row) × Answers (at schema s.now.trees) q params rows
+        × Stepped schema s.now new (edit_of s.now.trees this (ids_of rows) Given 0 [])
     deletes q did =
         let db = s.now.trees in
         let it = rw (has, listed) at did in
         let done = went it in
-        let now : new ≡ at schema done.0.trees = ap (λ (p : Tally × Database). p.1) (same_value (went (went done.2).2).2) in
+        let now : new ≡ at schema done.0.trees =
+        ap (λ (p : Tally × Database). p.1) (same_value (went (went done.2).2).2) in
         let given = went done.1 in
         let written = went given.2 in
-        let trees : done.0.trees ≡ written.0 = ap (λ (it : Written). it.trees) (same_value written.2) in
+        let trees : done.0.trees ≡ written.0 =
+        ap (λ (it : Written). it.trees) (same_value written.2) in
         let edit = edit_of db this (ids_of given.0) Given 0 [] in
-        let applies = one_step schema Enforced db written.0 edit (no_actions schema Enforced 0 tree (taken_by db edit) edit.news alone) written.1 in
-        let next : written.0 ≡ new.trees = sym (ap (λ (d : Database). d.trees) now ∙ trees) in
-        (given.0, given.1, record { schema_is = ap (λ (d : Database). d.schema) now; applies = subst (λ next. Applies schema Enforced db edit next) next applies })
+        let applies = one_step schema Enforced db written.0 edit
+        (no_actions schema Enforced 0 tree (taken_by db edit) edit.news alone) written.1 in
+        let next : written.0 ≡ new.trees = sym (ap (λ (d : Database). d.trees) now ∙ trees) in (
+          given.0,
+          given.1,
+          record {
+            schema_is = ap (λ (d : Database). d.schema) now;
+            applies = subst (λ next. Applies schema Enforced db edit next) next applies;
+          },
+        )
 
     pub updates : (q : Program)
         → Does s.step_limit (mode_of s) params s.now text None (Update place q) (Ok (tally, new))
-        → (rows : List Row) × Answers (at schema s.now.trees) q params rows × Stepped schema s.now new (edit_of s.now.trees this (ids_of rows) Given 1 rows)
+        → (rows : List Row) × Answers (at schema s.now.trees) q params rows
+        × Stepped schema s.now new (edit_of s.now.trees this (ids_of rows) Given 1 rows)
     updates q did =
         let db = s.now.trees in
         let it = rw (has, listed) at did in
         let done = went it in
-        let now : new ≡ at schema done.0.trees = ap (λ (p : Tally × Database). p.1) (same_value (went (went done.2).2).2) in
+        let now : new ≡ at schema done.0.trees =
+        ap (λ (p : Tally × Database). p.1) (same_value (went (went done.2).2).2) in
         let given = went done.1 in
         let written = went given.2 in
-        let trees : done.0.trees ≡ written.0 = ap (λ (it : Written). it.trees) (same_value written.2) in
+        let trees : done.0.trees ≡ written.0 =
+        ap (λ (it : Written). it.trees) (same_value written.2) in
         let edit = edit_of db this (ids_of given.0) Given 1 given.0 in
-        let applies = one_step schema Enforced db written.0 edit (no_actions schema Enforced 0 tree (taken_by db edit) edit.news alone) written.1 in
-        let next : written.0 ≡ new.trees = sym (ap (λ (d : Database). d.trees) now ∙ trees) in
-        (given.0, given.1, record { schema_is = ap (λ (d : Database). d.schema) now; applies = subst (λ next. Applies schema Enforced db edit next) next applies })
+        let applies = one_step schema Enforced db written.0 edit
+        (no_actions schema Enforced 0 tree (taken_by db edit) edit.news alone) written.1 in
+        let next : written.0 ≡ new.trees = sym (ap (λ (d : Database). d.trees) now ∙ trees) in (
+          given.0,
+          given.1,
+          record {
+            schema_is = ap (λ (d : Database). d.schema) now;
+            applies = subst (λ next. Applies schema Enforced db edit next) next applies;
+          },
+        )

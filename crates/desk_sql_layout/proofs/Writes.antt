@@ -1,9 +1,12 @@
 -- What the tables show after INSERT, DELETE and UPDATE of one of them.
-use Rattle.std.proofs.Common.{◌≡◌, ◌≢◌, inl, inr, ℕ, Bool, true, false, not, List, [], ◌∷◌, ◌++◌, map, filter, drop, slice_get, Option, Some, refl, sym, ap, subst, subst₂, ◌∙◌}
+use Rattle.std.proofs.Common.{◌≡◌, ◌≢◌, inl, inr, ℕ, Bool, true, false, not, List, [], ◌∷◌, ◌++◌}
+use Rattle.std.proofs.Common.{map, filter, drop, slice_get, Option, Some, refl, sym, ap, subst}
+use Rattle.std.proofs.Common.{subst₂, ◌∙◌}
 use Rattle.std.specs.List.{AllByRecursion, AllZip}
 use Rattle.std.specs.List.Sorted.{IsPermutation}
 use Rattle.std.proofs.lemmas.Bool.{and_parts, cases_Bool}
-use Rattle.std.proofs.lemmas.List.Sorted.{IsPermutation-map, IsPermutation-trans, IsPermutation-sym, IsPermutation-middle}
+use Rattle.std.proofs.lemmas.List.Sorted.{IsPermutation-map, IsPermutation-trans, IsPermutation-sym}
+use Rattle.std.proofs.lemmas.List.Sorted.{IsPermutation-middle}
 use Rattle.sqlite_value.specs.declared.keys.Order.{Order}
 use Rattle.sqlite_value.specs.declared.value.Value.TheVariants.{Null, Int}
 use Rattle.sqlite_value.specs.Order.{Row}
@@ -17,7 +20,8 @@ use Rattle.sqlite_schema.specs.declared.schema.Table.{Table}
 use Rattle.sqlite_schema.specs.declared.schema.Schema.{Schema}
 use Rattle.sqlite_rules.specs.declared.error.Rowids.TheVariants.{Chosen, Given}
 use Rattle.sqlite_rules.specs.Cast.{cast_row}
-use Rattle.sqlite_rules.specs.Edit.{id_in, edit_of, with_rowid, numbered, is_taken, are_fresh, put_all, without_all, have_rowids}
+use Rattle.sqlite_rules.specs.Edit.{id_in, edit_of, with_rowid, numbered, is_taken, are_fresh}
+use Rattle.sqlite_rules.specs.Edit.{put_all, without_all, have_rowids}
 use Rattle.sqlite_rules.specs.Calls.{ids_of}
 use Rattle.sqlite_rules.specs.Lists.{Has}
 use Rattle.sqlite_rules.proofs.ListLemmas.{all_has, all_from, test_has, has_filtered, has_kept, has_got}
@@ -37,115 +41,175 @@ use Rattle.desk_sql_layout.proofs.Steps.{Stepped, at}
 abbrev pub AreApart : Schema → Type 0
 AreApart schema = IsAscending (λ a b. a.tree ≡ b.tree → ⊥) schema.tables
 
-pub stored_as : (t : Table) (rows other stored : List Row) → IsPermutation other rows → AreStored t rows stored → AreStored t other stored
-stored_as t rows other stored same are = record { rising = are.rising; keyed = are.keyed; same = IsPermutation-trans _ _ _ same are.same }
+pub stored_as : (t : Table) (rows other stored : List Row) → IsPermutation other rows
+    → AreStored t rows stored → AreStored t other stored
+stored_as t rows other stored same are = record {
+  rising = are.rising;
+  keyed = are.keyed;
+  same = IsPermutation-trans _ _ _ same are.same;
+}
 
 -- the rowids that a query showed first
-ids_are : (p : Row → Bool) (g : Row → Row) (stored rows : List Row) → ((r : Row) → rowid (g r) ≡ rowid r) → AllByRecursion (λ r. is_int (rowid r) ≡ true) stored
+ids_are : (p : Row → Bool) (g : Row → Row) (stored rows : List Row)
+    → ((r : Row) → rowid (g r) ≡ rowid r) → AllByRecursion (λ r. is_int (rowid r) ≡ true) stored
     → IsPermutation (map g (filter p stored)) rows → AreIdsOf p stored (ids_of rows)
 ids_are p g stored rows first keyed same = record {
   sound = λ id there.
       let x = has_mapped (λ r. id_in (rowid r)) rows id there in
       let y = has_mapped g (filter p stored) x.0 (has_permuted _ _ x.0 same x.1) in
       let z = has_filtered p stored y.0 y.1 in
-      let whole = int_is (rowid y.0) (all_has (λ r. is_int (rowid r) ≡ true) stored y.0 keyed z.0) in
-      (y.0, z.0, z.1, whole ∙ ap (λ v. Int (id_in v)) (sym (first y.0)) ∙ ap (λ r. Int (id_in (rowid r))) (sym y.2) ∙ ap Int (sym x.2));
+      let whole = int_is (rowid y.0)
+      (all_has (λ r. is_int (rowid r) ≡ true) stored y.0 keyed z.0) in (
+        y.0,
+        z.0,
+        z.1,
+        whole ∙ ap (λ v. Int (id_in v)) (sym (first y.0))
+            ∙ ap (λ r. Int (id_in (rowid r))) (sym y.2) ∙ ap Int (sym x.2),
+      );
   complete = λ r there yes.
       let shown = mapped_has g (filter p stored) r (has_kept p stored r there yes) in
-      let got = has_permuted rows (map g (filter p stored)) (g r) (IsPermutation-sym _ _ same) shown in
-      (id_in (rowid (g r)), mapped_has (λ x. id_in (rowid x)) rows (g r) got, int_is (rowid r) (all_has (λ r. is_int (rowid r) ≡ true) stored r keyed there) ∙ ap (λ v. Int (id_in v)) (sym (first r)));
+      let got = has_permuted rows (map g (filter p stored)) (g r) (IsPermutation-sym _ _ same)
+      shown in (
+        id_in (rowid (g r)),
+        mapped_has (λ x. id_in (rowid x)) rows (g r) got,
+        int_is (rowid r) (all_has (λ r. is_int (rowid r) ≡ true) stored r keyed there)
+            ∙ ap (λ v. Int (id_in v)) (sym (first r)),
+      );
 }
 
-module _ (name : List ℕ) (tree : ℕ) (columns : List Column) (key : Option ℕ) (primary : List ℕ) (uniques : List (List ℕ)) (orders : List Order) where
+module _ (name : List ℕ) (tree : ℕ) (columns : List Column) (key : Option ℕ) (primary : List ℕ)
+    (uniques : List (List ℕ)) (orders : List Order) where
   abbrev this : Table
   this = table_of name tree columns key primary uniques orders
 
   -- each source is this row, whatever rowid is chosen for it
   abbrev pub Shows : List Row → List Row → Type 0
-  Shows = AllZip (λ source wanted. (stored : List Row) → cells this (with_rowid Chosen stored (cast_row this source)) ≡ wanted)
+  Shows = AllZip (λ source wanted. (stored : List Row)
+      → cells this (with_rowid Chosen stored (cast_row this source)) ≡ wanted)
 
   abbrev cast : List Row → List Row
   cast = map (λ source. cast_row this (drop 0 source))
 
-  put_each : (sources wanted shown stored : List Row) → AreStored this shown stored → Shows sources wanted → have_rowids (numbered Chosen stored (cast sources)) ≡ true
-      → are_fresh stored (numbered Chosen stored (cast sources)) ≡ true → AreStored this (wanted ++ shown) (put_all stored (numbered Chosen stored (cast sources)))
+  put_each : (sources wanted shown stored : List Row) → AreStored this shown stored
+      → Shows sources wanted → have_rowids (numbered Chosen stored (cast sources)) ≡ true
+      → are_fresh stored (numbered Chosen stored (cast sources)) ≡ true
+      → AreStored this (wanted ++ shown) (put_all stored (numbered Chosen stored (cast sources)))
   put_each [] [] shown stored are shows keyed fresh = are
   put_each [] (w ∷ wanted) shown stored are shows keyed fresh = absurd shows
   put_each (s ∷ sources) [] shown stored are shows keyed fresh = absurd shows
   put_each (s ∷ sources) (w ∷ wanted) shown stored are shows keyed fresh =
       let new_row = with_rowid Chosen stored (cast_row this s) in
       let rest = numbered Chosen (put_row new_row stored) (cast sources) in
-      let apart = and_parts (not (is_taken stored new_row)) (are_fresh (put_row new_row stored) rest) fresh in
+      let apart = and_parts (not (is_taken stored new_row))
+      (are_fresh (put_row new_row stored) rest) fresh in
       let whole = and_parts (is_int (rowid new_row)) (have_rowids rest) keyed in
       let free : is_taken stored new_row ≡ false = elim (cases_Bool (is_taken stored new_row)) [
         | inl taken ↦ absurd (let e = rw taken at apart.0 in cc)
         | inr free ↦ free
       ] in
       let more = stored_more this shown stored are new_row free whole.0 in
-      stored_as this (wanted ++ w ∷ shown) (w ∷ wanted ++ shown) (put_all stored (new_row ∷ rest)) (IsPermutation-sym _ _ (IsPermutation-middle wanted w shown))
-      (put_each sources wanted (w ∷ shown) (put_row new_row stored) (subst (λ x. AreStored this (x ∷ shown) (put_row new_row stored)) (shows.0 stored) more) shows.1 whole.1 apart.1)
+      stored_as this (wanted ++ w ∷ shown) (w ∷ wanted ++ shown) (put_all stored (new_row ∷ rest))
+      (IsPermutation-sym _ _ (IsPermutation-middle wanted w shown))
+      (put_each sources wanted (w ∷ shown) (put_row new_row stored)
+      (subst (λ x. AreStored this (x ∷ shown) (put_row new_row stored)) (shows.0 stored) more)
+      shows.1 whole.1 apart.1)
 
-  module _ (schema : Schema) (place : ℕ) (listed : slice_get schema.tables place ≡ Some this) (apart : AreApart schema) (rows after : ℕ → List Row) (old new : Database)
-      (were : AllStored schema rows old.trees) (same : AllByRecursion (λ t. t.tree ≢ tree → after t.tree ≡ rows t.tree) schema.tables) where
+  module _ (schema : Schema) (place : ℕ) (listed : slice_get schema.tables place ≡ Some this)
+      (apart : AreApart schema) (rows after : ℕ → List Row) (old new : Database)
+      (were : AllStored schema rows old.trees)
+      (same : AllByRecursion (λ t. t.tree ≢ tree → after t.tree ≡ rows t.tree) schema.tables) where
     in_schema : Has schema.tables this
     in_schema = has_got schema.tables place this listed
 
     mine : AreStored this (rows tree) (old.trees tree)
-    mine = all_has (λ t. AreStored t (rows t.tree) (old.trees t.tree)) schema.tables this were in_schema
+    mine = all_has (λ t. AreStored t (rows t.tree) (old.trees t.tree)) schema.tables this were
+        in_schema
 
-    rest : (gone : _) (rowids : _) (from : _) (sources : _) → Stepped schema old new (edit_of old.trees this gone rowids from sources) → AreStored this (after tree) (new.trees tree) → AllStored schema after new.trees
+    rest : (gone : _) (rowids : _) (from : _) (sources : _)
+        → Stepped schema old new (edit_of old.trees this gone rowids from sources)
+        → AreStored this (after tree) (new.trees tree) → AllStored schema after new.trees
     rest gone rowids from sources step here =
         all_stored_after schema rows after old.trees new.trees tree were step.applies.tables same
         (all_from (λ t. t.tree ≡ tree → AreStored t (after t.tree) (new.trees t.tree)) schema.tables
-        (λ t there e. subst (λ (u : Table). AreStored u (after u.tree) (new.trees u.tree)) (sym (same_table schema.tables t this apart there in_schema e)) here))
+        (λ t there e. subst (λ (u : Table). AreStored u (after u.tree) (new.trees u.tree))
+        (sym (same_table schema.tables t this apart there in_schema e)) here))
 
     pub after_insert : (sources wanted : List Row) → Shows sources wanted
-        → Stepped schema old new (edit_of old.trees this [] Chosen 0 sources) → IsPermutation (after tree) (wanted ++ rows tree) → AllStored schema after new.trees
+        → Stepped schema old new (edit_of old.trees this [] Chosen 0 sources)
+        → IsPermutation (after tree) (wanted ++ rows tree) → AllStored schema after new.trees
     after_insert sources wanted shows step perm =
         rest [] Chosen 0 sources step
         (stored_as this (wanted ++ rows tree) (after tree) (new.trees tree) perm
-        (subst (AreStored this (wanted ++ rows tree)) (sym step.applies.rows) (put_each sources wanted (rows tree) (old.trees tree) mine shows step.applies.keyed step.applies.fresh)))
+        (subst (AreStored this (wanted ++ rows tree)) (sym step.applies.rows)
+        (put_each sources wanted (rows tree) (old.trees tree) mine shows step.applies.keyed
+        step.applies.fresh)))
 
-    pub after_delete : (tests : List Term) (params : Row) (found : List Row) (q : Row → Bool) → ((r : Row) → passes tests params r ≡ q (cells this r))
-        → Answers (at schema old.trees) (record { lets = []; body = query_on tree tests (col 1 0 ∷ []) [] }) params found
-        → Stepped schema old new (edit_of old.trees this (ids_of found) Given 0 []) → IsPermutation (after tree) (filter (λ x. not (q x)) (rows tree)) → AllStored schema after new.trees
+    pub after_delete : (tests : List Term) (params : Row) (found : List Row) (q : Row → Bool)
+        → ((r : Row) → passes tests params r ≡ q (cells this r))
+        → Answers (at schema old.trees)
+        (record { lets = []; body = query_on tree tests (col 1 0 ∷ []) [] }) params found
+        → Stepped schema old new (edit_of old.trees this (ids_of found) Given 0 [])
+        → IsPermutation (after tree) (filter (λ x. not (q x)) (rows tree))
+        → AllStored schema after new.trees
     after_delete tests params found q agree answers step perm =
         let stored = old.trees tree in
-        let sel = selected tree tests (col 1 0 ∷ []) [] old.trees params found (answers.answer Null) in
+        let sel = selected tree tests (col 1 0 ∷ []) [] old.trees params found
+        (answers.answer Null) in
         let g = λ (r : Row). rowid r ∷ [] in
         let shown : IsPermutation (map g (filter (passes tests params) stored)) found =
-        subst₂ (λ xs ys. IsPermutation xs ys) (map-map (λ (o : Output). o.1) (λ r. output (query_on tree tests (col 1 0 ∷ []) []) (env params r)) (filter (passes tests params) stored)) (sym sel.shown)
+        subst₂ (λ xs ys. IsPermutation xs ys)
+        (map-map (λ (o : Output). o.1)
+        (λ r. output (query_on tree tests (col 1 0 ∷ []) []) (env params r))
+        (filter (passes tests params) stored)) (sym sel.shown)
         (IsPermutation-map (λ (o : Output). o.1) _ _ sel.same) in
         let ids = ids_are (passes tests params) g stored found (λ r. refl) mine.keyed shown in
         let left = left_is (passes tests params) stored (ids_of found) mine.rising ids in
         rest (ids_of found) Given 0 [] step
         (stored_as this _ (after tree) (new.trees tree) perm
-        (subst (AreStored this (filter (λ x. not (q x)) (rows tree))) (sym (step.applies.rows ∙ left)) (stored_less this (rows tree) stored mine (passes tests params) q agree)))
+        (subst (AreStored this (filter (λ x. not (q x)) (rows tree)))
+        (sym (step.applies.rows ∙ left))
+        (stored_less this (rows tree) stored mine (passes tests params) q agree)))
 
-    pub after_update : (tests project : List Term) (params : Row) (found : List Row) (q : Row → Bool) (u : Row → Row) → ((r : Row) → passes tests params r ≡ q (cells this r))
-        → ((r : Row) → cells this (cast_row this (eval_all project (env params r))) ≡ u (cells this r))
-        → Answers (at schema old.trees) (record { lets = []; body = query_on tree tests (col 1 0 ∷ project) [] }) params found
-        → Stepped schema old new (edit_of old.trees this (ids_of found) Given 1 found) → IsPermutation (after tree) (changed_where q u (rows tree)) → AllStored schema after new.trees
+    pub after_update : (tests project : List Term) (params : Row) (found : List Row)
+        (q : Row → Bool) (u : Row → Row) → ((r : Row) → passes tests params r ≡ q (cells this r))
+        → ((r : Row) → cells this (cast_row this (eval_all project (env params r)))
+        ≡ u (cells this r))
+        → Answers (at schema old.trees)
+        (record { lets = []; body = query_on tree tests (col 1 0 ∷ project) [] }) params found
+        → Stepped schema old new (edit_of old.trees this (ids_of found) Given 1 found)
+        → IsPermutation (after tree) (changed_where q u (rows tree))
+        → AllStored schema after new.trees
     after_update tests project params found q u agree acts answers step perm =
         let stored = old.trees tree in
         let query = query_on tree tests (col 1 0 ∷ project) [] in
-        let sel = selected tree tests (col 1 0 ∷ project) [] old.trees params found (answers.answer Null) in
+        let sel = selected tree tests (col 1 0 ∷ project) [] old.trees params found
+        (answers.answer Null) in
         let p = passes tests params in
         let g = λ (r : Row). rowid r ∷ eval_all project (env params r) in
         let f = λ (r : Row). cast_row this (eval_all project (env params r)) in
         let shown : IsPermutation (map g (filter p stored)) found =
-        subst₂ (λ xs ys. IsPermutation xs ys) (map-map (λ (o : Output). o.1) (λ r. output query (env params r)) (filter p stored)) (sym sel.shown) (IsPermutation-map (λ (o : Output). o.1) _ _ sel.same) in
+        subst₂ (λ xs ys. IsPermutation xs ys)
+        (map-map (λ (o : Output). o.1) (λ r. output query (env params r)) (filter p stored))
+        (sym sel.shown) (IsPermutation-map (λ (o : Output). o.1) _ _ sel.same) in
         let ids = ids_are p g stored found (λ r. refl) mine.keyed shown in
         let left = left_is p stored (ids_of found) mine.rising ids in
         let cast = λ (s : Row). cast_row this (drop 1 s) in
         let edit = edit_of old.trees this (ids_of found) Given 1 found in
-        let news : edit.news ≡ map cast found = given (without_all stored (ids_of found)) (map cast found) in
+        let news : edit.news ≡ map cast found =
+        given (without_all stored (ids_of found)) (map cast found) in
         let same : IsPermutation (map f (filter p stored)) (map cast found) =
-        subst (λ xs. IsPermutation xs (map cast found)) (map-map cast g (filter p stored)) (IsPermutation-map cast _ _ shown) in
+        subst (λ xs. IsPermutation xs (map cast found)) (map-map cast g (filter p stored))
+        (IsPermutation-map cast _ _ shown) in
         let keyed : AllByRecursion (λ r. is_int (rowid r) ≡ true) (map cast found) =
-        all_from (λ r. is_int (rowid r) ≡ true) (map cast found) (λ x there. test_has (λ r. is_int (rowid r)) (map cast found) x (subst (λ l. have_rowids l ≡ true) news step.applies.keyed) there) in
-        let fresh : are_fresh (filter (λ r. not (p r)) stored) (map cast found) ≡ true = subst₂ (λ l n. are_fresh l n ≡ true) left news step.applies.fresh in
-        let whole : new.trees tree ≡ put_all (filter (λ r. not (p r)) stored) (map cast found) = subst₂ (λ l n. new.trees tree ≡ put_all l n) left news step.applies.rows in
+        all_from (λ r. is_int (rowid r) ≡ true) (map cast found)
+        (λ x there. test_has (λ r. is_int (rowid r)) (map cast found) x
+        (subst (λ l. have_rowids l ≡ true) news step.applies.keyed) there) in
+        let fresh : are_fresh (filter (λ r. not (p r)) stored) (map cast found) ≡ true =
+        subst₂ (λ l n. are_fresh l n ≡ true) left news step.applies.fresh in
+        let whole : new.trees tree ≡ put_all (filter (λ r. not (p r)) stored) (map cast found) =
+        subst₂ (λ l n. new.trees tree ≡ put_all l n) left news step.applies.rows in
         rest (ids_of found) Given 1 found step
         (stored_as this _ (after tree) (new.trees tree) perm
-        (subst (AreStored this (changed_where q u (rows tree))) (sym whole) (stored_changed this (rows tree) stored mine p q f u (map cast found) agree acts same keyed fresh)))
+        (subst (AreStored this (changed_where q u (rows tree))) (sym whole)
+        (stored_changed this (rows tree) stored mine p q f u (map cast found) agree acts same keyed
+        fresh)))

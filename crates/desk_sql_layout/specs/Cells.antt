@@ -1,5 +1,6 @@
 -- The cells of each row, in the order of its table's columns.
-use Rattle.std.specs.Prelude.{ℕ, pos, Bool, not, ◌&&◌, ◌==◌, nat_lt, if◌then◌else◌, List, [], ◌∷◌, length, Option, is_some}
+use Rattle.std.specs.Prelude.{ℕ, pos, Bool, not, ◌&&◌, ◌==◌, nat_lt, if◌then◌else◌, List, [], ◌∷◌}
+use Rattle.std.specs.Prelude.{length, Option, is_some}
 use Rattle.std.specs.List.{list_all, join_with_byte}
 use Rattle.sqlite_value.specs.declared.value.Value.{Value}
 use Rattle.sqlite_value.specs.declared.value.Value.TheVariants.{Int, Text, Blob}
@@ -44,7 +45,8 @@ abbrev pub catalogue_cells : CatalogueRow → Row
 catalogue_cells row = number row.revision ∷ Text row.body ∷ []
 
 abbrev pub rule_cells : RuleRow → Row
-rule_cells row = number row.revision ∷ Text row.term ∷ Text row.form ∷ Text row.spelled ∷ Text (joined row.codes) ∷ []
+rule_cells row = number row.revision ∷ Text row.term ∷ Text row.form ∷ Text row.spelled
+    ∷ Text (joined row.codes) ∷ []
 
 abbrev pub document_cells : DocumentRow → Row
 document_cells row = number row.number ∷ Text row.namespace ∷ Blob row.bytes ∷ []
@@ -55,7 +57,8 @@ reading_cells row = number row.number ∷ number (profile_number row.profile) �
 
 abbrev pub package_cells : PackageRow → Row
 package_cells row =
-    number row.document ∷ Text row.id ∷ Text row.name ∷ text_or_null row.version ∷ text_or_null row.concluded ∷ text_or_null row.copyright
+    number row.document ∷ Text row.id ∷ Text row.name ∷ text_or_null row.version
+    ∷ text_or_null row.concluded ∷ text_or_null row.copyright
     ∷ number (if row.shipped then 1 else 0) ∷ []
 
 abbrev pub extracted_cells : ExtractedRow → Row
@@ -68,7 +71,8 @@ abbrev pub adoption_cells : AdoptionRow → Row
 adoption_cells row = number row.document ∷ Text row.reference ∷ Text row.licence ∷ []
 
 abbrev pub release_cells : ReleaseRow → Row
-release_cells row = Text row.name ∷ number row.place ∷ Text row.form ∷ Text (release_state_name row.state) ∷ number row.revision ∷ []
+release_cells row = Text row.name ∷ number row.place ∷ Text row.form
+    ∷ Text (release_state_name row.state) ∷ number row.revision ∷ []
 
 abbrev pub attached_cells : AttachedRow → Row
 attached_cells row = Text row.release ∷ number row.document ∷ []
@@ -77,15 +81,18 @@ abbrev pub choice_cells : ChoiceRow → Row
 choice_cells row = Text row.release ∷ number row.document ∷ Text row.package_id ∷ Text row.term ∷ []
 
 abbrev pub frozen_cells : FrozenRow → Row
-frozen_cells row = Text row.release ∷ number row.document ∷ Text row.package_id ∷ Text row.term ∷ Text row.rule ∷ []
+frozen_cells row = Text row.release ∷ number row.document ∷ Text row.package_id ∷ Text row.term
+    ∷ Text row.rule ∷ []
 
 abbrev pub duty_cells : DutyRow → Row
 duty_cells row =
-    number row.number ∷ Text row.release ∷ number row.document ∷ Text row.package_id ∷ Text row.term ∷ Text row.code ∷ Text row.rule
+    number row.number ∷ Text row.release ∷ number row.document ∷ Text row.package_id ∷ Text row.term
+    ∷ Text row.code ∷ Text row.rule
     ∷ Text (duty_state_name row.state) ∷ []
 
 abbrev pub change_cells : ChangeRow → Row
-change_cells row = number row.duty ∷ number row.step ∷ Text row.day ∷ Text (word_name row.word) ∷ Text row.body ∷ []
+change_cells row = number row.duty ∷ number row.step ∷ Text row.day ∷ Text (word_name row.word)
+    ∷ Text row.body ∷ []
 
 -- a change is a waiver that ends
 abbrev pub is_waiver : ChangeRow → Bool

@@ -1,5 +1,6 @@
 -- When a database holds the desk's tables, and what contracts see of a connection to it.
-use Rattle.std.specs.Prelude.{◌≡◌, ◌==◌, ◌+◌, ◌&&◌, ◌||◌, nat_lt, nat_le, ℕ, Bool, true, if◌then◌else◌, List, [], ◌∷◌, filter, map, length, IsTrue}
+use Rattle.std.specs.Prelude.{◌≡◌, ◌==◌, ◌+◌, ◌&&◌, ◌||◌, nat_lt, nat_le, ℕ, Bool, true}
+use Rattle.std.specs.Prelude.{if◌then◌else◌, List, [], ◌∷◌, filter, map, length, IsTrue}
 use Rattle.std.specs.List.{list_all}
 use Rattle.sqlite_value.specs.Order.{Row}
 use Rattle.sqlite_trees.specs.Tree.{Trees}
@@ -12,9 +13,17 @@ use Rattle.desk_model.specs.declared.command.Change.{Change}
 use Rattle.desk_model.specs.declared.command.Change.TheVariants as change
 use Rattle.desk_history.specs.Laws.{Ascends, AreSorted}
 use Rattle.desk_access.specs.Seen.{Seen}
-use Rattle.desk_sql_layout.specs.Layout.{desk_schema, meta_table, catalogue_table, rule_table, document_table, package_table, extracted_table, conclusion_table, adoption_table, releases_table, attached_table, choice_table, frozen_table, duty_table, change_table, reading_table}
+use Rattle.desk_sql_layout.specs.Layout.{desk_schema, meta_table, catalogue_table, rule_table}
+use Rattle.desk_sql_layout.specs.Layout.{document_table, package_table, extracted_table}
+use Rattle.desk_sql_layout.specs.Layout.{conclusion_table, adoption_table, releases_table}
+use Rattle.desk_sql_layout.specs.Layout.{attached_table, choice_table, frozen_table, duty_table}
+use Rattle.desk_sql_layout.specs.Layout.{change_table, reading_table}
 use Rattle.desk_sql_layout.specs.Stored.{AllStored}
-use Rattle.desk_sql_layout.specs.Cells.{meta_cells, catalogue_cells, rule_cells, document_cells, reading_cells, package_cells, extracted_cells, conclusion_cells, adoption_cells, release_cells, attached_cells, choice_cells, frozen_cells, duty_cells, change_cells, is_waiver, waiver_cells, is_word}
+use Rattle.desk_sql_layout.specs.Cells.{meta_cells, catalogue_cells, rule_cells, document_cells}
+use Rattle.desk_sql_layout.specs.Cells.{reading_cells, package_cells, extracted_cells}
+use Rattle.desk_sql_layout.specs.Cells.{conclusion_cells, adoption_cells, release_cells}
+use Rattle.desk_sql_layout.specs.Cells.{attached_cells, choice_cells, frozen_cells, duty_cells}
+use Rattle.desk_sql_layout.specs.Cells.{change_cells, is_waiver, waiver_cells, is_word}
 
 -- the rows, as cells, of the table with this tree
 abbrev pub rows_of : Tables → ℕ → List Row
@@ -36,8 +45,8 @@ rows_of t tree =
     else (if tree == reading_table.tree then map reading_cells t.document
     else map waiver_cells (filter is_waiver t.changes)))))))))))))))
 
--- The database has the desk's tables, with these rows in any order, and it is sound: each row is as its
--- columns say, and no key that is declared unique appears twice.
+-- The database has the desk's tables, with these rows in any order, and it is sound: each row is as
+-- its columns say, and no key that is declared unique appears twice.
 pub record HasRows (rows : ℕ → List Row) (db : Database) : Type 0 where
   pub declared : db.schema ≡ desk_schema
   pub stored : AllStored desk_schema rows db.trees
@@ -50,7 +59,8 @@ AreNumbered n (m ∷ ms) = (m ≡ n) × AreNumbered (n + 1) ms
 
 -- the order of packages, by document and id
 abbrev pub package_below : PackageRow → PackageRow → Bool
-package_below a b = nat_lt a.document b.document || ((a.document == b.document) && text_below a.id b.id)
+package_below a b = nat_lt a.document b.document
+    || ((a.document == b.document) && text_below a.id b.id)
 
 -- The order of rows, and what they name: what a look-up by key or number relies on.
 pub record AreOrderly (t : Tables) : Type 0 where
@@ -91,8 +101,9 @@ seen_of s = record {
   leaves = s.may_leave;
 }
 
--- What a store knows of its rows without looking: how many revisions, documents, releases and duties there
--- are, and the forms of the catalogue in force, which are in no table, only in the text of its revision.
+-- What a store knows of its rows without looking: how many revisions, documents, releases and
+-- duties there are, and the forms of the catalogue in force, which are in no table, only in the
+-- text of its revision.
 pub record Known : Type 0 where
   pub revisions : ℕ
   pub documents : ℕ
@@ -111,10 +122,16 @@ known_of t = record {
 
 -- the same after a change
 abbrev pub known_after : Change → Known → Known
-known_after (change.Loaded row rules forms) k = record k { revisions = k.revisions + 1; forms = forms }
+known_after (change.Loaded row rules forms) k = record k {
+  revisions = k.revisions + 1;
+  forms = forms;
+}
 known_after (change.Imported row packages references) k = record k { documents = k.documents + 1 }
 known_after (change.Opened row) k = record k { releases = k.releases + 1 }
-known_after (change.Froze release revision rows duties changes) k = record k { duties = k.duties + length duties }
+known_after (change.Froze release revision rows duties changes) k = record k {
+  duties = k.duties
+      + length duties;
+}
 known_after _ k = k
 
 -- what contracts see of a store that knows this of its rows

@@ -10,11 +10,16 @@ module _ (a b c : Seen Trees) (first : Same a b) where
   pub same_then_kept : Kept b c → Kept a c
   same_then_kept k = record {
     spared = spared_then a b c first.kept.spared k.spared;
-    leaves = λ clean is t h x left. first.kept.leaves (k.spared.honest clean) is t h x (k.leaves clean (first.stays (k.spared.honest clean) is) t (first.kept.spared.holds t h) x left);
+    leaves = λ clean is t h x left. first.kept.leaves (k.spared.honest clean) is t h x
+        (k.leaves clean (first.stays (k.spared.honest clean) is) t (first.kept.spared.holds t h) x
+        left);
   }
 
   pub same_then_same : Same b c → Same a c
-  same_then_same s = record { kept = same_then_kept s.kept; stays = λ clean is. s.stays clean (first.stays (s.kept.spared.honest clean) is) }
+  same_then_same s = record {
+    kept = same_then_kept s.kept;
+    stays = λ clean is. s.stays clean (first.stays (s.kept.spared.honest clean) is);
+  }
 
   -- what is true of the rows after the first call is true of those before it
   pub of_rows_after : (Is : Tables → Type 0) → OfRows Is b c → OfRows Is a c
@@ -28,6 +33,7 @@ module _ (a b c : Seen Trees) (first : Same a b) where
   then_looked (Ok x) looked = same_then_same looked
   then_looked (Err e) looked = same_then_kept looked
 
-pub looked_honest : (b c : Seen Trees) {A : Type 0} (r : Result A Fault) → Looked b c r → c.is_honest → b.is_honest
+pub looked_honest : (b c : Seen Trees) {A : Type 0} (r : Result A Fault) → Looked b c r
+    → c.is_honest → b.is_honest
 looked_honest b c (Ok x) looked clean = looked.kept.spared.honest clean
 looked_honest b c (Err e) looked clean = looked.spared.honest clean

@@ -41,7 +41,8 @@ steps_is = record { is = (refl, refl); plain = (refl, refl); suits = (refl, refl
 pub steps_finds : (duty : ℕ) → Finds steps_text (number duty ∷ [])
     (λ t rows. length rows ≡ length (filter (is_change_of duty) t.changes))
 steps_finds duty =
-    finds_count change_view [] steps_is (number duty ∷ []) refl refl (equals ((0, number duty) ∷ []))
+    finds_count change_view [] steps_is (number duty ∷ []) refl refl
+    (equals ((0, number duty) ∷ []))
     [] (1 ∷ []) (λ r. refl) (λ r. refl) (is_change_of duty) (λ x. number_test x.duty duty)
 
 -- ---- the duties of changes from a first to a last one
@@ -49,7 +50,8 @@ steps_finds duty =
 abbrev pub changed_text : List ℕ
 changed_text = codes "SELECT duty FROM change WHERE duty >= ?1 AND duty <= ?2 ORDER BY duty, step"
 
-changed_is : IsSelect changed_text 2 25 (within 1) (col 1 1 ∷ []) (order_by (1 ∷ 2 ∷ [])) (codes "duty" ∷ [])
+changed_is : IsSelect changed_text 2 25 (within 1) (col 1 1 ∷ []) (order_by (1 ∷ 2 ∷ []))
+    (codes "duty" ∷ [])
 unfolding understood everything
 changed_is = record { is = (refl, refl); plain = (refl, refl); suits = (refl, refl) }
 
@@ -59,20 +61,24 @@ changed_test first last cs =
     && (is_true (binary (Compare Le Binary) (column cs 0) (number last)) && true)
 
 in_order : (t : Tables) → AreOrderly t
-    → IsAscending (λ a b. is_lt (key_cmp 0 (keys (1 ∷ 2 ∷ [])) (number b.duty ∷ number b.step ∷ []) (number a.duty ∷ number a.step ∷ [])) ≡ false) t.changes
+    → IsAscending (λ a b. is_lt (key_cmp 0 (keys (1 ∷ 2 ∷ [])) (number b.duty ∷ number b.step ∷ [])
+    (number a.duty ∷ number a.step ∷ [])) ≡ false) t.changes
 in_order t orderly = changes_sorted t.changes orderly.sorted.changes
 
 pub changed_finds : (first last : ℕ) → FindsRows changed_text (number first ∷ number last ∷ [])
     (λ (x : ChangeRow). number_cells x.duty) (λ t. filter (is_change_within first last) t.changes)
 changed_finds first last =
-    finds_all change_view (1 ∷ 2 ∷ []) changed_is (number first ∷ number last ∷ []) refl refl (changed_test first last)
-    (0 ∷ 1 ∷ []) (0 ∷ []) (λ r. refl) (λ r. refl) (is_change_within first last) (λ x. run_test first last x.duty)
+    finds_all change_view (1 ∷ 2 ∷ []) changed_is (number first ∷ number last ∷ []) refl refl
+    (changed_test first last)
+    (0 ∷ 1 ∷ []) (0 ∷ []) (λ r. refl) (λ r. refl) (is_change_within first last)
+    (λ x. run_test first last x.duty)
     change_apart in_order
 
 -- ---- the changes of a duty
 
 abbrev pub changes_of_text : List ℕ
-changes_of_text = codes "SELECT duty, step, day, word, body FROM change WHERE duty = ?1 ORDER BY duty, step"
+changes_of_text = codes
+    "SELECT duty, step, day, word, body FROM change WHERE duty = ?1 ORDER BY duty, step"
 
 changes_of_is : IsSelect changes_of_text 1 25 (same 1 0 ∷ [])
     (col 1 1 ∷ col 1 2 ∷ col 1 3 ∷ col 1 4 ∷ col 1 5 ∷ []) (order_by (1 ∷ 2 ∷ []))
@@ -83,8 +89,10 @@ changes_of_is = record { is = (refl, refl); plain = (refl, refl); suits = (refl,
 pub changes_of_finds : (duty : ℕ) → FindsRows changes_of_text (number duty ∷ [])
     change_cells (λ t. filter (is_change_of duty) t.changes)
 changes_of_finds duty =
-    finds_all change_view (1 ∷ 2 ∷ []) changes_of_is (number duty ∷ []) refl refl (equals ((0, number duty) ∷ []))
-    (0 ∷ 1 ∷ []) (0 ∷ 1 ∷ 2 ∷ 3 ∷ 4 ∷ []) (λ r. refl) (λ r. refl) (is_change_of duty) (λ x. number_test x.duty duty)
+    finds_all change_view (1 ∷ 2 ∷ []) changes_of_is (number duty ∷ []) refl refl
+    (equals ((0, number duty) ∷ []))
+    (0 ∷ 1 ∷ []) (0 ∷ 1 ∷ 2 ∷ 3 ∷ 4 ∷ []) (λ r. refl) (λ r. refl) (is_change_of duty)
+    (λ x. number_test x.duty duty)
     change_apart in_order
 
 -- no two of them have the same step
@@ -93,8 +101,10 @@ pub changes_of_apart : (duty : ℕ) → Finds changes_of_text (number duty ∷ [
     (number a.duty ∷ number a.step ∷ []) (number b.duty ∷ number b.step ∷ [])) ≡ false)
     (filter (is_change_of duty) t.changes))
 changes_of_apart duty =
-    finds_apart change_view (1 ∷ 2 ∷ []) changes_of_is (number duty ∷ []) refl refl (equals ((0, number duty) ∷ []))
-    (0 ∷ 1 ∷ []) (0 ∷ 1 ∷ 2 ∷ 3 ∷ 4 ∷ []) (λ r. refl) (λ r. refl) (is_change_of duty) (λ x. number_test x.duty duty)
+    finds_apart change_view (1 ∷ 2 ∷ []) changes_of_is (number duty ∷ []) refl refl
+    (equals ((0, number duty) ∷ []))
+    (0 ∷ 1 ∷ []) (0 ∷ 1 ∷ 2 ∷ 3 ∷ 4 ∷ []) (λ r. refl) (λ r. refl) (is_change_of duty)
+    (λ x. number_test x.duty duty)
     change_apart
 
 -- ---- the waivers of a duty that end
@@ -102,16 +112,20 @@ changes_of_apart duty =
 abbrev pub waivers_of_text : List ℕ
 waivers_of_text = codes "SELECT step, last_day FROM waiver WHERE duty = ?1 ORDER BY duty, step"
 
-waivers_of_is : IsSelect waivers_of_text 1 28 (same 1 0 ∷ []) (col 1 2 ∷ col 1 3 ∷ []) (order_by (1 ∷ 2 ∷ []))
+waivers_of_is : IsSelect waivers_of_text 1 28 (same 1 0 ∷ []) (col 1 2 ∷ col 1 3 ∷ [])
+    (order_by (1 ∷ 2 ∷ []))
     (codes "step" ∷ codes "last_day" ∷ [])
 unfolding understood everything
 waivers_of_is = record { is = (refl, refl); plain = (refl, refl); suits = (refl, refl) }
 
 pub waivers_of_finds : (duty : ℕ) → FindsRows waivers_of_text (number duty ∷ [])
-    (λ (x : ChangeRow). number x.step ∷ text_or_null x.last_day ∷ []) (λ t. filter (is_change_of duty) (filter is_waiver t.changes))
+    (λ (x : ChangeRow). number x.step ∷ text_or_null x.last_day ∷ [])
+    (λ t. filter (is_change_of duty) (filter is_waiver t.changes))
 waivers_of_finds duty =
-    finds_all waiver_view (1 ∷ 2 ∷ []) waivers_of_is (number duty ∷ []) refl refl (equals ((0, number duty) ∷ []))
-    (0 ∷ 1 ∷ []) (1 ∷ 2 ∷ []) (λ r. refl) (λ r. refl) (is_change_of duty) (λ x. number_test x.duty duty)
+    finds_all waiver_view (1 ∷ 2 ∷ []) waivers_of_is (number duty ∷ []) refl refl
+    (equals ((0, number duty) ∷ []))
+    (0 ∷ 1 ∷ []) (1 ∷ 2 ∷ []) (λ r. refl) (λ r. refl) (is_change_of duty)
+    (λ x. number_test x.duty duty)
     waiver_apart (λ t orderly. ascending-filter _ is_waiver t.changes (in_order t orderly))
 
 -- ---- the days of the changes of a duty
@@ -127,6 +141,7 @@ days_of_is = record { is = (refl, refl); plain = (refl, refl); suits = (refl, re
 pub days_of_finds : (duty : ℕ) → FindsRows days_of_text (number duty ∷ [])
     day_cells (λ t. filter (is_change_of duty) t.changes)
 days_of_finds duty =
-    finds_all change_view (1 ∷ 2 ∷ []) days_of_is (number duty ∷ []) refl refl (equals ((0, number duty) ∷ []))
+    finds_all change_view (1 ∷ 2 ∷ []) days_of_is (number duty ∷ []) refl refl
+    (equals ((0, number duty) ∷ []))
     (0 ∷ 1 ∷ []) (2 ∷ []) (λ r. refl) (λ r. refl) (is_change_of duty) (λ x. number_test x.duty duty)
     change_apart in_order

@@ -26,7 +26,8 @@ use Rattle.desk_sql_lookup.proofs.Views.{choice_apart, choice_view}
 -- ---- all choices
 
 abbrev pub choices_text : List ℕ
-choices_text = codes "SELECT release, document, package, term FROM choice ORDER BY release, document, package, term"
+choices_text = codes
+    "SELECT release, document, package, term FROM choice ORDER BY release, document, package, term"
 
 choices_is : IsSelect choices_text 0 19 []
     (col 1 1 ∷ col 1 2 ∷ col 1 3 ∷ col 1 4 ∷ []) (order_by (1 ∷ 2 ∷ 3 ∷ 4 ∷ []))
@@ -49,7 +50,8 @@ choices_finds =
 -- ---- those of a release
 
 abbrev pub choices_in_text : List ℕ
-choices_in_text = codes "SELECT release, document, package, term FROM choice WHERE release = ?1 ORDER BY release, document, package, term"
+choices_in_text = codes
+    "SELECT release, document, package, term FROM choice WHERE release = ?1 ORDER BY release, document, package, term"
 
 choices_in_is : IsSelect choices_in_text 1 19 (same 1 0 ∷ [])
     (col 1 1 ∷ col 1 2 ∷ col 1 3 ∷ col 1 4 ∷ []) (order_by (1 ∷ 2 ∷ 3 ∷ 4 ∷ []))
@@ -60,14 +62,17 @@ choices_in_is = record { is = (refl, refl); plain = (refl, refl); suits = (refl,
 pub choices_in_finds : (release : List ℕ) → FindsRows choices_in_text (Text release ∷ [])
     choice_cells (λ t. filter (is_choice_in release) t.choice)
 choices_in_finds release =
-    finds_all choice_view (1 ∷ 2 ∷ 3 ∷ 4 ∷ []) choices_in_is (Text release ∷ []) refl refl (equals ((0, Text release) ∷ []))
-    (0 ∷ 1 ∷ 2 ∷ 3 ∷ []) (0 ∷ 1 ∷ 2 ∷ 3 ∷ []) (λ r. refl) (λ r. refl) (is_choice_in release) (λ x. last_text_test x.release release)
+    finds_all choice_view (1 ∷ 2 ∷ 3 ∷ 4 ∷ []) choices_in_is (Text release ∷ []) refl refl
+    (equals ((0, Text release) ∷ []))
+    (0 ∷ 1 ∷ 2 ∷ 3 ∷ []) (0 ∷ 1 ∷ 2 ∷ 3 ∷ []) (λ r. refl) (λ r. refl) (is_choice_in release)
+    (λ x. last_text_test x.release release)
     choice_apart in_order
 
 -- ---- the terms chosen for a package in a release
 
 abbrev pub chosen_text : List ℕ
-chosen_text = codes "SELECT term FROM choice WHERE release = ?1 AND document = ?2 AND package = ?3 ORDER BY release, document, package, term"
+chosen_text = codes
+    "SELECT term FROM choice WHERE release = ?1 AND document = ?2 AND package = ?3 ORDER BY release, document, package, term"
 
 chosen_is : IsSelect chosen_text 3 19 (same 1 0 ∷ same 2 1 ∷ same 3 2 ∷ [])
     (col 1 4 ∷ []) (order_by (1 ∷ 2 ∷ 3 ∷ 4 ∷ []))
@@ -82,9 +87,13 @@ is_chosen release document id x =
     text_then x.release release (number_then x.document document (last_text_test x.package_id id))
     ∙ together (bytes_eq x.release release) (x.document == document) (bytes_eq x.package_id id)
 
-pub chosen_finds : (release : List ℕ) (document : ℕ) (id : List ℕ) → FindsRows chosen_text (Text release ∷ number document ∷ Text id ∷ [])
+pub chosen_finds : (release : List ℕ) (document : ℕ) (id : List ℕ)
+    → FindsRows chosen_text (Text release ∷ number document ∷ Text id ∷ [])
     (λ (x : ChoiceRow). text_cells x.term) (λ t. filter (is_choice_of release document id) t.choice)
 chosen_finds release document id =
-    finds_all choice_view (1 ∷ 2 ∷ 3 ∷ 4 ∷ []) chosen_is (Text release ∷ number document ∷ Text id ∷ []) refl refl (equals ((0, Text release) ∷ (1, number document) ∷ (2, Text id) ∷ []))
-    (0 ∷ 1 ∷ 2 ∷ 3 ∷ []) (3 ∷ []) (λ r. refl) (λ r. refl) (is_choice_of release document id) (is_chosen release document id)
+    finds_all choice_view (1 ∷ 2 ∷ 3 ∷ 4 ∷ []) chosen_is
+    (Text release ∷ number document ∷ Text id ∷ []) refl refl
+    (equals ((0, Text release) ∷ (1, number document) ∷ (2, Text id) ∷ []))
+    (0 ∷ 1 ∷ 2 ∷ 3 ∷ []) (3 ∷ []) (λ r. refl) (λ r. refl) (is_choice_of release document id)
+    (is_chosen release document id)
     choice_apart in_order

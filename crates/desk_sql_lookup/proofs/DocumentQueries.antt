@@ -38,7 +38,8 @@ use Rattle.desk_sql_lookup.proofs.Views.{
 abbrev pub document_text : List ℕ
 document_text = codes "SELECT document, profile FROM reading WHERE document = ?1 ORDER BY document"
 
-document_is : IsSelect document_text 1 27 (same 0 0 ∷ []) (col 1 0 ∷ col 1 2 ∷ []) (order_by (0 ∷ []))
+document_is : IsSelect document_text 1 27 (same 0 0 ∷ []) (col 1 0 ∷ col 1 2 ∷ [])
+    (order_by (0 ∷ []))
     (codes "document" ∷ codes "profile" ∷ [])
 unfolding understood everything
 document_is = record { is = (refl, refl); plain = (refl, refl); suits = (refl, refl) }
@@ -46,7 +47,8 @@ document_is = record { is = (refl, refl); plain = (refl, refl); suits = (refl, r
 pub document_finds : (n : ℕ) → FindsRows document_text (number n ∷ [])
     reading_cells (λ t. filter (is_document n) t.document)
 document_finds n =
-    finds_one reading_view (0 ∷ []) document_is (number n ∷ []) refl refl (equals ((0, number n) ∷ []))
+    finds_one reading_view (0 ∷ []) document_is (number n ∷ []) refl refl
+    (equals ((0, number n) ∷ []))
     (0 ∷ []) (0 ∷ 1 ∷ []) (λ r. refl) (λ r. refl) (is_document n) (λ x. number_test x.number n)
     reading_apart (number n ∷ []) (λ x. number_key x.number n)
 
@@ -55,7 +57,8 @@ document_finds n =
 abbrev pub document_bytes_text : List ℕ
 document_bytes_text = codes "SELECT bytes FROM document WHERE number = ?1 ORDER BY number"
 
-document_bytes_is : IsSelect document_bytes_text 1 4 (same 0 0 ∷ []) (col 1 3 ∷ []) (order_by (0 ∷ []))
+document_bytes_is : IsSelect document_bytes_text 1 4 (same 0 0 ∷ []) (col 1 3 ∷ [])
+    (order_by (0 ∷ []))
     (codes "bytes" ∷ [])
 unfolding understood everything
 document_bytes_is = record { is = (refl, refl); plain = (refl, refl); suits = (refl, refl) }
@@ -63,7 +66,8 @@ document_bytes_is = record { is = (refl, refl); plain = (refl, refl); suits = (r
 pub document_bytes_finds : (n : ℕ) → FindsRows document_bytes_text (number n ∷ [])
     (λ (x : DocumentRow). bytes_cells x.bytes) (λ t. filter (is_document n) t.document)
 document_bytes_finds n =
-    finds_one document_view (0 ∷ []) document_bytes_is (number n ∷ []) refl refl (equals ((0, number n) ∷ []))
+    finds_one document_view (0 ∷ []) document_bytes_is (number n ∷ []) refl refl
+    (equals ((0, number n) ∷ []))
     (0 ∷ []) (2 ∷ []) (λ r. refl) (λ r. refl) (is_document n) (λ x. number_test x.number n)
     document_apart (number n ∷ []) (λ x. number_key x.number n)
 
@@ -72,7 +76,8 @@ document_bytes_finds n =
 abbrev pub import_of_text : List ℕ
 import_of_text = codes "SELECT number, bytes FROM document WHERE namespace = ?1 ORDER BY namespace"
 
-import_of_is : IsSelect import_of_text 1 4 (same 2 0 ∷ []) (col 1 0 ∷ col 1 3 ∷ []) (order_by (2 ∷ []))
+import_of_is : IsSelect import_of_text 1 4 (same 2 0 ∷ []) (col 1 0 ∷ col 1 3 ∷ [])
+    (order_by (2 ∷ []))
     (codes "number" ∷ codes "bytes" ∷ [])
 unfolding understood everything
 import_of_is = record { is = (refl, refl); plain = (refl, refl); suits = (refl, refl) }
@@ -80,36 +85,46 @@ import_of_is = record { is = (refl, refl); plain = (refl, refl); suits = (refl, 
 pub import_of_finds : (namespace : List ℕ) → FindsRows import_of_text (Text namespace ∷ [])
     import_cells (λ t. filter (has_namespace namespace) t.document)
 import_of_finds namespace =
-    finds_one document_view (2 ∷ []) import_of_is (Text namespace ∷ []) refl refl (equals ((1, Text namespace) ∷ []))
-    (1 ∷ []) (0 ∷ 2 ∷ []) (λ r. refl) (λ r. refl) (has_namespace namespace) (λ x. last_text_test x.namespace namespace)
+    finds_one document_view (2 ∷ []) import_of_is (Text namespace ∷ []) refl refl
+    (equals ((1, Text namespace) ∷ []))
+    (1 ∷ []) (0 ∷ 2 ∷ []) (λ r. refl) (λ r. refl) (has_namespace namespace)
+    (λ x. last_text_test x.namespace namespace)
     namespace_apart (Text namespace ∷ []) (λ x. text_key x.namespace namespace)
 
 -- ---- a package of a document
 
 abbrev pub package_text : List ℕ
-package_text = codes "SELECT document, id, name, version, concluded, copyright, shipped FROM package WHERE document = ?1 AND id = ?2 ORDER BY document, id"
+package_text = codes
+    "SELECT document, id, name, version, concluded, copyright, shipped FROM package WHERE document = ?1 AND id = ?2 ORDER BY document, id"
 
 package_is : IsSelect package_text 2 6 (same 1 0 ∷ same 2 1 ∷ [])
-    (col 1 1 ∷ col 1 2 ∷ col 1 3 ∷ col 1 4 ∷ col 1 5 ∷ col 1 6 ∷ col 1 7 ∷ []) (order_by (1 ∷ 2 ∷ []))
+    (col 1 1 ∷ col 1 2 ∷ col 1 3 ∷ col 1 4 ∷ col 1 5 ∷ col 1 6 ∷ col 1 7 ∷ [])
+    (order_by (1 ∷ 2 ∷ []))
     (codes "document" ∷ codes "id" ∷ codes "name" ∷
     codes "version" ∷ codes "concluded" ∷ codes "copyright" ∷ codes "shipped" ∷ [])
 unfolding understood everything
 package_is = record { is = (refl, refl); plain = (refl, refl); suits = (refl, refl) }
 
-pub package_finds : (document : ℕ) (id : List ℕ) → FindsRows package_text (number document ∷ Text id ∷ [])
+pub package_finds : (document : ℕ) (id : List ℕ)
+    → FindsRows package_text (number document ∷ Text id ∷ [])
     package_cells (λ t. filter (is_package document id) t.packages)
 package_finds document id =
-    finds_one package_view (1 ∷ 2 ∷ []) package_is (number document ∷ Text id ∷ []) refl refl (equals ((0, number document) ∷ (1, Text id) ∷ []))
-    (0 ∷ 1 ∷ []) (0 ∷ 1 ∷ 2 ∷ 3 ∷ 4 ∷ 5 ∷ 6 ∷ []) (λ r. refl) (λ r. refl) (is_package document id) (λ x. number_then x.document document (last_text_test x.id id))
-    package_apart (number document ∷ Text id ∷ []) (λ x. number_text_key x.document document x.id id)
+    finds_one package_view (1 ∷ 2 ∷ []) package_is (number document ∷ Text id ∷ []) refl refl
+    (equals ((0, number document) ∷ (1, Text id) ∷ []))
+    (0 ∷ 1 ∷ []) (0 ∷ 1 ∷ 2 ∷ 3 ∷ 4 ∷ 5 ∷ 6 ∷ []) (λ r. refl) (λ r. refl) (is_package document id)
+    (λ x. number_then x.document document (last_text_test x.id id))
+    package_apart (number document ∷ Text id ∷ [])
+    (λ x. number_text_key x.document document x.id id)
 
 -- ---- the packages that a document ships
 
 abbrev pub shipped_text : List ℕ
-shipped_text = codes "SELECT document, id, name, version, concluded, copyright, shipped FROM package WHERE document = ?1 AND shipped = ?2 ORDER BY document, id"
+shipped_text = codes
+    "SELECT document, id, name, version, concluded, copyright, shipped FROM package WHERE document = ?1 AND shipped = ?2 ORDER BY document, id"
 
 shipped_is : IsSelect shipped_text 2 6 (same 1 0 ∷ same 7 1 ∷ [])
-    (col 1 1 ∷ col 1 2 ∷ col 1 3 ∷ col 1 4 ∷ col 1 5 ∷ col 1 6 ∷ col 1 7 ∷ []) (order_by (1 ∷ 2 ∷ []))
+    (col 1 1 ∷ col 1 2 ∷ col 1 3 ∷ col 1 4 ∷ col 1 5 ∷ col 1 6 ∷ col 1 7 ∷ [])
+    (order_by (1 ∷ 2 ∷ []))
     (codes "document" ∷ codes "id" ∷ codes "name" ∷
     codes "version" ∷ codes "concluded" ∷ codes "copyright" ∷ codes "shipped" ∷ [])
 unfolding understood everything
@@ -122,8 +137,11 @@ shipped_flag false = refl
 pub shipped_finds : (document : ℕ) → FindsRows shipped_text (number document ∷ number 1 ∷ [])
     package_cells (λ t. filter (is_shipped_by document) t.packages)
 shipped_finds document =
-    finds_all package_view (1 ∷ 2 ∷ []) shipped_is (number document ∷ number 1 ∷ []) refl refl (equals ((0, number document) ∷ (6, number 1) ∷ []))
-    (0 ∷ 1 ∷ []) (0 ∷ 1 ∷ 2 ∷ 3 ∷ 4 ∷ 5 ∷ 6 ∷ []) (λ r. refl) (λ r. refl) (is_shipped_by document) (λ x. number_then x.document document (number_test (if x.shipped then 1 else 0) 1 ∙ shipped_flag x.shipped))
+    finds_all package_view (1 ∷ 2 ∷ []) shipped_is (number document ∷ number 1 ∷ []) refl refl
+    (equals ((0, number document) ∷ (6, number 1) ∷ []))
+    (0 ∷ 1 ∷ []) (0 ∷ 1 ∷ 2 ∷ 3 ∷ 4 ∷ 5 ∷ 6 ∷ []) (λ r. refl) (λ r. refl) (is_shipped_by document)
+    (λ x. number_then x.document document
+    (number_test (if x.shipped then 1 else 0) 1 ∙ shipped_flag x.shipped))
     package_apart (λ t orderly. packages_sorted t.packages orderly.packages)
 
 -- ---- all documents, without their bytes

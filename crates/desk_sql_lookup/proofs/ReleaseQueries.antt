@@ -25,7 +25,8 @@ use Rattle.desk_sql_lookup.proofs.Views.{
 -- ---- the release with a name
 
 abbrev pub release_text : List ℕ
-release_text = codes "SELECT name, place, form, state, revision FROM releases WHERE name = ?1 ORDER BY name"
+release_text = codes
+    "SELECT name, place, form, state, revision FROM releases WHERE name = ?1 ORDER BY name"
 
 release_is : IsSelect release_text 1 14 (same 1 0 ∷ [])
     (col 1 1 ∷ col 1 2 ∷ col 1 3 ∷ col 1 4 ∷ col 1 5 ∷ []) (order_by (1 ∷ []))
@@ -36,16 +37,20 @@ release_is = record { is = (refl, refl); plain = (refl, refl); suits = (refl, re
 pub release_finds : (name : List ℕ) → FindsRows release_text (Text name ∷ [])
     release_cells (λ t. filter (is_release name) t.releases)
 release_finds name =
-    finds_one release_view (1 ∷ []) release_is (Text name ∷ []) refl refl (equals ((0, Text name) ∷ []))
-    (0 ∷ []) (0 ∷ 1 ∷ 2 ∷ 3 ∷ 4 ∷ []) (λ r. refl) (λ r. refl) (is_release name) (λ x. last_text_test x.name name)
+    finds_one release_view (1 ∷ []) release_is (Text name ∷ []) refl refl
+    (equals ((0, Text name) ∷ []))
+    (0 ∷ []) (0 ∷ 1 ∷ 2 ∷ 3 ∷ 4 ∷ []) (λ r. refl) (λ r. refl) (is_release name)
+    (λ x. last_text_test x.name name)
     release_apart (Text name ∷ []) (λ x. text_key x.name name)
 
 -- ---- the documents attached to a release
 
 abbrev pub attached_text : List ℕ
-attached_text = codes "SELECT release, document FROM attached WHERE release = ?1 ORDER BY release, document"
+attached_text = codes
+    "SELECT release, document FROM attached WHERE release = ?1 ORDER BY release, document"
 
-attached_is : IsSelect attached_text 1 17 (same 1 0 ∷ []) (col 1 1 ∷ col 1 2 ∷ []) (order_by (1 ∷ 2 ∷ []))
+attached_is : IsSelect attached_text 1 17 (same 1 0 ∷ []) (col 1 1 ∷ col 1 2 ∷ [])
+    (order_by (1 ∷ 2 ∷ []))
     (codes "release" ∷ codes "document" ∷ [])
 unfolding understood everything
 attached_is = record { is = (refl, refl); plain = (refl, refl); suits = (refl, refl) }
@@ -53,8 +58,10 @@ attached_is = record { is = (refl, refl); plain = (refl, refl); suits = (refl, r
 pub attached_finds : (release : List ℕ) → FindsRows attached_text (Text release ∷ [])
     attached_cells (λ t. filter (is_attached_to release) t.attached)
 attached_finds release =
-    finds_all attached_view (1 ∷ 2 ∷ []) attached_is (Text release ∷ []) refl refl (equals ((0, Text release) ∷ []))
-    (0 ∷ 1 ∷ []) (0 ∷ 1 ∷ []) (λ r. refl) (λ r. refl) (is_attached_to release) (λ x. last_text_test x.release release)
+    finds_all attached_view (1 ∷ 2 ∷ []) attached_is (Text release ∷ []) refl refl
+    (equals ((0, Text release) ∷ []))
+    (0 ∷ 1 ∷ []) (0 ∷ 1 ∷ []) (λ r. refl) (λ r. refl) (is_attached_to release)
+    (λ x. last_text_test x.release release)
     attached_apart (λ t orderly. attached_sorted t.attached orderly.sorted.attached)
 
 -- ---- how many documents are attached to a release
@@ -70,13 +77,16 @@ attached_count_is = record { is = (refl, refl); plain = (refl, refl); suits = (r
 pub attached_count_finds : (release : List ℕ) → Finds attached_count_text (Text release ∷ [])
     (λ t rows. length rows ≡ length (filter (is_attached_to release) t.attached))
 attached_count_finds release =
-    finds_count attached_view [] attached_count_is (Text release ∷ []) refl refl (equals ((0, Text release) ∷ []))
-    [] (1 ∷ []) (λ r. refl) (λ r. refl) (is_attached_to release) (λ x. last_text_test x.release release)
+    finds_count attached_view [] attached_count_is (Text release ∷ []) refl refl
+    (equals ((0, Text release) ∷ []))
+    [] (1 ∷ []) (λ r. refl) (λ r. refl) (is_attached_to release)
+    (λ x. last_text_test x.release release)
 
 -- ---- the terms with which a release was frozen
 
 abbrev pub frozen_text : List ℕ
-frozen_text = codes "SELECT release, document, package, term, rule FROM frozen WHERE release = ?1 ORDER BY release, document, package, term"
+frozen_text = codes
+    "SELECT release, document, package, term, rule FROM frozen WHERE release = ?1 ORDER BY release, document, package, term"
 
 frozen_is : IsSelect frozen_text 1 21 (same 1 0 ∷ [])
     (col 1 1 ∷ col 1 2 ∷ col 1 3 ∷ col 1 4 ∷ col 1 5 ∷ []) (order_by (1 ∷ 2 ∷ 3 ∷ 4 ∷ []))
@@ -87,8 +97,10 @@ frozen_is = record { is = (refl, refl); plain = (refl, refl); suits = (refl, ref
 pub frozen_finds : (release : List ℕ) → FindsRows frozen_text (Text release ∷ [])
     frozen_cells (λ t. filter (λ row. bytes_eq row.release release) t.frozen)
 frozen_finds release =
-    finds_all frozen_view (1 ∷ 2 ∷ 3 ∷ 4 ∷ []) frozen_is (Text release ∷ []) refl refl (equals ((0, Text release) ∷ []))
-    (0 ∷ 1 ∷ 2 ∷ 3 ∷ []) (0 ∷ 1 ∷ 2 ∷ 3 ∷ 4 ∷ []) (λ r. refl) (λ r. refl) (λ row. bytes_eq row.release release) (λ x. last_text_test x.release release)
+    finds_all frozen_view (1 ∷ 2 ∷ 3 ∷ 4 ∷ []) frozen_is (Text release ∷ []) refl refl
+    (equals ((0, Text release) ∷ []))
+    (0 ∷ 1 ∷ 2 ∷ 3 ∷ []) (0 ∷ 1 ∷ 2 ∷ 3 ∷ 4 ∷ []) (λ r. refl) (λ r. refl)
+    (λ row. bytes_eq row.release release) (λ x. last_text_test x.release release)
     frozen_apart (λ t orderly. frozen_sorted t.frozen orderly.sorted.frozen)
 
 -- ---- all releases

@@ -14,7 +14,8 @@ use Rattle.desk_sql_lookup.specs.Causes.{IsAsked}
 use Rattle.desk_sql_lookup.proofs.Causes.{Suits, asked}
 
 -- a text with this many parameters is this query of a table, and the library plans it as it is
-pub record IsSelect (text : List ℕ) (parameters tree : ℕ) (tests project : List Term) (by : List (Term × Key))
+pub record IsSelect (text : List ℕ) (parameters tree : ℕ) (tests project : List Term)
+    (by : List (Term × Key))
     (names : List (List ℕ)) : Type 0 where
   pub is : (command_of (understood desk_schema text)
       ≡ Select (record { lets = []; body = query_on tree tests project by }) names)
@@ -23,10 +24,12 @@ pub record IsSelect (text : List ℕ) (parameters tree : ℕ) (tests project : L
   pub suits : Suits text parameters (understood desk_schema text)
 
 -- with these values
-pub select_asked : {text : List ℕ} {parameters tree : ℕ} {tests project : List Term} {by : List (Term × Key)}
+pub select_asked : {text : List ℕ} {parameters tree : ℕ} {tests project : List Term} {by : List
+    (Term × Key)}
     {names : List (List ℕ)} → IsSelect text parameters tree tests project by names → (params : Row)
     → parameters ≡ length params
-    → accepts_program desk_schema [] (query_on tree tests project by) params ≡ true → IsAsked text params
+    → accepts_program desk_schema [] (query_on tree tests project by) params ≡ true
+    → IsAsked text params
 select_asked {text} {parameters} {tree} {tests} {project} {by} {names} it params many accepts =
     asked text params tree tests project by names it.is it.plain
     (subst (λ n. Suits text n (understood desk_schema text)) many it.suits) accepts

@@ -1,5 +1,7 @@
 -- What a query on one table shows, in the order of a key.
-use Rattle.std.proofs.Common.{◌≡◌, ℕ, Bool, true, false, List, [], ◌∷◌, map, filter, get_or, length, slice_get, Option, Some, refl, sym, ap, subst, subst₂, ◌∙◌, IsPermutation, Ordering, Less, Equal, Greater, is_lt, is_eq}
+use Rattle.std.proofs.Common.{◌≡◌, ℕ, Bool, true, false, List, [], ◌∷◌, map, filter, get_or, length}
+use Rattle.std.proofs.Common.{slice_get, Option, Some, refl, sym, ap, subst, subst₂, ◌∙◌}
+use Rattle.std.proofs.Common.{IsPermutation, Ordering, Less, Equal, Greater, is_lt, is_eq}
 use Rattle.std.specs.List.{AllByRecursion, IsDistinct}
 use Rattle.std.specs.Ordering.{ordering_reverse}
 use Rattle.std.proofs.lemmas.Map.Keys.{IsDistinct-IsPermutation}
@@ -13,7 +15,8 @@ use Rattle.sqlite_value.specs.declared.value.Value.TheVariants.{Null}
 use Rattle.sqlite_value.specs.Keys.{ascending, plain}
 use Rattle.sqlite_value.specs.Order.{Row, column}
 use Rattle.sqlite_trees.specs.Tree.{IsAscending}
-use Rattle.sqlite_trees.proofs.ListLemmas.{filter-map, map-map, ascending-filter, ascending-map, ascending_from_map, IsPermutation-filter}
+use Rattle.sqlite_trees.proofs.ListLemmas.{filter-map, map-map, ascending-filter, ascending-map}
+use Rattle.sqlite_trees.proofs.ListLemmas.{ascending_from_map, IsPermutation-filter}
 use Rattle.sqlite_keyed.proofs.SortLemmas.{sorted_is-sort_by}
 use Rattle.sqlite_sql.specs.Term.{Term, col, eval_all}
 use Rattle.sqlite_sql.specs.Query.{Query, Output, output, output_cmp, key_cmp}
@@ -44,7 +47,8 @@ pub keys_are : (ps : List ℕ) → map (λ (k : Term × Key). k.1) (order_by ps)
 keys_are [] = refl
 keys_are (p ∷ ps) = ap (λ l. ascending Binary ∷ l) (keys_are ps)
 
-picked_is : (ps : List ℕ) (params r : Row) → eval_all (map (λ (k : Term × Key). k.0) (order_by ps)) (env params r) ≡ picked ps r
+picked_is : (ps : List ℕ) (params r : Row)
+    → eval_all (map (λ (k : Term × Key). k.0) (order_by ps)) (env params r) ≡ picked ps r
 picked_is [] params r = refl
 picked_is (p ∷ ps) params r = ap (λ l. column r p ∷ l) (picked_is ps params r)
 
@@ -52,7 +56,8 @@ picked_is (p ∷ ps) params r = ap (λ l. column r p ∷ l) (picked_is ps params
 abbrev pub AreApart : List ℕ → List Row → Type 0
 AreApart ps = IsAscending (λ a b. is_eq (key_cmp 0 (keys ps) (picked ps a) (picked ps b)) ≡ false)
 
-listed_in : (P : Table → Type 0) (tables : List Table) (place : ℕ) (t : Table) → slice_get tables place ≡ Some t → AllByRecursion P tables → P t
+listed_in : (P : Table → Type 0) (tables : List Table) (place : ℕ) (t : Table)
+    → slice_get tables place ≡ Some t → AllByRecursion P tables → P t
 listed_in P tables place t is all = all_has P tables t all (has_got tables place t is)
 
 is_eq-reverse : (o : Ordering) → is_eq (ordering_reverse o) ≡ is_eq o
@@ -60,9 +65,12 @@ is_eq-reverse Less = refl
 is_eq-reverse Equal = refl
 is_eq-reverse Greater = refl
 
-apart_permuted : {X : Type 0} (e : X → X → Bool) → ((x y : X) → e x y ≡ e y x) → (xs ys : List X) → IsPermutation xs ys → IsAscending (λ a b. e a b ≡ false) xs → IsAscending (λ a b. e a b ≡ false) ys
+apart_permuted : {X : Type 0} (e : X → X → Bool) → ((x y : X) → e x y ≡ e y x) → (xs ys : List X)
+    → IsPermutation xs ys → IsAscending (λ a b. e a b ≡ false) xs
+    → IsAscending (λ a b. e a b ≡ false) ys
 unfolding IsDistinct
-apart_permuted {X} e flips xs ys same apart = back ys (IsDistinct-IsPermutation e flips xs ys same (there xs apart))
+apart_permuted {X} e flips xs ys same apart = back ys
+    (IsDistinct-IsPermutation e flips xs ys same (there xs apart))
   where
     there : (xs : List X) → IsAscending (λ a b. e a b ≡ false) xs → IsDistinct e xs
     there [] h = tt
@@ -72,7 +80,9 @@ apart_permuted {X} e flips xs ys same apart = back ys (IsDistinct-IsPermutation 
     back [] h = tt
     back (x ∷ xs) h = (h.0, back xs h.1)
 
-alike : {X : Type 0} (R : X → X → Type 0) (it : X → Row) (k : Row) (xs : List X) → ((a b : X) → it a ≡ k → it b ≡ k → R a b) → AllByRecursion (λ x. it x ≡ k) xs → IsAscending R xs
+alike : {X : Type 0} (R : X → X → Type 0) (it : X → Row) (k : Row) (xs : List X)
+    → ((a b : X) → it a ≡ k → it b ≡ k → R a b) → AllByRecursion (λ x. it x ≡ k) xs
+    → IsAscending R xs
 alike R it k [] two are = tt
 alike {X} R it k (x ∷ xs) two are = (all xs are.1, alike R it k xs two are.1)
   where
@@ -80,39 +90,57 @@ alike {X} R it k (x ∷ xs) two are = (all xs are.1, alike R it k xs two are.1)
     all [] h = tt
     all (y ∷ ys) h = (two x y are.0 h.0, all ys h.1)
 
-module _ (name : List ℕ) (tree : ℕ) (columns : List Column) (key : Option ℕ) (primary : List ℕ) (uniques : List (List ℕ)) (orders : List Order) (place : ℕ)
-    (listed : slice_get desk_schema.tables place ≡ Some (table_of name tree columns key primary uniques orders)) {X : Type 0} (f : X → Row) (rows : ℕ → List Row) (xs : List X) (here : rows tree ≡ map f xs) (db : Database) (has : HasRows rows db) where
+module _ (name : List ℕ) (tree : ℕ) (columns : List Column) (key : Option ℕ) (primary : List ℕ)
+    (uniques : List (List ℕ)) (orders : List Order) (place : ℕ)
+    (listed : slice_get desk_schema.tables place
+    ≡ Some (table_of name tree columns key primary uniques orders)) {X : Type 0} (f : X → Row)
+    (rows : ℕ → List Row) (xs : List X) (here : rows tree ≡ map f xs) (db : Database)
+    (has : HasRows rows db) where
   abbrev this : Table
   this = table_of name tree columns key primary uniques orders
 
   pub mine : AreStored this (map f xs) (db.trees tree)
-  mine = subst (λ l. AreStored this l (db.trees tree)) here (listed_in (λ t. AreStored t (rows t.tree) (db.trees t.tree)) desk_schema.tables place this listed has.stored)
+  mine = subst (λ l. AreStored this l (db.trees tree)) here
+      (listed_in (λ t. AreStored t (rows t.tree) (db.trees t.tree)) desk_schema.tables place this
+      listed has.stored)
 
   -- a table whose key is its rowid
   pub by_rowid : AreApart (0 ∷ []) (db.trees tree)
   by_rowid = apart_by_rowid (db.trees tree) mine.rising
 
   -- a key that is declared unique
-  pub by_unique : (at : ℕ) (ps : List ℕ) → slice_get uniques at ≡ Some ps → get_or orders at plain ≡ plain → (k : Row → Bool) → ((r : Row) → are_keys ps r ≡ k (cells this r)) → ((x : X) → k (f x) ≡ true)
+  pub by_unique : (at : ℕ) (ps : List ℕ) → slice_get uniques at ≡ Some ps
+      → get_or orders at plain ≡ plain → (k : Row → Bool)
+      → ((r : Row) → are_keys ps r ≡ k (cells this r)) → ((x : X) → k (f x) ≡ true)
       → AreApart ps (db.trees tree)
   by_unique at ps unique order k keyed are =
-      apart_by ps (db.trees tree) mine.rising mine.keyed (all_from (λ r. are_keys ps r ≡ true) (db.trees tree) one)
-      (λ row there. subst (λ o. clashes-of o row) order (keys_are_unique db.schema db.trees this at ps row has.sound (rw has.declared (has_got desk_schema.tables place this listed)) unique there))
+      apart_by ps (db.trees tree) mine.rising mine.keyed
+      (all_from (λ r. are_keys ps r ≡ true) (db.trees tree) one)
+      (λ row there. subst (λ o. clashes-of o row) order
+      (keys_are_unique db.schema db.trees this at ps row has.sound
+      (rw has.declared (has_got desk_schema.tables place this listed)) unique there))
     where
       clashes-of : Order → Row → Type 0
       clashes-of o row = Rattle.sqlite_schema.specs.Rules.clashes o ps (db.trees tree) row ≡ false
 
       one : (r : Row) → Has (db.trees tree) r → are_keys ps r ≡ true
       one r there =
-          let shown : Has (map f xs) (cells this r) = has_permuted (map f xs) (map (cells this) (db.trees tree)) (cells this r) mine.same (mapped_has (cells this) (db.trees tree) r there) in
+          let shown : Has (map f xs) (cells this r) =
+          has_permuted (map f xs) (map (cells this) (db.trees tree)) (cells this r) mine.same
+          (mapped_has (cells this) (db.trees tree) r there) in
           let x = has_mapped f xs (cells this r) shown in
           keyed r ∙ ap k x.2 ∙ are x.0
 
   -- the rows that pass, no two of which have the same key, shown in the order of the key
   module _ (sql : List ℕ) (names : List (List ℕ)) (tests project : List Term) (ps : List ℕ)
-      (is : (command_of (understood desk_schema sql) ≡ Select (record { lets = []; body = query_on tree tests project (order_by ps) }) names) × (reads_listing desk_schema sql ≡ false))
-      (plain : IsPlain (understood desk_schema sql)) (params : Row) (q : Row → Bool) (u : Row → Output) (p : X → Bool)
-      (tested : (r : Row) → passes tests params r ≡ q (cells this r)) (acts : (r : Row) → output (query_on tree tests project (order_by ps)) (env params r) ≡ u (cells this r))
+      (is : (command_of (understood desk_schema sql)
+      ≡ Select (record { lets = []; body = query_on tree tests project (order_by ps) }) names)
+      × (reads_listing desk_schema sql ≡ false))
+      (plain : IsPlain (understood desk_schema sql)) (params : Row) (q : Row → Bool)
+      (u : Row → Output) (p : X → Bool)
+      (tested : (r : Row) → passes tests params r ≡ q (cells this r))
+      (acts : (r : Row) → output (query_on tree tests project (order_by ps)) (env params r)
+      ≡ u (cells this r))
       (picks : (x : X) → q (f x) ≡ p x) where
     abbrev asked : Query
     asked = query_on tree tests project (order_by ps)
@@ -126,31 +154,49 @@ module _ (name : List ℕ) (tree : ℕ) (columns : List Column) (key : Option �
     outs_are : IsPermutation wanted outs
     outs_are =
         let table = cells this in
-        let left : map u (filter q (map f xs)) ≡ wanted = ap (map u) (filter-map q f xs ∙ (λ i. map f (filter (λ x. picks x i) xs))) ∙ map-map u f (filter p xs) in
+        let left : map u (filter q (map f xs)) ≡ wanted =
+        ap (map u) (filter-map q f xs ∙ (λ i. map f (filter (λ x. picks x i) xs)))
+        ∙ map-map u f (filter p xs) in
         let right : map u (filter q (map table (db.trees tree))) ≡ outs =
-        ap (map u) (filter-map q table (db.trees tree)) ∙ map-map u table (filter (λ r. q (table r)) (db.trees tree)) ∙ sym (λ i. map (λ r. acts r i) (filter (λ r. tested r i) (db.trees tree))) in
-        subst₂ (λ a b. IsPermutation a b) left right (IsPermutation-map u _ _ (IsPermutation-filter q _ _ mine.same))
+        ap (map u) (filter-map q table (db.trees tree))
+        ∙ map-map u table (filter (λ r. q (table r)) (db.trees tree))
+        ∙ sym (λ i. map (λ r. acts r i) (filter (λ r. tested r i) (db.trees tree))) in
+        subst₂ (λ a b. IsPermutation a b) left right
+        (IsPermutation-map u _ _ (IsPermutation-filter q _ _ mine.same))
 
     -- all that pass have the same key
-    pub at_one_key : (k : Row) → ((x : X) → p x ≡ true → (u (f x)).0 ≡ k) → IsAscending (λ a b. is_lt (output_cmp asked (u (f b)) (u (f a))) ≡ false) (filter p xs)
+    pub at_one_key : (k : Row) → ((x : X) → p x ≡ true → (u (f x)).0 ≡ k)
+        → IsAscending (λ a b. is_lt (output_cmp asked (u (f b)) (u (f a))) ≡ false) (filter p xs)
     at_one_key k same =
-        let all : AllByRecursion (λ x. (u (f x)).0 ≡ k) (filter p xs) = all_from _ (filter p xs) (λ x there. same x (has_filtered p xs x there).1) in
+        let all : AllByRecursion (λ x. (u (f x)).0 ≡ k) (filter p xs) =
+        all_from _ (filter p xs) (λ x there. same x (has_filtered p xs x there).1) in
         let it = λ (x : X). (u (f x)).0 in
-        alike (λ a b. is_lt (key_cmp 0 (map (λ (k : Term × Key). k.1) (order_by ps)) (it b) (it a)) ≡ false) it k (filter p xs)
-        (λ a b ha hb. rw (ha, hb) (ap is_lt (tied_itself (key_cmp_total (map (λ (k : Term × Key). k.1) (order_by ps)) 0) k))) all
+        alike (λ a b. is_lt (key_cmp 0 (map (λ (k : Term × Key). k.1) (order_by ps)) (it b) (it a))
+        ≡ false) it k (filter p xs)
+        (λ a b ha hb. rw (
+          ha,
+          hb,
+        ) (ap is_lt (tied_itself (key_cmp_total (map (λ (k : Term × Key). k.1) (order_by ps)) 0)
+        k))) all
 
     -- in any order
-    module _ (old new : State) (shown : List Row) (it : Shown sql params old new shown) (same : db ≡ old.now) where
+    module _ (old new : State) (shown : List Row) (it : Shown sql params old new shown)
+        (same : db ≡ old.now) where
       answer : Rattle.desk_sql_layout.proofs.Queries.Selected asked params (db.trees tree) shown
       answer =
-          let it : Rattle.sqlite.specs.Effect.Reads (Select (record { lets = []; body = asked }) names) old.now params shown =
-          reads_as sql params old new desk_schema (ap (λ d. d.schema) (sym same) ∙ has.declared) (Select (record { lets = []; body = asked }) names) is.0 plain is.1 shown it in
-          subst (λ d. Rattle.desk_sql_layout.proofs.Queries.Selected asked params (d.trees tree) shown) (sym same) (selected tree tests project (order_by ps) old.now.trees params shown (it.answer Null))
+          let it : Rattle.sqlite.specs.Effect.Reads (Select (record { lets = []; body = asked })
+          names) old.now params shown =
+          reads_as sql params old new desk_schema (ap (λ d. d.schema) (sym same) ∙ has.declared)
+          (Select (record { lets = []; body = asked }) names) is.0 plain is.1 shown it in
+          subst (λ d. Rattle.desk_sql_layout.proofs.Queries.Selected asked params (d.trees tree)
+          shown) (sym same) (selected tree tests project (order_by ps) old.now.trees params shown
+          (it.answer Null))
 
       pub shows_some : IsPermutation (map (λ x. (u (f x)).1) (filter p xs)) shown
       shows_some =
           let out = λ (o : Output). o.1 in
-          subst₂ (λ a b. IsPermutation a b) (map-map out (λ x. u (f x)) (filter p xs)) (sym answer.shown)
+          subst₂ (λ a b. IsPermutation a b) (map-map out (λ x. u (f x)) (filter p xs))
+          (sym answer.shown)
           (IsPermutation-map out _ _ (IsPermutation-trans _ _ _ outs_are answer.same))
 
       pub counts : length shown ≡ length (filter p xs)
@@ -159,25 +205,30 @@ module _ (name : List ℕ) (tree : ℕ) (columns : List Column) (key : Option �
       module _ (apart : AreApart ps (db.trees tree)) where
         no_ties : IsAscending (λ a b. is_eq (output_cmp asked a b) ≡ false) outs
         no_ties =
-            ascending-map (λ a b. is_eq (output_cmp asked a b) ≡ false) (λ r. output asked (env params r))
+            ascending-map (λ a b. is_eq (output_cmp asked a b) ≡ false)
+            (λ r. output asked (env params r))
             (filter (passes tests params) (db.trees tree))
             (ascending_among _ _ (filter (passes tests params) (db.trees tree))
             (λ a b ha hb h. rw (keys_are ps, picked_is ps params a, picked_is ps params b) h)
             (ascending-filter _ (passes tests params) (db.trees tree) apart))
 
         -- no two of them have the same key
-        pub apart_shown : IsAscending (λ a b. is_eq (output_cmp asked (u (f a)) (u (f b))) ≡ false) (filter p xs)
+        pub apart_shown : IsAscending (λ a b. is_eq (output_cmp asked (u (f a)) (u (f b))) ≡ false)
+            (filter p xs)
         apart_shown =
             let cmp = output_cmp asked in
             ascending_from_map (λ a b. is_eq (cmp a b) ≡ false) (λ x. u (f x)) (filter p xs)
             (apart_permuted (λ a b. is_eq (cmp a b))
-            (λ a b. ap is_eq ((output_cmp_total asked).antisymm a b) ∙ is_eq-reverse (cmp b a)) outs wanted
+            (λ a b. ap is_eq ((output_cmp_total asked).antisymm a b) ∙ is_eq-reverse (cmp b a)) outs
+            wanted
             (IsPermutation-sym _ _ outs_are) no_ties)
 
-        module _ (sorted : IsAscending (λ a b. is_lt (output_cmp asked (u (f b)) (u (f a))) ≡ false) (filter p xs)) where
+        module _ (sorted : IsAscending (λ a b. is_lt (output_cmp asked (u (f b)) (u (f a))) ≡ false)
+            (filter p xs)) where
           wanted_sorted : IsAscending (λ a b. is_lt (output_cmp asked b a) ≡ false) wanted
           wanted_sorted =
-              ascending-map (λ a b. is_lt (output_cmp asked b a) ≡ false) (λ x. u (f x)) (filter p xs) sorted
+              ascending-map (λ a b. is_lt (output_cmp asked b a) ≡ false) (λ x. u (f x))
+              (filter p xs) sorted
 
           as_wanted : wanted ≡ answer.ordered
           as_wanted =
@@ -185,7 +236,8 @@ module _ (name : List ℕ) (tree : ℕ) (columns : List Column) (key : Option �
               let total = output_cmp_total asked in
               sorted_is-sort_by cmp total outs wanted no_ties (IsPermutation-sym _ _ outs_are)
               (sorted_from cmp wanted wanted_sorted)
-              ∙ sym (sorted_is-sort_by cmp total outs answer.ordered no_ties answer.same answer.sorted)
+              ∙ sym (sorted_is-sort_by cmp total outs answer.ordered no_ties answer.same
+              answer.sorted)
 
           pub shows : shown ≡ map (λ x. (u (f x)).1) (filter p xs)
           shows =

@@ -16,14 +16,17 @@ use Rattle.desk_sql_lookup.proofs.Keyed.{same_number, same_text}
 -- each of these columns equals a value
 abbrev pub equals : List (ℕ × Value) → Row → Bool
 equals [] cs = true
-equals ((at, value) ∷ more) cs = is_true (binary (Compare Eq Binary) (column cs at) value) && equals more cs
+equals ((at, value) ∷ more) cs = is_true (binary (Compare Eq Binary) (column cs at) value)
+    && equals more cs
 
 -- ---- the last test, and those before it
 
-pub number_test : (a b : ℕ) → (is_true (binary (Compare Eq Binary) (number a) (number b)) && true) ≡ (a == b)
+pub number_test : (a b : ℕ) → (is_true (binary (Compare Eq Binary) (number a) (number b)) && true)
+    ≡ (a == b)
 number_test a b = and_true _ ∙ int_test a b
 
-pub last_text_test : (a b : List ℕ) → (is_true (binary (Compare Eq Binary) (Text a) (Text b)) && true) ≡ bytes_eq a b
+pub last_text_test : (a b : List ℕ)
+    → (is_true (binary (Compare Eq Binary) (Text a) (Text b)) && true) ≡ bytes_eq a b
 last_text_test a b = and_true _ ∙ text_test a b
 
 pub number_then : (a b : ℕ) {rest more : Bool} → rest ≡ more

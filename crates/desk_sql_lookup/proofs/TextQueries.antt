@@ -28,23 +28,30 @@ catalogue_is = record { is = (refl, refl); plain = (refl, refl); suits = (refl, 
 pub catalogue_finds : (n : ℕ) → FindsRows catalogue_text (number n ∷ [])
     (λ (x : CatalogueRow). text_cells x.body) (λ t. filter (is_revision n) t.catalogue)
 catalogue_finds n =
-    finds_one catalogue_view (0 ∷ []) catalogue_is (number n ∷ []) refl refl (equals ((0, number n) ∷ []))
+    finds_one catalogue_view (0 ∷ []) catalogue_is (number n ∷ []) refl refl
+    (equals ((0, number n) ∷ []))
     (0 ∷ []) (1 ∷ []) (λ r. refl) (λ r. refl) (is_revision n) (λ x. number_test x.revision n)
     catalogue_apart (number n ∷ []) (λ x. number_key x.revision n)
 
 -- ---- the text that a document gives for a reference
 
 abbrev pub extracted_text : List ℕ
-extracted_text = codes "SELECT body FROM extracted WHERE document = ?1 AND reference = ?2 ORDER BY document, reference"
+extracted_text = codes
+    "SELECT body FROM extracted WHERE document = ?1 AND reference = ?2 ORDER BY document, reference"
 
-extracted_is : IsSelect extracted_text 2 8 (same 1 0 ∷ same 2 1 ∷ []) (col 1 3 ∷ []) (order_by (1 ∷ 2 ∷ []))
+extracted_is : IsSelect extracted_text 2 8 (same 1 0 ∷ same 2 1 ∷ []) (col 1 3 ∷ [])
+    (order_by (1 ∷ 2 ∷ []))
     (codes "body" ∷ [])
 unfolding understood everything
 extracted_is = record { is = (refl, refl); plain = (refl, refl); suits = (refl, refl) }
 
-pub extracted_finds : (document : ℕ) (reference : List ℕ) → FindsRows extracted_text (number document ∷ Text reference ∷ [])
+pub extracted_finds : (document : ℕ) (reference : List ℕ)
+    → FindsRows extracted_text (number document ∷ Text reference ∷ [])
     extracted_body_cells (λ t. filter (is_extracted document reference) t.extracted)
 extracted_finds document reference =
-    finds_one extracted_view (1 ∷ 2 ∷ []) extracted_is (number document ∷ Text reference ∷ []) refl refl (equals ((0, number document) ∷ (1, Text reference) ∷ []))
-    (0 ∷ 1 ∷ []) (2 ∷ []) (λ r. refl) (λ r. refl) (is_extracted document reference) (λ x. number_then x.document document (last_text_test x.reference reference))
-    extracted_apart (number document ∷ Text reference ∷ []) (λ x. number_text_key x.document document x.reference reference)
+    finds_one extracted_view (1 ∷ 2 ∷ []) extracted_is (number document ∷ Text reference ∷ []) refl
+    refl (equals ((0, number document) ∷ (1, Text reference) ∷ []))
+    (0 ∷ 1 ∷ []) (2 ∷ []) (λ r. refl) (λ r. refl) (is_extracted document reference)
+    (λ x. number_then x.document document (last_text_test x.reference reference))
+    extracted_apart (number document ∷ Text reference ∷ [])
+    (λ x. number_text_key x.document document x.reference reference)

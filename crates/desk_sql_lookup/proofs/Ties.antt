@@ -1,5 +1,7 @@
 -- Stored rows, no two of which have the same key, and lists that ascend.
-use Rattle.std.proofs.Common.{◌≡◌, inl, inr, ℕ, zero, suc, Bool, true, false, List, [], ◌∷◌, map, refl, sym, ap, ◌∙◌, arith, add-one, true≢false, IsSorted, Less, Equal, Greater, is_lt, is_eq}
+use Rattle.std.proofs.Common.{◌≡◌, inl, inr, ℕ, zero, suc, Bool, true, false, List, [], ◌∷◌, map}
+use Rattle.std.proofs.Common.{refl, sym, ap, ◌∙◌, arith, add-one, true≢false, IsSorted, Less, Equal}
+use Rattle.std.proofs.Common.{Greater, is_lt, is_eq}
 use Rattle.std.specs.Prelude.{◌&&◌}
 use Rattle.std.specs.List.{AllByRecursion}
 use Rattle.std.specs.declared.cmp.Ordering.{Ordering}
@@ -36,7 +38,8 @@ abbrev pub are_keys : List ℕ → Row → Bool
 are_keys [] r = true
 are_keys (p ∷ ps) r = is_key (column r p) && are_keys ps r
 
-tied : (a b : Value) → is_key a ≡ true → is_key b ≡ true → is_eq (value_cmp a b) ≡ true → equal Binary a b ≡ true
+tied : (a b : Value) → is_key a ≡ true → is_key b ≡ true → is_eq (value_cmp a b) ≡ true
+    → equal Binary a b ≡ true
 unfolding binary
 tied (Int m) (Int n) p q h = truth_is _ ∙ h
 tied (Int m) (Text t) p q h = truth_is _ ∙ h
@@ -52,7 +55,8 @@ tied (Text m) Null p q h = absurd (true≢false (sym q))
 tied (Text m) (Real x) p q h = absurd (true≢false (sym q))
 tied (Text m) (Blob x) p q h = absurd (true≢false (sym q))
 
-below_differ : (a b : Value) → is_int a ≡ true → is_int b ≡ true → value_cmp a b ≡ Less → differ a b ≡ true
+below_differ : (a b : Value) → is_int a ≡ true → is_int b ≡ true → value_cmp a b ≡ Less
+    → differ a b ≡ true
 unfolding binary
 below_differ (Int m) (Int n) p q h = rw h refl
 below_differ Null b p q h = absurd (true≢false (sym p))
@@ -78,26 +82,42 @@ eq_parts Equal p h = (refl, h)
 eq_parts Greater p h = absurd (true≢false (sym h))
 
 -- rows that tie by a key agree on it
-tied_agree : (ps : List ℕ) (a b : Row) → are_keys ps a ≡ true → are_keys ps b ≡ true → is_eq (key_cmp 0 (keys ps) (picked ps a) (picked ps b)) ≡ true → agree plain ps a ps b ≡ true
+tied_agree : (ps : List ℕ) (a b : Row) → are_keys ps a ≡ true → are_keys ps b ≡ true
+    → is_eq (key_cmp 0 (keys ps) (picked ps a) (picked ps b)) ≡ true → agree plain ps a ps b ≡ true
 tied_agree [] a b p q h = refl
 tied_agree (at ∷ ps) a b p q h =
     let pa = and_parts _ _ p in
     let qa = and_parts _ _ q in
     let parts = eq_parts (value_cmp (column a at) (column b at)) _ h in
-    let rest : is_eq (key_cmp 0 (keys ps) (picked ps a) (picked ps b)) ≡ true = sym (ap is_eq (key_cmp_shift (keys ps) 0 (column a at) (column b at) (picked ps a) (picked ps b))) ∙ parts.1 in
-    rw (first_key-plain, tied (column a at) (column b at) pa.0 qa.0 parts.0, tied_agree ps a b pa.1 qa.1 rest) refl
+    let rest : is_eq (key_cmp 0 (keys ps) (picked ps a) (picked ps b)) ≡ true =
+    sym (ap is_eq (key_cmp_shift (keys ps) 0 (column a at) (column b at) (picked ps a)
+    (picked ps b))) ∙ parts.1 in
+    rw (
+      first_key-plain,
+      tied (column a at) (column b at) pa.0 qa.0 parts.0,
+      tied_agree ps a b pa.1 qa.1 rest,
+    ) refl
 
 -- ---- lists in order
 
-pub ascending_among : {X : Type 0} (R Q : X → X → Type 0) (xs : List X) → ((a b : X) → Has xs a → Has xs b → R a b → Q a b) → IsAscending R xs → IsAscending Q xs
+pub ascending_among : {X : Type 0} (R Q : X → X → Type 0) (xs : List X)
+    → ((a b : X) → Has xs a → Has xs b → R a b → Q a b) → IsAscending R xs → IsAscending Q xs
 ascending_among R Q [] turn up = tt
-ascending_among {X} R Q (x ∷ xs) turn up = (all xs (λ b there. there) up.0, ascending_among R Q xs (λ a b ha hb. turn a b (inr ha) (inr hb)) up.1)
+ascending_among {X} R Q (x ∷ xs) turn up = (
+  all xs (λ b there. there) up.0,
+  ascending_among R Q xs (λ a b ha hb. turn a b (inr ha) (inr hb)) up.1,
+)
   where
-    all : (ys : List X) → ((b : X) → Has ys b → Has xs b) → AllByRecursion (R x) ys → AllByRecursion (Q x) ys
+    all : (ys : List X) → ((b : X) → Has ys b → Has xs b) → AllByRecursion (R x) ys
+        → AllByRecursion (Q x) ys
     all [] there h = tt
-    all (y ∷ ys) there h = (turn x y (inl refl) (inr (there y (inl refl))) h.0, all ys (λ b hb. there b (inr hb)) h.1)
+    all (y ∷ ys) there h = (
+      turn x y (inl refl) (inr (there y (inl refl))) h.0,
+      all ys (λ b hb. there b (inr hb)) h.1,
+    )
 
-pub sorted_from : {X : Type 0} (cmp : X → X → Ordering) (xs : List X) → IsAscending (λ a b. is_lt (cmp b a) ≡ false) xs → IsSorted cmp xs
+pub sorted_from : {X : Type 0} (cmp : X → X → Ordering) (xs : List X)
+    → IsAscending (λ a b. is_lt (cmp b a) ≡ false) xs → IsSorted cmp xs
 sorted_from cmp [] up = λ k d p q. absurd (omega (arith, q))
 sorted_from cmp (x ∷ []) up = λ k d p q. absurd (omega (arith, q))
 sorted_from {X} cmp (x ∷ y ∷ xs) up = go (sorted_from cmp (y ∷ xs) up.1)
@@ -111,13 +131,18 @@ in_had x [] h = h
 in_had x (y ∷ ys) (inl e) = inl (sym e)
 in_had x (y ∷ ys) (inr h) = inr (in_had x ys h)
 
-pub ascends : {X : Type 0} (below : X → X → Bool) (xs : List X) → Ascends below xs → IsAscending (λ a b. below b a ≡ false) xs
+pub ascends : {X : Type 0} (below : X → X → Bool) (xs : List X) → Ascends below xs
+    → IsAscending (λ a b. below b a ≡ false) xs
 ascends below [] up = tt
 ascends {X} below (x ∷ xs) up = (all xs (λ y there. there), ascends below xs up.1)
   where
-    all : (ys : List X) → ((y : X) → Has ys y → Has xs y) → AllByRecursion (λ b. below b x ≡ false) ys
+    all : (ys : List X) → ((y : X) → Has ys y → Has xs y)
+        → AllByRecursion (λ b. below b x ≡ false) ys
     all [] there = tt
-    all (y ∷ ys) there = (up.0 y (in_had y xs (there y (inl refl))), all ys (λ z h. there z (inr h)))
+    all (y ∷ ys) there = (
+      up.0 y (in_had y xs (there y (inl refl))),
+      all ys (λ z h. there z (inr h)),
+    )
 
 -- ---- the stored rows
 
@@ -126,17 +151,22 @@ false_or true h = absurd (h refl)
 false_or false h = refl
 
 -- no two rows of a table tie by a key that is declared unique
-pub apart_by : (ps : List ℕ) (stored : List Row) → IsTable stored → AllByRecursion (λ r. is_int (rowid r) ≡ true) stored → AllByRecursion (λ r. are_keys ps r ≡ true) stored
-    → ((row : Row) → Has stored row → clashes plain ps stored row ≡ false) → IsAscending (λ a b. is_eq (key_cmp 0 (keys ps) (picked ps a) (picked ps b)) ≡ false) stored
+pub apart_by : (ps : List ℕ) (stored : List Row) → IsTable stored
+    → AllByRecursion (λ r. is_int (rowid r) ≡ true) stored
+    → AllByRecursion (λ r. are_keys ps r ≡ true) stored
+    → ((row : Row) → Has stored row → clashes plain ps stored row ≡ false)
+    → IsAscending (λ a b. is_eq (key_cmp 0 (keys ps) (picked ps a) (picked ps b)) ≡ false) stored
 apart_by ps stored rising ints are unique = ascending_among _ _ stored two rising
   where
-    two : (a b : Row) → Has stored a → Has stored b → value_cmp (rowid a) (rowid b) ≡ Less → is_eq (key_cmp 0 (keys ps) (picked ps a) (picked ps b)) ≡ false
+    two : (a b : Row) → Has stored a → Has stored b → value_cmp (rowid a) (rowid b) ≡ Less
+        → is_eq (key_cmp 0 (keys ps) (picked ps a) (picked ps b)) ≡ false
     two a b ha hb less = false_or _ (λ same.
         let ia = all_has _ stored a ints ha in
         let ib = all_has _ stored b ints hb in
         let ka = all_has _ stored a are ha in
         let kb = all_has _ stored b are hb in
-        let both : (agree plain ps a ps b && differ (rowid a) (rowid b)) ≡ true = rw (tied_agree ps a b ka kb same, below_differ (rowid a) (rowid b) ia ib less) refl in
+        let both : (agree plain ps a ps b && differ (rowid a) (rowid b)) ≡ true =
+        rw (tied_agree ps a b ka kb same, below_differ (rowid a) (rowid b) ia ib less) refl in
         true≢false (sym (some_from _ stored a ha both) ∙ unique b hb))
 
 below_apart : (o : Ordering) → o ≡ Less → is_eq (ordering_then o Equal) ≡ false
@@ -145,5 +175,8 @@ below_apart Equal h = absurd (cc)
 below_apart Greater h = absurd (cc)
 
 -- nor by their rowids
-pub apart_by_rowid : (stored : List Row) → IsTable stored → IsAscending (λ a b. is_eq (key_cmp 0 (keys (0 ∷ [])) (picked (0 ∷ []) a) (picked (0 ∷ []) b)) ≡ false) stored
-apart_by_rowid stored rising = ascending_among _ _ stored (λ a b ha hb less. below_apart _ less) rising
+pub apart_by_rowid : (stored : List Row) → IsTable stored
+    → IsAscending (λ a b. is_eq (key_cmp 0 (keys (0 ∷ [])) (picked (0 ∷ []) a) (picked (0 ∷ []) b))
+    ≡ false) stored
+apart_by_rowid stored rising = ascending_among _ _ stored (λ a b ha hb less. below_apart _ less)
+    rising

@@ -54,38 +54,65 @@ pub record View (X : Type 0) : Type 0 where
 
 -- no two of its rows have the same key
 abbrev pub StandApart : {X : Type 0} → View X → List ℕ → Type 1
-StandApart view ps = (t : Tables) (old : State) → Holds t old.now → AreApart ps (old.now.trees view.table.tree)
+StandApart view ps = (t : Tables) (old : State) → Holds t old.now
+    → AreApart ps (old.now.trees view.table.tree)
 
 apart_by_rowid : {X : Type 0} (view : View X) → StandApart view (0 ∷ [])
 apart_by_rowid view t old holds =
     let this = view.table in
-    by_rowid this.name this.tree this.columns this.key this.primary this.uniques this.orders view.place view.listed
+    by_rowid this.name this.tree this.columns this.key this.primary this.uniques this.orders
+    view.place view.listed
     view.cells_of (rows_of t) (view.held t) (view.here t) old.now holds.rows
 
 -- by a key that is declared unique, which is in these columns of the cells
-apart_by_key : {X : Type 0} (view : View X) (nth : ℕ) (ps at : List ℕ) → slice_get view.table.uniques nth ≡ Some ps
+apart_by_key : {X : Type 0} (view : View X) (nth : ℕ) (ps at : List ℕ)
+    → slice_get view.table.uniques nth ≡ Some ps
     → get_or view.table.orders nth plain ≡ plain
     → ((r : Row) → are_keys ps r ≡ are_keys at (cells (as_declared view.table) r))
     → ((x : X) → are_keys at (view.cells_of x) ≡ true) → StandApart view ps
 apart_by_key view nth ps at unique order keyed are t old holds =
     let this = view.table in
-    by_unique this.name this.tree this.columns this.key this.primary this.uniques this.orders view.place view.listed
-    view.cells_of (rows_of t) (view.held t) (view.here t) old.now holds.rows nth ps unique order (are_keys at) keyed are
+    by_unique this.name this.tree this.columns this.key this.primary this.uniques this.orders
+    view.place view.listed
+    view.cells_of (rows_of t) (view.held t) (view.here t) old.now holds.rows nth ps unique order
+    (are_keys at) keyed are
 
 abbrev pub catalogue_view : View CatalogueRow
-catalogue_view = record { table = d.catalogue_table; place = 1; listed = refl; cells_of = catalogue_cells; held = λ t. t.catalogue; here = λ t. refl }
+catalogue_view = record {
+  table = d.catalogue_table;
+  place = 1;
+  listed = refl;
+  cells_of = catalogue_cells;
+  held = λ t. t.catalogue;
+  here = λ t. refl;
+}
 
 pub catalogue_apart : StandApart catalogue_view (0 ∷ [])
 catalogue_apart = apart_by_rowid catalogue_view
 
 abbrev pub rule_view : View RuleRow
-rule_view = record { table = d.rule_table; place = 2; listed = refl; cells_of = rule_cells; held = λ t. t.rule; here = λ t. refl }
+rule_view = record {
+  table = d.rule_table;
+  place = 2;
+  listed = refl;
+  cells_of = rule_cells;
+  held = λ t. t.rule;
+  here = λ t. refl;
+}
 
 pub rule_apart : StandApart rule_view (1 ∷ 2 ∷ 3 ∷ [])
-rule_apart = apart_by_key rule_view 0 (1 ∷ 2 ∷ 3 ∷ []) (0 ∷ 1 ∷ 2 ∷ []) refl refl (λ r. refl) (λ x. refl)
+rule_apart = apart_by_key rule_view 0 (1 ∷ 2 ∷ 3 ∷ []) (0 ∷ 1 ∷ 2 ∷ []) refl refl (λ r. refl)
+    (λ x. refl)
 
 abbrev pub document_view : View DocumentRow
-document_view = record { table = d.document_table; place = 3; listed = refl; cells_of = document_cells; held = λ t. t.document; here = λ t. refl }
+document_view = record {
+  table = d.document_table;
+  place = 3;
+  listed = refl;
+  cells_of = document_cells;
+  held = λ t. t.document;
+  here = λ t. refl;
+}
 
 pub document_apart : StandApart document_view (0 ∷ [])
 document_apart = apart_by_rowid document_view
@@ -95,73 +122,166 @@ pub namespace_apart : StandApart document_view (2 ∷ [])
 namespace_apart = apart_by_key document_view 0 (2 ∷ []) (1 ∷ []) refl refl (λ r. refl) (λ x. refl)
 
 abbrev pub reading_view : View DocumentRow
-reading_view = record { table = d.reading_table; place = 14; listed = refl; cells_of = reading_cells; held = λ t. t.document; here = λ t. refl }
+reading_view = record {
+  table = d.reading_table;
+  place = 14;
+  listed = refl;
+  cells_of = reading_cells;
+  held = λ t. t.document;
+  here = λ t. refl;
+}
 
 pub reading_apart : StandApart reading_view (0 ∷ [])
 reading_apart = apart_by_rowid reading_view
 
 abbrev pub package_view : View PackageRow
-package_view = record { table = d.package_table; place = 4; listed = refl; cells_of = package_cells; held = λ t. t.packages; here = λ t. refl }
+package_view = record {
+  table = d.package_table;
+  place = 4;
+  listed = refl;
+  cells_of = package_cells;
+  held = λ t. t.packages;
+  here = λ t. refl;
+}
 
 pub package_apart : StandApart package_view (1 ∷ 2 ∷ [])
-package_apart = apart_by_key package_view 0 (1 ∷ 2 ∷ []) (0 ∷ 1 ∷ []) refl refl (λ r. refl) (λ x. refl)
+package_apart = apart_by_key package_view 0 (1 ∷ 2 ∷ []) (0 ∷ 1 ∷ []) refl refl (λ r. refl)
+    (λ x. refl)
 
 abbrev pub extracted_view : View ExtractedRow
-extracted_view = record { table = d.extracted_table; place = 5; listed = refl; cells_of = extracted_cells; held = λ t. t.extracted; here = λ t. refl }
+extracted_view = record {
+  table = d.extracted_table;
+  place = 5;
+  listed = refl;
+  cells_of = extracted_cells;
+  held = λ t. t.extracted;
+  here = λ t. refl;
+}
 
 pub extracted_apart : StandApart extracted_view (1 ∷ 2 ∷ [])
-extracted_apart = apart_by_key extracted_view 0 (1 ∷ 2 ∷ []) (0 ∷ 1 ∷ []) refl refl (λ r. refl) (λ x. refl)
+extracted_apart = apart_by_key extracted_view 0 (1 ∷ 2 ∷ []) (0 ∷ 1 ∷ []) refl refl (λ r. refl)
+    (λ x. refl)
 
 abbrev pub conclusion_view : View ConclusionRow
-conclusion_view = record { table = d.conclusion_table; place = 6; listed = refl; cells_of = conclusion_cells; held = λ t. t.conclusion; here = λ t. refl }
+conclusion_view = record {
+  table = d.conclusion_table;
+  place = 6;
+  listed = refl;
+  cells_of = conclusion_cells;
+  held = λ t. t.conclusion;
+  here = λ t. refl;
+}
 
 pub conclusion_apart : StandApart conclusion_view (1 ∷ 2 ∷ [])
-conclusion_apart = apart_by_key conclusion_view 0 (1 ∷ 2 ∷ []) (0 ∷ 1 ∷ []) refl refl (λ r. refl) (λ x. refl)
+conclusion_apart = apart_by_key conclusion_view 0 (1 ∷ 2 ∷ []) (0 ∷ 1 ∷ []) refl refl (λ r. refl)
+    (λ x. refl)
 
 abbrev pub adoption_view : View AdoptionRow
-adoption_view = record { table = d.adoption_table; place = 7; listed = refl; cells_of = adoption_cells; held = λ t. t.adoption; here = λ t. refl }
+adoption_view = record {
+  table = d.adoption_table;
+  place = 7;
+  listed = refl;
+  cells_of = adoption_cells;
+  held = λ t. t.adoption;
+  here = λ t. refl;
+}
 
 pub adoption_apart : StandApart adoption_view (1 ∷ 2 ∷ [])
-adoption_apart = apart_by_key adoption_view 0 (1 ∷ 2 ∷ []) (0 ∷ 1 ∷ []) refl refl (λ r. refl) (λ x. refl)
+adoption_apart = apart_by_key adoption_view 0 (1 ∷ 2 ∷ []) (0 ∷ 1 ∷ []) refl refl (λ r. refl)
+    (λ x. refl)
 
 abbrev pub release_view : View ReleaseRow
-release_view = record { table = d.releases_table; place = 8; listed = refl; cells_of = release_cells; held = λ t. t.releases; here = λ t. refl }
+release_view = record {
+  table = d.releases_table;
+  place = 8;
+  listed = refl;
+  cells_of = release_cells;
+  held = λ t. t.releases;
+  here = λ t. refl;
+}
 
 pub release_apart : StandApart release_view (1 ∷ [])
 release_apart = apart_by_key release_view 1 (1 ∷ []) (0 ∷ []) refl refl (λ r. refl) (λ x. refl)
 
 abbrev pub attached_view : View AttachedRow
-attached_view = record { table = d.attached_table; place = 9; listed = refl; cells_of = attached_cells; held = λ t. t.attached; here = λ t. refl }
+attached_view = record {
+  table = d.attached_table;
+  place = 9;
+  listed = refl;
+  cells_of = attached_cells;
+  held = λ t. t.attached;
+  here = λ t. refl;
+}
 
 pub attached_apart : StandApart attached_view (1 ∷ 2 ∷ [])
-attached_apart = apart_by_key attached_view 0 (1 ∷ 2 ∷ []) (0 ∷ 1 ∷ []) refl refl (λ r. refl) (λ x. refl)
+attached_apart = apart_by_key attached_view 0 (1 ∷ 2 ∷ []) (0 ∷ 1 ∷ []) refl refl (λ r. refl)
+    (λ x. refl)
 
 abbrev pub choice_view : View ChoiceRow
-choice_view = record { table = d.choice_table; place = 10; listed = refl; cells_of = choice_cells; held = λ t. t.choice; here = λ t. refl }
+choice_view = record {
+  table = d.choice_table;
+  place = 10;
+  listed = refl;
+  cells_of = choice_cells;
+  held = λ t. t.choice;
+  here = λ t. refl;
+}
 
 pub choice_apart : StandApart choice_view (1 ∷ 2 ∷ 3 ∷ 4 ∷ [])
-choice_apart = apart_by_key choice_view 0 (1 ∷ 2 ∷ 3 ∷ 4 ∷ []) (0 ∷ 1 ∷ 2 ∷ 3 ∷ []) refl refl (λ r. refl) (λ x. refl)
+choice_apart = apart_by_key choice_view 0 (1 ∷ 2 ∷ 3 ∷ 4 ∷ []) (0 ∷ 1 ∷ 2 ∷ 3 ∷ []) refl refl
+    (λ r. refl) (λ x. refl)
 
 abbrev pub frozen_view : View FrozenRow
-frozen_view = record { table = d.frozen_table; place = 11; listed = refl; cells_of = frozen_cells; held = λ t. t.frozen; here = λ t. refl }
+frozen_view = record {
+  table = d.frozen_table;
+  place = 11;
+  listed = refl;
+  cells_of = frozen_cells;
+  held = λ t. t.frozen;
+  here = λ t. refl;
+}
 
 pub frozen_apart : StandApart frozen_view (1 ∷ 2 ∷ 3 ∷ 4 ∷ [])
-frozen_apart = apart_by_key frozen_view 0 (1 ∷ 2 ∷ 3 ∷ 4 ∷ []) (0 ∷ 1 ∷ 2 ∷ 3 ∷ []) refl refl (λ r. refl) (λ x. refl)
+frozen_apart = apart_by_key frozen_view 0 (1 ∷ 2 ∷ 3 ∷ 4 ∷ []) (0 ∷ 1 ∷ 2 ∷ 3 ∷ []) refl refl
+    (λ r. refl) (λ x. refl)
 
 abbrev pub duty_view : View DutyRow
-duty_view = record { table = d.duty_table; place = 12; listed = refl; cells_of = duty_cells; held = λ t. t.duty; here = λ t. refl }
+duty_view = record {
+  table = d.duty_table;
+  place = 12;
+  listed = refl;
+  cells_of = duty_cells;
+  held = λ t. t.duty;
+  here = λ t. refl;
+}
 
 pub duty_apart : StandApart duty_view (0 ∷ [])
 duty_apart = apart_by_rowid duty_view
 
 abbrev pub change_view : View ChangeRow
-change_view = record { table = d.change_table; place = 13; listed = refl; cells_of = change_cells; held = λ t. t.changes; here = λ t. refl }
+change_view = record {
+  table = d.change_table;
+  place = 13;
+  listed = refl;
+  cells_of = change_cells;
+  held = λ t. t.changes;
+  here = λ t. refl;
+}
 
 pub change_apart : StandApart change_view (1 ∷ 2 ∷ [])
-change_apart = apart_by_key change_view 0 (1 ∷ 2 ∷ []) (0 ∷ 1 ∷ []) refl refl (λ r. refl) (λ x. refl)
+change_apart = apart_by_key change_view 0 (1 ∷ 2 ∷ []) (0 ∷ 1 ∷ []) refl refl (λ r. refl)
+    (λ x. refl)
 
 abbrev pub waiver_view : View ChangeRow
-waiver_view = record { table = d.waiver_table; place = 15; listed = refl; cells_of = waiver_cells; held = λ t. filter is_waiver t.changes; here = λ t. refl }
+waiver_view = record {
+  table = d.waiver_table;
+  place = 15;
+  listed = refl;
+  cells_of = waiver_cells;
+  held = λ t. filter is_waiver t.changes;
+  here = λ t. refl;
+}
 
 pub waiver_apart : StandApart waiver_view (1 ∷ 2 ∷ [])
-waiver_apart = apart_by_key waiver_view 0 (1 ∷ 2 ∷ []) (0 ∷ 1 ∷ []) refl refl (λ r. refl) (λ x. refl)
+waiver_apart = apart_by_key waiver_view 0 (1 ∷ 2 ∷ []) (0 ∷ 1 ∷ []) refl refl (λ r. refl)
+    (λ x. refl)

@@ -1,5 +1,6 @@
 -- When a look-up fails.
-use Rattle.std.specs.Prelude.{◌≡◌, ◌⊎◌, ◌<◌, ◌^◌, ℕ, pos, negsuc, true, false, nat_le, List, [], length, None, IfSome, IsTrue, IsUtf8, Ok}
+use Rattle.std.specs.Prelude.{◌≡◌, ◌⊎◌, ◌<◌, ◌^◌, ℕ, pos, negsuc, true, false, nat_le, List, []}
+use Rattle.std.specs.Prelude.{length, None, IfSome, IsTrue, IsUtf8, Ok}
 use Rattle.std.specs.List.{AllByRecursion}
 use Rattle.sqlite_value.specs.declared.value.Value.{Value}
 use Rattle.sqlite_value.specs.declared.value.Value.TheVariants.{Null, Int, Real, Text, Blob}
@@ -49,16 +50,19 @@ pub record AreWritten (t : Tables) : Type 0 where
   pub days : AllByRecursion HasDay t.changes
   pub last_days : AllByRecursion HasLastDay t.changes
 
--- If the rows are as a desk writes them, and the steps of a query have no limit, a look-up fails only if no
--- memory is left, or with a fault of the database if the disk failed once more. `Is` is what its caller says
--- of the tables.
+-- If the rows are as a desk writes them, and the steps of a query have no limit, a look-up fails
+-- only if no memory is left, or with a fault of the database if the disk failed once more. `Is` is
+-- what its caller says of the tables.
 pub record HasCauseIf (Is : Tables → Type 0) (old new : State) (fault : Fault) : Type 0 where
-  pub cause : HasCleanDisk new → IsTrue old.is_open → old.step_limit ≡ None → (t : Tables) → (seen_of old).holds t → AreWritten t → Is t → (fault ≡ Memory) ⊎ ((fault ≡ Store DatabaseFault) × MoreFaults old.faults new.faults)
+  pub cause : HasCleanDisk new → IsTrue old.is_open → old.step_limit ≡ None → (t : Tables)
+      → (seen_of old).holds t → AreWritten t → Is t
+      → (fault ≡ Memory) ⊎ ((fault ≡ Store DatabaseFault) × MoreFaults old.faults new.faults)
 
 abbrev pub HasCause : State → State → Fault → Type 0
 HasCause = HasCauseIf (λ t. Unit {0})
 
--- a query of the desk's tables that is one statement, has as many parameters as are given, and is never refused for a value
+-- a query of the desk's tables that is one statement, has as many parameters as are given, and is
+-- never refused for a value
 pub record IsAsked (sql : List ℕ) (params : Row) : Type 0 where
   pub compiled : Compiled
   pub is : understood desk_schema sql ≡ Ok compiled
@@ -69,4 +73,5 @@ pub record IsAsked (sql : List ℕ) (params : Row) : Type 0 where
   pub unlisted : reads_listing desk_schema sql ≡ false
   pub whole : nat_le (length sql) compiled.tail ≡ true
   pub given : length params ≡ length compiled.names
-  pub answers : (db : Database) (e : Error) → db.schema ≡ desk_schema → ¬ RefusesToRead None compiled.command db params e
+  pub answers : (db : Database) (e : Error) → db.schema ≡ desk_schema
+      → ¬ RefusesToRead None compiled.command db params e

@@ -10,13 +10,16 @@ use Rattle.desk_sql_layout.specs.Held.{seen_of}
 use Rattle.desk_sql_layout.specs.Layout.{desk_schema}
 use Rattle.desk_sql_lookup.specs.Causes.{HasCauseIf}
 
--- A look-up over a connection. `Is` says what was found of the tables, and `Given` what its caller says of them.
-pub record LooksUpGiven {S A : Type 0} (g : Ghosts S) (Given : Tables → Type 0) (old new : Held S) (result : Result A Fault) (Is : A → Tables → Type 0) : Type 0 where
+-- A look-up over a connection. `Is` says what was found of the tables, and `Given` what its caller
+-- says of them.
+pub record LooksUpGiven {S A : Type 0} (g : Ghosts S) (Given : Tables → Type 0) (old new : Held S)
+    (result : Result A Fault) (Is : A → Tables → Type 0) : Type 0 where
   -- what was found is true of the rows
   pub found : IfOk result (λ x. OfRows (Is x) (seen_of (state g old)) (seen_of (state g new)))
   pub kept : Looked (seen_of (state g old)) (seen_of (state g new)) result
   -- an answer leaves everything as it was
-  pub unchanged : OnOk result (HasCleanDisk (state g new) → IsTrue (state g old).is_open → old.schema ≡ desk_schema → IsUnchanged (state g old) (state g new))
+  pub unchanged : OnOk result (HasCleanDisk (state g new) → IsTrue (state g old).is_open
+      → old.schema ≡ desk_schema → IsUnchanged (state g old) (state g new))
   pub cause : IfErr result (HasCauseIf Given (state g old) (state g new))
   -- no limit is set on the steps of a query
   pub limit : new.step_limit ≡ old.step_limit
@@ -24,9 +27,11 @@ pub record LooksUpGiven {S A : Type 0} (g : Ghosts S) (Given : Tables → Type 0
   pub mode : old.in_transaction ≡ false → new.in_transaction ≡ false
 
 -- a look-up that relies on nothing but the rows
-abbrev pub LooksUp : {S A : Type 0} → Ghosts S → Held S → Held S → Result A Fault → (A → Tables → Type 0) → Type 0
+abbrev pub LooksUp : {S A : Type 0} → Ghosts S → Held S → Held S → Result A Fault
+    → (A → Tables → Type 0) → Type 0
 LooksUp g = LooksUpGiven g (λ t. Unit {0})
 
 -- a look-up that finds what it does, and fails only for a cause, if something is true of the tables
-abbrev pub LooksUpIf : {S A : Type 0} → Ghosts S → (Tables → Type 0) → Held S → Held S → Result A Fault → (A → Tables → Type 0) → Type 0
+abbrev pub LooksUpIf : {S A : Type 0} → Ghosts S → (Tables → Type 0) → Held S → Held S
+    → Result A Fault → (A → Tables → Type 0) → Type 0
 LooksUpIf g Given old new result Is = LooksUpGiven g Given old new result (λ x t. Given t → Is x t)

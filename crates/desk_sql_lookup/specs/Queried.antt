@@ -14,24 +14,27 @@ use Rattle.desk_sql_layout.specs.Layout.{desk_schema}
 use Rattle.desk_sql_lookup.specs.Causes.{HasCauseIf, IsAsked}
 use Rattle.desk_sql_lookup.specs.Streamed.{CanBeRead, ShowsTold}
 
--- A query that changes nothing. `Shows` says what an answer shows of it, and `If` what has to be true of the
--- tables for it to fail only for a cause.
+-- A query that changes nothing. `Shows` says what an answer shows of it, and `If` what has to be
+-- true of the tables for it to fail only for a cause.
 pub record Queries {S V : Type 0} (g : Ghosts S) (sql : List ℕ) (params : Row) (old new : Held S)
     (result : Result V Fault) (Shows : V → Type 0) (If : Tables → Type 0) : Type 0 where
   pub ok : IsPlain (understood desk_schema sql) → IfOk result (λ value.
-      Same (seen_of (state g old)) (seen_of (state g new)) × (HasCleanDisk (state g new) → Shows value))
+      Same (seen_of (state g old)) (seen_of (state g new))
+      × (HasCleanDisk (state g new) → Shows value))
   pub err : IsPlain (understood desk_schema sql)
       → OnErr result (Kept (seen_of (state g old)) (seen_of (state g new)))
   pub cause : IsAsked sql params → IfErr result (HasCauseIf If (state g old) (state g new))
   pub limit : new.step_limit ≡ old.step_limit
   pub mode : old.in_transaction ≡ false → new.in_transaction ≡ false
 
--- Its rows are read, if they are of a desk's tables: `Told` says what was read, by the values whose cells
--- they are.
-abbrev pub ReadsQuery : {S T V : Type 0} → Ghosts S → (T → Row) → (T → Type 0) → (V → List T → Type 0) → List ℕ → Row
+-- Its rows are read, if they are of a desk's tables: `Told` says what was read, by the values whose
+-- cells they are.
+abbrev pub ReadsQuery : {S T V : Type 0} → Ghosts S → (T → Row) → (T → Type 0)
+    → (V → List T → Type 0) → List ℕ → Row
     → Held S → Held S → Result V Fault → Type 0
 ReadsQuery g cells has_days Told sql params old new result =
     Queries g sql params old new result
     (λ value. IsTrue (state g old).is_open
-    × (old.schema ≡ desk_schema → ShowsTold cells Told sql params (state g old) (state g new) value))
+    × (old.schema ≡ desk_schema → ShowsTold cells Told sql params (state g old) (state g new)
+    value))
     (CanBeRead cells has_days sql params (state g old) (state g new))

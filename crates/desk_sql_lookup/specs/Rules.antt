@@ -7,7 +7,8 @@ use Rattle.desk_model.specs.declared.row.RuleRow.{RuleRow}
 
 -- the rule of a revision for a term and a form
 abbrev pub is_rule_at : ℕ → List ℕ → List ℕ → RuleRow → Bool
-is_rule_at revision term form row = (row.revision == revision) && (bytes_eq row.term term && bytes_eq row.form form)
+is_rule_at revision term form row = (row.revision == revision)
+    && (bytes_eq row.term term && bytes_eq row.form form)
 
 -- the codes of rules are words
 abbrev pub are_words : List RuleRow → Bool

@@ -18,7 +18,11 @@ state_row row = record { number = row.number; state = row.state }
 
 -- the standing of a duty, by its number and state
 abbrev pub standing_by : Tables → StateRow → Standing
-standing_by t row = record { number = row.number; state = row.state; steps = steps_found t row.number }
+standing_by t row = record {
+  number = row.number;
+  state = row.state;
+  steps = steps_found t row.number;
+}
 
 -- a duty is in the state with this name
 abbrev pub stands_at : List ℕ → DutyRow → Bool
@@ -26,11 +30,13 @@ stands_at state row = bytes_eq (duty_state_name row.state) state
 
 -- the last of some changes is a waiver whose last day is before this one
 abbrev pub has_end_before : List ℕ → List ChangeRow → Bool
-has_end_before day changes = option_map_or (λ last. is_before last day) (option_and_then (λ change. change.last_day) (last_or None changes)) false
+has_end_before day changes = option_map_or (λ last. is_before last day)
+    (option_and_then (λ change. change.last_day) (last_or None changes)) false
 
 -- the standing of a duty, if this is true of its changes
 abbrev pub ended_standing : Tables → List ℕ → DutyRow → Option Standing
-ended_standing t day row = if has_end_before day (filter (is_change_of row.number) t.changes) then Some (standing_found t row) else None
+ended_standing t day row = if has_end_before day (filter (is_change_of row.number) t.changes)
+    then Some (standing_found t row) else None
 
 -- a list, and after it an item if there is one
 abbrev pub and_some : List Standing → Option Standing → List Standing

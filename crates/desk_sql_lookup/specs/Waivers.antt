@@ -1,5 +1,6 @@
 -- The last days of waivers, which are in a table apart from the changes of a duty.
-use Rattle.std.specs.Prelude.{◌≡◌, ◌==◌, ℕ, false, if◌then◌else◌, List, [], ◌∷◌, map, filter, Option, Some, None, IsTrue, unwrap_or}
+use Rattle.std.specs.Prelude.{◌≡◌, ◌==◌, ℕ, false, if◌then◌else◌, List, [], ◌∷◌, map, filter}
+use Rattle.std.specs.Prelude.{Option, Some, None, IsTrue, unwrap_or}
 use Rattle.sqlite_value.specs.Order.{Row}
 use Rattle.sqlite_value.specs.declared.value.Value.TheVariants.{Text}
 use Rattle.sqlite_trees.specs.Tree.{IsAscending}
@@ -33,4 +34,5 @@ day_cells row = Text row.day ∷ []
 -- the last day of a step's waiver, if that is the first of these, and the waivers that are left
 abbrev pub taken : ℕ → List Waiver → Option (List ℕ) × List Waiver
 taken step [] = (None, [])
-taken step (waiver ∷ waivers) = if waiver.step == step then (Some waiver.last_day, waivers) else (None, waiver ∷ waivers)
+taken step (waiver ∷ waivers) = if waiver.step == step then (Some waiver.last_day, waivers)
+    else (None, waiver ∷ waivers)

@@ -17,7 +17,9 @@ use Rattle.desk_sql_adopt.specs.declared.older.OlderContent.TheVariants as conte
 use Rattle.desk_sql_adopt.proofs.Spared.{clean_before, spared_then}
 use Rattle.desk_snapshot.specs.declared.fault.AuditReport.{AuditReport}
 use Rattle.desk_snapshot.specs.declared.fault.AuditReport.TheVariants.{Sound, Unsound}
-use Rattle.desk_sql_migrate.specs.Migrating.{Ends, IsLeft, IsReason, IsReportOn, IsUndone, Leaves, LeavesMigrated, LeavesSome, Migrated, Prepared, outcome_of}
+use Rattle.desk_sql_migrate.specs.Migrating.{Ends, IsLeft, IsReason, IsReportOn, IsUndone, Leaves}
+use Rattle.desk_sql_migrate.specs.Migrating.{LeavesMigrated, LeavesSome, Migrated, Prepared}
+use Rattle.desk_sql_migrate.specs.Migrating.{outcome_of}
 use Rattle.desk_sql_migrate.specs.Steps.{Becomes}
 use Rattle.desk_sql_migrate.specs.declared.fault.MigrateFault.{MigrateFault}
 
@@ -36,45 +38,63 @@ weaker P a b it = record {
     one x (inr none) = absurd none
 
 pub undone_by : (P : Trees → Type 0) (a b : State) → IsSpared a b → IsUndone P a b
-undone_by P a b it = record { survives = weaker P a b it.survives; was_open = it.was_open; now = it.now; committed = it.committed }
+undone_by P a b it = record {
+  survives = weaker P a b it.survives;
+  was_open = it.was_open;
+  now = it.now;
+  committed = it.committed;
+}
 
 -- after a fault that is returned
-pub err_leaves : (version : OlderVersion) (a b : State) (r : Result AuditReport Fault) → IsErr r → IsSpared a b → Leaves version a b r
+pub err_leaves : (version : OlderVersion) (a b : State) (r : Result AuditReport Fault) → IsErr r
+    → IsSpared a b → Leaves version a b r
 err_leaves version a b (Ok x) is it = absurd (cc)
 err_leaves version a b (Err e) is it = undone_by (LeavesMigrated version a) a b it
 
-clean_first : (version : OlderVersion) (b c : State) (r : Result AuditReport Fault) → Leaves version b c r → HasCleanDisk c → HasCleanDisk b
+clean_first : (version : OlderVersion) (b c : State) (r : Result AuditReport Fault)
+    → Leaves version b c r → HasCleanDisk c → HasCleanDisk b
 clean_first version b c (Ok Sound) it clean = clean_before b c (LeavesMigrated version b) it clean
 clean_first version b c (Ok (Unsound f)) it clean = clean_before b c (λ _. ⊥) it.survives clean
-clean_first version b c (Err f) it clean = clean_before b c (LeavesMigrated version b) it.survives clean
+clean_first version b c (Err f) it clean = clean_before b c (LeavesMigrated version b) it.survives
+    clean
 
-module _ (old last final : State) (settled : IsTrue old.is_open → old.now ≡ old.committed) (first : Survives old last (λ _. ⊥)) (kept : HasCleanDisk last → KeepsCommit old last) where
+module _ (old last final : State) (settled : IsTrue old.is_open → old.now ≡ old.committed)
+    (first : Survives old last (λ _. ⊥)) (kept : HasCleanDisk last → KeepsCommit old last) where
   back : HasCleanDisk last → IsRolledBack last final → IsTrue final.is_open → IsTrue old.is_open
   back clean undone is = (kept clean).was_open (undone.was_open is)
 
-  now_back : (clean : HasCleanDisk last) (undone : IsRolledBack last final) → IsTrue final.is_open → final.now ≡ old.now
-  now_back clean undone is = (undone.undone is).0 ∙ (kept clean).committed (undone.was_open is) ∙ sym (settled (back clean undone is))
+  now_back : (clean : HasCleanDisk last) (undone : IsRolledBack last final) → IsTrue final.is_open
+      → final.now ≡ old.now
+  now_back clean undone is = (undone.undone is).0 ∙ (kept clean).committed (undone.was_open is)
+      ∙ sym (settled (back clean undone is))
 
-  committed_back : (clean : HasCleanDisk last) (undone : IsRolledBack last final) → IsTrue final.is_open → final.committed ≡ old.committed
-  committed_back clean undone is = (undone.undone is).1 ∙ (kept clean).committed (undone.was_open is)
+  committed_back : (clean : HasCleanDisk last) (undone : IsRolledBack last final)
+      → IsTrue final.is_open → final.committed ≡ old.committed
+  committed_back clean undone is = (undone.undone is).1
+      ∙ (kept clean).committed (undone.was_open is)
 
   -- the transaction was dropped
-  pub dropped : Survives last final (λ _. ⊥) → (HasCleanDisk final → IsRolledBack last final) → IsSpared old final
+  pub dropped : Survives last final (λ _. ⊥) → (HasCleanDisk final → IsRolledBack last final)
+      → IsSpared old final
   dropped next undone =
       let before = clean_before last final (λ _. ⊥) next in
       record {
-        survives = survives_then old last final (λ _. ⊥) (λ _. ⊥) (λ _. ⊥) (λ _ db none. none) (λ _ db none. none) first next;
+        survives = survives_then old last final (λ _. ⊥) (λ _. ⊥) (λ _. ⊥) (λ _ db none. none)
+            (λ _ db none. none) first next;
         was_open = λ clean is. back (before clean) (undone clean) is;
         now = λ clean is. now_back (before clean) (undone clean) is;
         committed = λ clean is. committed_back (before clean) (undone clean) is;
       }
 
-  module _ (version : OlderVersion) (told : AuditReport) (prepared : HasCleanDisk last → Prepared version told old last) (next : Survives last final (λ db. db ≡ last.now.trees)) where
+  module _ (version : OlderVersion) (told : AuditReport)
+      (prepared : HasCleanDisk last → Prepared version told old last)
+      (next : Survives last final (λ db. db ≡ last.now.trees)) where
     before : HasCleanDisk final → HasCleanDisk last
     before = clean_before last final (λ db. db ≡ last.now.trees) next
 
     pub left_committed : (told ≡ Sound) → Survives old final (LeavesMigrated version old)
-    left_committed is = survives_then old last final (λ _. ⊥) (λ db. db ≡ last.now.trees) (LeavesMigrated version old) (λ _ db none. absurd none)
+    left_committed is = survives_then old last final (λ _. ⊥) (λ db. db ≡ last.now.trees)
+        (LeavesMigrated version old) (λ _ db none. absurd none)
         (λ clean db same. let it = prepared (before clean) in record {
           was_open = it.was_open;
           db = last.now;
@@ -83,7 +103,9 @@ module _ (old last final : State) (settled : IsTrue old.is_open → old.now ≡ 
           is = same;
         }) first next
 
-    pub committed_as : (told ≡ Sound) → (HasCleanDisk final → Shows last final last.now last.now false) → HasCleanDisk final → (IsTrue old.is_open → old.now.schema ≡ older_schema version) → Migrated version old final
+    pub committed_as : (told ≡ Sound)
+        → (HasCleanDisk final → Shows last final last.now last.now false) → HasCleanDisk final
+        → (IsTrue old.is_open → old.now.schema ≡ older_schema version) → Migrated version old final
     committed_as is shows clean has =
         let it = prepared (before clean) in
         let so = shows clean in
@@ -91,17 +113,23 @@ module _ (old last final : State) (settled : IsTrue old.is_open → old.now ≡ 
           was_open = it.was_open;
           is_open = so.is_open;
           settled = so.committed_is ∙ sym so.now_is;
-          rows = λ rows given. subst (HasRows (migrated version rows)) (sym so.now_is) (it.rows rows given);
-          sound = subst (λ (db : Database). IsReportOn db Sound) (sym so.now_is) (subst (IsReportOn last.now) is (it.report (has it.was_open)));
+          rows = λ rows given. subst (HasRows (migrated version rows)) (sym so.now_is)
+              (it.rows rows given);
+          sound = subst (λ (db : Database). IsReportOn db Sound) (sym so.now_is)
+              (subst (IsReportOn last.now) is (it.report (has it.was_open)));
         }
 
-    moves : (e : Error) → FailsToCommit last final e → IsTrue last.in_transaction → IsRolledBack last final
+    moves : (e : Error) → FailsToCommit last final e → IsTrue last.in_transaction
+        → IsRolledBack last final
     moves e (inl fails) inside = fails.3
     moves e (inr refused) inside = absurd (let no = sym inside ∙ refused.1 in cc)
 
-    pub commit_failed : (told ≡ Sound) → (e : Error) → (HasCleanDisk final → FailsToCommit last final e) → IsUndone (LeavesMigrated version old) old final
+    pub commit_failed : (told ≡ Sound) → (e : Error)
+        → (HasCleanDisk final → FailsToCommit last final e)
+        → IsUndone (LeavesMigrated version old) old final
     commit_failed is e fails =
-        let undone = λ (clean : HasCleanDisk final). moves e (fails clean) (prepared (before clean)).inside in
+        let undone = λ (clean : HasCleanDisk final). moves e (fails clean)
+        (prepared (before clean)).inside in
         record {
           survives = left_committed is;
           was_open = λ clean is. back (before clean) (undone clean) is;
@@ -129,7 +157,9 @@ module _ (a b c : State) (stayed : HasStayed a b) (version : OlderVersion) where
       )
 
   pub some_survives : Survives b c (LeavesMigrated version b) → Survives a c (LeavesSome a)
-  some_survives it = survives_then a b c (λ _. ⊥) (LeavesMigrated version b) (LeavesSome a) (λ _ db none. absurd none) (λ clean db left. some_left (clean_before b c (LeavesMigrated version b) it clean) db left) stayed.0.survives it
+  some_survives it = survives_then a b c (λ _. ⊥) (LeavesMigrated version b) (LeavesSome a)
+      (λ _ db none. absurd none) (λ clean db left. some_left
+      (clean_before b c (LeavesMigrated version b) it clean) db left) stayed.0.survives it
 
   -- and what isn't committed is undone to what was shown first
   pub undone_first : IsUndone (LeavesMigrated version b) b c → IsUndone (LeavesSome a) a c
@@ -139,10 +169,12 @@ module _ (a b c : State) (stayed : HasStayed a b) (version : OlderVersion) where
         survives = some_survives it.survives;
         was_open = λ clean is. stayed.0.was_open (before clean) (it.was_open clean is);
         now = λ clean is. it.now clean is ∙ stayed.0.now (before clean) (it.was_open clean is);
-        committed = λ clean is. it.committed clean is ∙ stayed.0.committed (before clean) (it.was_open clean is);
+        committed = λ clean is. it.committed clean is
+            ∙ stayed.0.committed (before clean) (it.was_open clean is);
       }
 
-  pub ended : (told : AuditReport) → HasCleanDisk b → IsTrue b.is_open → Ends version b c told → Ends version a c told
+  pub ended : (told : AuditReport) → HasCleanDisk b → IsTrue b.is_open → Ends version b c told
+      → Ends version a c told
   ended Sound clean is it = record {
     was_open = stayed.0.was_open clean it.was_open;
     is_open = it.is_open;
@@ -150,46 +182,65 @@ module _ (a b c : State) (stayed : HasStayed a b) (version : OlderVersion) where
     rows = subst (λ (d : Database). Becomes version d c.now) (same_now clean is) it.rows;
     sound = it.sound;
   }
-  ended (Unsound f) clean is it = (it.0, subst (λ (d : Database). Becomes version d it.0) (same_now clean is) it.1, it.2)
+  ended (Unsound f) clean is it = (
+    it.0,
+    subst (λ (d : Database). Becomes version d it.0) (same_now clean is) it.1,
+    it.2,
+  )
 
-  left_by : (r : Result AuditReport Fault) → Leaves version b c r → IfErr (outcome_of version r) (IsLeft a c)
+  left_by : (r : Result AuditReport Fault) → Leaves version b c r
+      → IfErr (outcome_of version r) (IsLeft a c)
   left_by (Ok Sound) it = tt
   left_by (Ok (Unsound f)) it = spared_then a b c stayed.0 it
   left_by (Err f) it = undone_first it
 
-  survives_by : (r : Result AuditReport Fault) → Leaves version b c r → OnOk (outcome_of version r) (Survives a c (LeavesSome a))
+  survives_by : (r : Result AuditReport Fault) → Leaves version b c r
+      → OnOk (outcome_of version r) (Survives a c (LeavesSome a))
   survives_by (Ok Sound) it = some_survives it
   survives_by (Ok (Unsound f)) it = tt
   survives_by (Err f) it = tt
 
-  reason_by : (r : Result AuditReport Fault) → IsOlderContent a (content.Older version) → HasCleanDisk b → IfOk r (Ends version b c) → IfErr (outcome_of version r) (IsReason a)
+  reason_by : (r : Result AuditReport Fault) → IsOlderContent a (content.Older version)
+      → HasCleanDisk b → IfOk r (Ends version b c) → IfErr (outcome_of version r) (IsReason a)
   reason_by (Ok Sound) older clean it = tt
-  reason_by (Ok (Unsound f)) older clean it = inr (version, older, λ is. ended (Unsound f) clean (stayed.1 clean is) it)
+  reason_by (Ok (Unsound f)) older clean it = inr (
+    version,
+    older,
+    λ is. ended (Unsound f) clean (stayed.1 clean is) it,
+  )
   reason_by (Err f) older clean it = tt
 
-  migrated_by : (r : Result AuditReport Fault) → IsOlderContent a (content.Older version) → HasCleanDisk b → IfOk r (Ends version b c)
+  migrated_by : (r : Result AuditReport Fault) → IsOlderContent a (content.Older version)
+      → HasCleanDisk b → IfOk r (Ends version b c)
       → IfOk (outcome_of version r) (λ v. IsOlderContent a (content.Older v) × Migrated v a c)
   migrated_by (Ok Sound) older clean it = (older, ended Sound clean it.was_open it)
   migrated_by (Ok (Unsound f)) older clean it = tt
   migrated_by (Err f) older clean it = tt
 
   -- the outcome, after a refusal or a fault, and if the database was migrated
-  module _ (r : Result AuditReport Fault) (left : Leaves version b c r) (o : Result OlderVersion MigrateFault) (is : o ≡ outcome_of version r) where
+  module _ (r : Result AuditReport Fault) (left : Leaves version b c r)
+      (o : Result OlderVersion MigrateFault) (is : o ≡ outcome_of version r) where
     pub left_first : IfErr o (IsLeft a c)
     left_first = subst (λ o. IfErr o (IsLeft a c)) (sym is) (left_by r left)
 
     pub survives_first : OnOk o (Survives a c (LeavesSome a))
     survives_first = subst (λ o. OnOk o (Survives a c (LeavesSome a))) (sym is) (survives_by r left)
 
-    module _ (found : HasCleanDisk b → IsOlderContent a (content.Older version)) (ends : HasCleanDisk c → (IsTrue b.is_open → b.now.schema ≡ older_schema version) → IfOk r (Ends version b c)) (clean : HasCleanDisk c) where
+    module _ (found : HasCleanDisk b → IsOlderContent a (content.Older version))
+        (ends : HasCleanDisk c → (IsTrue b.is_open → b.now.schema ≡ older_schema version)
+        → IfOk r (Ends version b c)) (clean : HasCleanDisk c) where
       before_it : HasCleanDisk b
       before_it = clean_first version b c r left clean
 
       so_ended : IfOk r (Ends version b c)
-      so_ended = ends clean (λ is. ap (λ (d : Database). d.schema) (same_now before_it is) ∙ (found before_it).1)
+      so_ended = ends clean (λ is. ap (λ (d : Database). d.schema) (same_now before_it is)
+          ∙ (found before_it).1)
 
       pub reason_first : IfErr o (IsReason a)
-      reason_first = subst (λ o. IfErr o (IsReason a)) (sym is) (reason_by r (found before_it) before_it so_ended)
+      reason_first = subst (λ o. IfErr o (IsReason a)) (sym is)
+          (reason_by r (found before_it) before_it so_ended)
 
       pub migrated_first : IfOk o (λ v. IsOlderContent a (content.Older v) × Migrated v a c)
-      migrated_first = subst (λ o. IfOk o (λ v. IsOlderContent a (content.Older v) × Migrated v a c)) (sym is) (migrated_by r (found before_it) before_it so_ended)
+      migrated_first = subst (λ o. IfOk o
+          (λ v. IsOlderContent a (content.Older v) × Migrated v a c)) (sym is)
+          (migrated_by r (found before_it) before_it so_ended)

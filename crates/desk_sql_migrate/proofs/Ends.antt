@@ -1,5 +1,6 @@
 -- How a migration ends: with a report on its rows, committed or dropped.
-use Rattle.std.proofs.Common.{◌≡◌, ◌≢◌, ◌∙◌, ℕ, List, [], ◌∷◌, map, filter, Bool, true, false, not, IsTrue, Ok, Err, Result, IfOk, IfErr, refl, sym, ap, subst, arith}
+use Rattle.std.proofs.Common.{◌≡◌, ◌≢◌, ◌∙◌, ℕ, List, [], ◌∷◌, map, filter, Bool, true, false, not}
+use Rattle.std.proofs.Common.{IsTrue, Ok, Err, Result, IfOk, IfErr, refl, sym, ap, subst, arith}
 use Rattle.std.specs.Prelude.{◌==◌, if◌then◌else◌, OnOk}
 use Rattle.std.specs.List.{list_all}
 use Rattle.std.proofs.lemmas.Bool.{and_parts}
@@ -28,51 +29,69 @@ use Rattle.desk_snapshot.specs.declared.fault.AuditReport.TheVariants.{Sound, Un
 use Rattle.desk_snapshot.specs.declared.snapshot.Snapshot.{Snapshot}
 use Rattle.desk_sql_migrate.specs.Steps.{Becomes}
 
-is_sound : (w : Readings) (s : Snapshot) (report : AuditReport) → ((f : AuditFault) → Meets w s f) → IsReport w s report → report ≡ Sound
+is_sound : (w : Readings) (s : Snapshot) (report : AuditReport) → ((f : AuditFault) → Meets w s f)
+    → IsReport w s report → report ≡ Sound
 is_sound w s Sound all it = refl
 is_sound w s (Unsound f) all it = absurd (it.0 (all f))
 
-pub is_sound_as : (w : Readings) (s other : Snapshot) (report : AuditReport) → s ≡ other → ((f : AuditFault) → Meets w other f) → IsReport w s report → report ≡ Sound
-is_sound_as w s other report same all it = is_sound w s report (λ f. subst (λ x. Meets w x f) (sym same) (all f)) it
+pub is_sound_as : (w : Readings) (s other : Snapshot) (report : AuditReport) → s ≡ other
+    → ((f : AuditFault) → Meets w other f) → IsReport w s report → report ≡ Sound
+is_sound_as w s other report same all it = is_sound w s report
+    (λ f. subst (λ x. Meets w x f) (sym same) (all f)) it
 
 -- ---- the rows of a desk's tables, migrated, are theirs
 
-no_waivers : (rows : List ChangeRow) → list_all (λ row. not (is_waiver row)) rows ≡ true → [] ≡ map waiver_cells (filter is_waiver rows)
+no_waivers : (rows : List ChangeRow) → list_all (λ row. not (is_waiver row)) rows ≡ true
+    → [] ≡ map waiver_cells (filter is_waiver rows)
 no_waivers [] h = refl
 no_waivers (row ∷ rows) h =
     let parts = and_parts (not (is_waiver row)) (list_all (λ row. not (is_waiver row)) rows) h in
     go (is_waiver row) refl parts.0 (no_waivers rows parts.1)
   where
-    go : (b : Bool) → is_waiver row ≡ b → not (is_waiver row) ≡ true → [] ≡ map waiver_cells (filter is_waiver rows) → [] ≡ map waiver_cells (filter is_waiver (row ∷ rows))
+    go : (b : Bool) → is_waiver row ≡ b → not (is_waiver row) ≡ true
+        → [] ≡ map waiver_cells (filter is_waiver rows)
+        → [] ≡ map waiver_cells (filter is_waiver (row ∷ rows))
     go true is some rest = absurd (let e = rw is at some in cc)
     go false is some rest = rw is rest
 
-one_profile : (row : DocumentRow) → (profile_number row.profile == 1) ≡ true → number 1 ≡ number (profile_number row.profile)
+one_profile : (row : DocumentRow) → (profile_number row.profile == 1) ≡ true
+    → number 1 ≡ number (profile_number row.profile)
 one_profile row h = let e : 1 ≡ profile_number row.profile = grind (arith, nat_tests) in ap number e
 
-first_profiles : (rows : List DocumentRow) → list_all (λ row. profile_number row.profile == 1) rows ≡ true → first_readings (map document_cells rows) ≡ map reading_cells rows
+first_profiles : (rows : List DocumentRow)
+    → list_all (λ row. profile_number row.profile == 1) rows ≡ true
+    → first_readings (map document_cells rows) ≡ map reading_cells rows
 first_profiles [] h = refl
 first_profiles (row ∷ rows) h =
-    let parts = and_parts (profile_number row.profile == 1) (list_all (λ row. profile_number row.profile == 1) rows) h in
+    let parts = and_parts (profile_number row.profile == 1)
+    (list_all (λ row. profile_number row.profile == 1) rows) h in
     rw (← one_profile row parts.0, first_profiles rows parts.1) refl
 
 module _ (t : Tables) (db : Database) where
   abbrev with_these : List Row → List Row → ℕ → List Row
-  with_these readings waivers tree = if tree == 27 then readings else (if tree == 28 then waivers else rows_of t tree)
+  with_these readings waivers tree = if tree == 27 then readings
+      else (if tree == 28 then waivers else rows_of t tree)
 
-  same_rows : (version : OlderVersion) (readings waivers : List Row) → readings ≡ map reading_cells t.document → waivers ≡ map waiver_cells (filter is_waiver t.changes)
-      → AllStored desk_schema (with_these readings waivers) db.trees → AllStored desk_schema (rows_of t) db.trees
+  same_rows : (version : OlderVersion) (readings waivers : List Row)
+      → readings ≡ map reading_cells t.document
+      → waivers ≡ map waiver_cells (filter is_waiver t.changes)
+      → AllStored desk_schema (with_these readings waivers) db.trees
+      → AllStored desk_schema (rows_of t) db.trees
   same_rows version readings waivers is_readings is_waivers stored =
-      subst (λ w. AllStored desk_schema (with_these (map reading_cells t.document) w) db.trees) is_waivers
+      subst (λ w. AllStored desk_schema (with_these (map reading_cells t.document) w) db.trees)
+      is_waivers
       (subst (λ r. AllStored desk_schema (with_these r waivers) db.trees) is_readings stored)
 
-pub holds_migrated : (version : OlderVersion) (t : Tables) (old new : Database) → HoldsOlder version t old → Becomes version old new → Holds t new
+pub holds_migrated : (version : OlderVersion) (t : Tables) (old new : Database)
+    → HoldsOlder version t old → Becomes version old new → Holds t new
 holds_migrated One t old new holds becomes =
     let has = becomes (older_rows One t) holds.rows in
     record {
       rows = record {
         declared = has.declared;
-        stored = same_rows t new One (first_readings (map document_cells t.document)) [] (first_profiles t.document (holds.profiles refl)) (no_waivers t.changes holds.endless) has.stored;
+        stored = same_rows t new One (first_readings (map document_cells t.document)) []
+            (first_profiles t.document (holds.profiles refl)) (no_waivers t.changes holds.endless)
+            has.stored;
         sound = has.sound;
       };
       orderly = holds.orderly;
@@ -82,7 +101,8 @@ holds_migrated Two t old new holds becomes =
     record {
       rows = record {
         declared = has.declared;
-        stored = same_rows t new Two (map reading_cells t.document) [] refl (no_waivers t.changes holds.endless) has.stored;
+        stored = same_rows t new Two (map reading_cells t.document) [] refl
+            (no_waivers t.changes holds.endless) has.stored;
         sound = has.sound;
       };
       orderly = holds.orderly;

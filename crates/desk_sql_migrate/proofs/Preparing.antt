@@ -22,22 +22,30 @@ use Rattle.desk_sql_migrate.specs.Steps.{Upgrades}
 use Rattle.desk_sql_migrate.proofs.Ends.{holds_migrated}
 
 module _ (version : OlderVersion) (a b c : State) (up : Upgrades version a b (Ok tt)) where
-  pub prepared : (r : Result AuditReport Fault) → HasAsked b c r → (HasCleanDisk c → b.now.schema ≡ desk_schema → IfOk r (IsReportOn b.now)) → Prepares version a c r
+  pub prepared : (r : Result AuditReport Fault) → HasAsked b c r
+      → (HasCleanDisk c → b.now.schema ≡ desk_schema → IfOk r (IsReportOn b.now))
+      → Prepares version a c r
   prepared (Ok told) asked report = λ clean inside.
       let u = up.done (clean_before b c (λ _. ⊥) asked.0 clean) inside in
       let same = asked.1 clean in
       record {
         was_open = u.was_open;
         inside = subst IsTrue (sym same.0.mode) u.inside;
-        kept = keeps_then a b c u.kept (record { was_open = λ _. same.0.was_open; committed = λ _. same.0.committed_is });
-        rows = λ rows given. subst (HasRows (migrated version rows)) (sym same.0.now_is) (u.rows rows given);
-        report = λ has. subst (λ (db : Database). IsReportOn db told) (sym same.0.now_is) (report clean (u.declared has));
+        kept = keeps_then a b c u.kept
+            (record { was_open = λ _. same.0.was_open; committed = λ _. same.0.committed_is });
+        rows = λ rows given. subst (HasRows (migrated version rows)) (sym same.0.now_is)
+            (u.rows rows given);
+        report = λ has. subst (λ (db : Database). IsReportOn db told) (sym same.0.now_is)
+            (report clean (u.declared has));
       }
-  prepared (Err e) asked report = λ clean inside. keeps_then a b c (up.done (clean_before b c (λ _. ⊥) asked.survives clean) inside).kept (asked.kept clean)
+  prepared (Err e) asked report = λ clean inside. keeps_then a b c
+      (up.done (clean_before b c (λ _. ⊥) asked.survives clean) inside).kept (asked.kept clean)
 
   pub prepared_sound : (r : Result AuditReport Fault) → HasAsked b c r
-      → IfOk r (λ report. HasCleanDisk c → (w : Readings) → AreRight w → (h : List Command) → IsHistory w h → Holds (tables w h) b.now → report ≡ Sound)
-      → IfOk r (λ report. HasCleanDisk c → IsTrue a.in_transaction → (w : Readings) → AreRight w → (h : List Command) → IsHistory w h → HoldsOlder version (tables w h) a.now → report ≡ Sound)
+      → IfOk r (λ report. HasCleanDisk c → (w : Readings) → AreRight w → (h : List Command)
+      → IsHistory w h → Holds (tables w h) b.now → report ≡ Sound)
+      → IfOk r (λ report. HasCleanDisk c → IsTrue a.in_transaction → (w : Readings) → AreRight w
+      → (h : List Command) → IsHistory w h → HoldsOlder version (tables w h) a.now → report ≡ Sound)
   prepared_sound (Ok told) asked sound = λ clean inside w right h ok holds.
       let u = up.done (clean_before b c (λ _. ⊥) asked.0 clean) inside in
       sound clean w right h ok (holds_migrated version (tables w h) a.now b.now holds u.rows)

@@ -25,10 +25,11 @@ use Rattle.desk_sql_migrate.specs.declared.fault.MigrateFault.TheVariants as fau
 
 -- the report on the rows of a database, by each right reading
 abbrev pub IsReportOn : Database → AuditReport → Type 0
-IsReportOn db told = (s : Snapshot) × IsSnapshot s db × ((w : Readings) → AreRight w → IsReport w s told)
+IsReportOn db told = (s : Snapshot) × IsSnapshot s db
+    × ((w : Readings) → AreRight w → IsReport w s told)
 
--- inside a transaction that is still open, the rows have become those of this version, and this is the report
--- on them
+-- inside a transaction that is still open, the rows have become those of this version, and this is
+-- the report on them
 pub record Prepared (version : OlderVersion) (told : AuditReport) (old new : State) : Type 0 where
   pub was_open : IsTrue old.is_open
   pub inside : IsTrue new.in_transaction
@@ -37,8 +38,10 @@ pub record Prepared (version : OlderVersion) (told : AuditReport) (old new : Sta
   pub report : old.now.schema ≡ older_schema version → IsReportOn new.now told
 
 abbrev pub Prepares : OlderVersion → State → State → Result AuditReport Fault → Type 0
-Prepares version old new (Ok told) = HasCleanDisk new → IsTrue old.in_transaction → Prepared version told old new
-Prepares version old new (Err fault) = HasCleanDisk new → IsTrue old.in_transaction → KeepsCommit old new
+Prepares version old new (Ok told) = HasCleanDisk new → IsTrue old.in_transaction
+    → Prepared version told old new
+Prepares version old new (Err fault) = HasCleanDisk new → IsTrue old.in_transaction
+    → KeepsCommit old new
 
 -- all is committed, and the rows are sound
 pub record Migrated (version : OlderVersion) (old new : State) : Type 0 where
@@ -51,7 +54,8 @@ pub record Migrated (version : OlderVersion) (old new : State) : Type 0 where
 -- what was made in the transaction: it is committed, or it wasn't sound
 abbrev pub Ends : OlderVersion → State → State → AuditReport → Type 0
 Ends version old new report.Sound = Migrated version old new
-Ends version old new (report.Unsound f) = (db : Database) × Becomes version old.now db × IsReportOn db (report.Unsound f)
+Ends version old new (report.Unsound f) = (db : Database) × Becomes version old.now db
+    × IsReportOn db (report.Unsound f)
 
 -- a stop leaves the rows of this version, which are sound
 pub record LeavesMigrated (version : OlderVersion) (old : State) (trees : Trees) : Type 0 where
@@ -61,8 +65,8 @@ pub record LeavesMigrated (version : OlderVersion) (old : State) (trees : Trees)
   pub sound : old.now.schema ≡ older_schema version → IsReportOn db report.Sound
   pub is : trees ≡ db.trees
 
--- The connection shows what it showed, as far as it still shows anything, although a stop may leave the
--- migrated rows.
+-- The connection shows what it showed, as far as it still shows anything, although a stop may leave
+-- the migrated rows.
 pub record IsUndone (Commits : Trees → Type 0) (old new : State) : Type 0 where
   pub survives : Survives old new Commits
   pub was_open : HasCleanDisk new → IsTrue new.is_open → IsTrue old.is_open
@@ -85,17 +89,20 @@ outcome_of version (Err f) = Err (fault.Fault f)
 abbrev pub LeavesSome : State → Trees → Type 0
 LeavesSome old trees = (version : OlderVersion) × LeavesMigrated version old trees
 
--- what the database was found to hold if it isn't migrated: something else; another version; no single
--- version; or rows that would not be sound
+-- what the database was found to hold if it isn't migrated: something else; another version; no
+-- single version; or rows that would not be sound
 abbrev pub IsReason : State → MigrateFault → Type 0
 IsReason s fault.NotADesk = IsOlderContent s content.Other
 IsReason s (fault.BadVersion n) = IsOlderContent s (content.OtherVersion n)
 IsReason s (fault.Unsound f) =
     (IsOlderContent s content.Untold × (f ≡ BadMeta))
-    ⊎ ((version : OlderVersion) × IsOlderContent s (content.Older version) × (IsTrue s.is_open → (db : Database) × Becomes version s.now db × IsReportOn db (report.Unsound f)))
+    ⊎ ((version : OlderVersion) × IsOlderContent s (content.Older version)
+    × (IsTrue s.is_open → (db : Database) × Becomes version s.now db
+    × IsReportOn db (report.Unsound f)))
 IsReason s (fault.Fault f) = Unit {0}
 
--- after a refusal the connection shows what it showed; after a fault too, if it still shows anything
+-- after a refusal the connection shows what it showed; after a fault too, if it still shows
+-- anything
 abbrev pub IsLeft : State → State → MigrateFault → Type 0
 IsLeft old new fault.NotADesk = reading.HasStayed old new
 IsLeft old new (fault.BadVersion n) = reading.HasStayed old new
@@ -107,8 +114,11 @@ abbrev pub IsFault : MigrateFault → Type 0
 IsFault (fault.Fault f) = Unit {0}
 IsFault _ = ⊥
 
--- true for each right reading and each recorded history whose tables the database held in an older version
-abbrev pub InOlderHistory : OlderVersion → (Readings → List Command → Type 0) → State → State → Type 0
+-- true for each right reading and each recorded history whose tables the database held in an older
+-- version
+abbrev pub InOlderHistory : OlderVersion → (Readings → List Command → Type 0) → State → State
+    → Type 0
 InOlderHistory version Is old new =
-    (w : Readings) → AreRight w → HasCleanDisk new → IsTrue old.is_open → (h : List Command) → IsHistory w h
+    (w : Readings) → AreRight w → HasCleanDisk new → IsTrue old.is_open → (h : List Command)
+    → IsHistory w h
     → HoldsOlder version (tables w h) old.now → Is w h

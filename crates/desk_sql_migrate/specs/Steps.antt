@@ -22,14 +22,16 @@ pub record HasTables (schema : Schema) (rows : ℕ → List Row) (db : Database)
 abbrev pub with_none : ℕ → (ℕ → List Row) → ℕ → List Row
 with_none tree rows at = if at == tree then [] else rows at
 
--- inside a transaction that is still open, the tables of one schema became those of another, and their rows
--- these
-pub record Gained (before after : Schema) (made : (ℕ → List Row) → ℕ → List Row) (old new : State) : Type 0 where
+-- inside a transaction that is still open, the tables of one schema became those of another, and
+-- their rows these
+pub record Gained (before after : Schema) (made : (ℕ → List Row) → ℕ → List Row)
+    (old new : State) : Type 0 where
   pub was_open : IsTrue old.is_open
   pub inside : IsTrue new.in_transaction
   pub kept : KeepsCommit old new
   pub declared : old.now.schema ≡ before → new.now.schema ≡ after
-  pub rows : (rows : ℕ → List Row) → HasTables before rows old.now → HasTables after (made rows) new.now
+  pub rows : (rows : ℕ → List Row) → HasTables before rows old.now
+      → HasTables after (made rows) new.now
 
 -- done, or after a fault nothing was committed
 abbrev pub IfDone : (State → State → Type 0) → State → State → Result (Unit {0}) Fault → Type 0
@@ -37,11 +39,13 @@ IfDone Done old new (Ok done) = HasCleanDisk new → IsTrue old.in_transaction �
 IfDone Done old new (Err fault) = HasCleanDisk new → IsTrue old.in_transaction → KeepsCommit old new
 
 -- a step inside a transaction: a stop leaves nothing that it couldn't leave before
-pub record IsStep (Done : State → State → Type 0) (old new : State) (result : Result (Unit {0}) Fault) : Type 0 where
+pub record IsStep (Done : State → State → Type 0) (old new : State)
+    (result : Result (Unit {0}) Fault) : Type 0 where
   pub done : IfDone Done old new result
   pub survives : Survives old new (λ _. ⊥)
 
-abbrev pub Gains : Schema → Schema → ((ℕ → List Row) → ℕ → List Row) → State → State → Result (Unit {0}) Fault → Type 0
+abbrev pub Gains : Schema → Schema → ((ℕ → List Row) → ℕ → List Row) → State → State
+    → Result (Unit {0}) Fault → Type 0
 Gains before after made = IsStep (Gained before after made)
 
 abbrev pub with_no_readings : (ℕ → List Row) → ℕ → List Row
@@ -52,7 +56,8 @@ with_no_waivers = with_none waiver_table.tree
 
 -- profile 1 is recorded for each document
 abbrev pub with_readings : (ℕ → List Row) → ℕ → List Row
-with_readings rows at = if at == reading_table.tree then first_readings (rows document_table.tree) ++ rows reading_table.tree else rows at
+with_readings rows at = if at == reading_table.tree
+    then first_readings (rows document_table.tree) ++ rows reading_table.tree else rows at
 
 -- no version is recorded
 abbrev pub without_version : (ℕ → List Row) → ℕ → List Row
@@ -66,7 +71,8 @@ with_version rows at = if at == meta_table.tree then (number 3 ∷ []) ∷ rows 
 
 -- the rows of a version have become those of this one
 abbrev pub Becomes : OlderVersion → Database → Database → Type 0
-Becomes version old new = (rows : ℕ → List Row) → HasOlderRows version rows old → HasRows (migrated version rows) new
+Becomes version old new = (rows : ℕ → List Row) → HasOlderRows version rows old
+    → HasRows (migrated version rows) new
 
 -- the same, inside a transaction that is still open
 pub record Upgraded (version : OlderVersion) (old new : State) : Type 0 where

@@ -1,5 +1,5 @@
--- A database that has a snapshot's rows holds them as cells, if the rows of its tables are in the order of
--- their rowids.
+-- A database that has a snapshot's rows holds them as cells, if the rows of its tables are in the
+-- order of their rowids.
 use Rattle.std.proofs.Common.{◌≡◌, true, List, map, IsPermutation}
 use Rattle.std.specs.List.{AllByRecursion}
 use Rattle.sqlite_value.specs.Order.{Row}
@@ -13,11 +13,13 @@ use Rattle.desk_sql_layout.specs.Stored.{cells, AreStored}
 use Rattle.desk_snapshot.specs.declared.snapshot.Snapshot.{Snapshot}
 use Rattle.desk_sql_scan.specs.Scans.{AreTables, IsSnapshot, stored_rows}
 
-it_is : (table : Table) (rows stored : List Row) → IsTable stored × AllByRecursion (λ r. is_int (rowid r) ≡ true) stored
+it_is : (table : Table) (rows stored : List Row)
+    → IsTable stored × AllByRecursion (λ r. is_int (rowid r) ≡ true) stored
     → IsPermutation rows (map (cells table) stored) → AreStored table rows stored
 it_is table rows stored stand shown = record { rising = stand.0; keyed = stand.1; same = shown }
 
-pub has_rows : (s : Snapshot) (db : Database) → db.schema ≡ d.desk_schema → IsDatabase db → AreTables d.desk_schema db.trees → IsSnapshot s db → HasRows (stored_rows s) db
+pub has_rows : (s : Snapshot) (db : Database) → db.schema ≡ d.desk_schema → IsDatabase db
+    → AreTables d.desk_schema db.trees → IsSnapshot s db → HasRows (stored_rows s) db
 has_rows s db declared sound (meta, (catalogue, (rule, (document, (packages, (extracted, (conclusion, (adoption, (releases, (attached, (choice, (frozen, (duty, (changes, (reading, (waiver, end)))))))))))))))) it = record {
   declared = declared;
   sound = sound;

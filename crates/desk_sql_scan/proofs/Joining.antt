@@ -6,11 +6,15 @@ use Rattle.desk_model.specs.Tables.{Tables}
 use Rattle.desk_snapshot.specs.Tables.{snapshot_of}
 use Rattle.desk_sql_scan.specs.declared.whole.FirstPart.{FirstPart}
 use Rattle.desk_sql_scan.specs.declared.whole.SecondPart.{SecondPart}
-use Rattle.desk_sql_scan.specs.Parts.{HasCatalogues, HasDocuments, HasDuties, HasOffice, HasReleases, OfCatalogues, OfDocuments, OfDuties, OfOffice, OfReleases, joined_of}
+use Rattle.desk_sql_scan.specs.Parts.{HasCatalogues, HasDocuments, HasDuties, HasOffice}
+use Rattle.desk_sql_scan.specs.Parts.{HasReleases, OfCatalogues, OfDocuments, OfDuties, OfOffice}
+use Rattle.desk_sql_scan.specs.Parts.{OfReleases, joined_of}
 use Rattle.desk_sql_scan.specs.Scans.{IsSnapshot}
 
 pub joined_has : (first : FirstPart) (second : SecondPart) (db : Database)
-    → (HasDocuments first.documents db × HasDuties first.duties db) × (HasCatalogues second.catalogues db × (HasOffice second.office db × HasReleases second.releases db))
+    → (HasDocuments first.documents db × HasDuties first.duties db)
+    × (HasCatalogues second.catalogues db
+    × (HasOffice second.office db × HasReleases second.releases db))
     → IsSnapshot (joined_of first second) db
 joined_has first second db ((d, q), (c, (o, r))) = record {
   meta = c.0;
@@ -32,7 +36,8 @@ joined_has first second db ((d, q), (c, (o, r))) = record {
 }
 
 pub joined_is : (first : FirstPart) (second : SecondPart) (t : Tables)
-    → (OfDocuments first.documents t × OfDuties first.duties t) × (OfCatalogues second.catalogues t × (OfOffice second.office t × OfReleases second.releases t))
+    → (OfDocuments first.documents t × OfDuties first.duties t)
+    × (OfCatalogues second.catalogues t × (OfOffice second.office t × OfReleases second.releases t))
     → AreSortedAsListed t → joined_of first second ≡ snapshot_of t
 joined_is first second t ((d, q), (c, (o, r))) sorted = λ i. record {
   meta = c.0 i;

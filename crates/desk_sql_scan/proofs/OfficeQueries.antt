@@ -23,37 +23,64 @@ use Rattle.desk_sql_scan.proofs.Queries.{TellsRows, read_by_key}
 -- ---- conclusion
 
 abbrev pub conclusion_text : List ℕ
-conclusion_text = codes "SELECT document, package, expression FROM conclusion ORDER BY +document, package"
+conclusion_text = codes
+    "SELECT document, package, expression FROM conclusion ORDER BY +document, package"
 
-conclusion_is : IsBareSelect conclusion_text 0 10 [] (col 1 1 ∷ col 1 2 ∷ col 1 3 ∷ []) (sorted_by (1 ∷ 2 ∷ [])) (codes "document" ∷ codes "package" ∷ codes "expression" ∷ [])
+conclusion_is : IsBareSelect conclusion_text 0 10 [] (col 1 1 ∷ col 1 2 ∷ col 1 3 ∷ [])
+    (sorted_by (1 ∷ 2 ∷ [])) (codes "document" ∷ codes "package" ∷ codes "expression" ∷ [])
 unfolding first returning understood everything
 conclusion_is = record {
   bare = λ schema base. refl;
   select = record { is = (refl, refl); plain = (refl, refl); suits = (refl, refl) };
 }
 
-pub conclusion_read : {S : Type 0} (g : Ghosts S) → TellsRows g conclusion_text 3 d.conclusion_table stored_conclusion_cells conclusion_order (λ rows t. rows ≡ map conclusion_stored t.conclusion)
+pub conclusion_read : {S : Type 0} (g : Ghosts S)
+    → TellsRows g conclusion_text 3 d.conclusion_table stored_conclusion_cells conclusion_order
+    (λ rows t. rows ≡ map conclusion_stored t.conclusion)
 conclusion_read g =
     read_by_key g d.conclusion_table 6 refl stored_conclusion_cells conclusion_order
-    (λ cs. record { document = number_in (column cs 0); package_id = text_in (column cs 1); expression = text_in (column cs 2) }) (λ a. refl) conclusion_stored (λ t. t.conclusion) (λ t. refl) 3 (λ r. refl)
-    (1 ∷ 2 ∷ []) (0 ∷ 1 ∷ []) 0 refl refl refl conclusion_is refl (λ r. rw (itself (column r 1)) refl) (λ r. refl) (λ r. refl) (λ x. refl)
-    (λ a b. rw (value_cmp-Int a.document b.document, value_cmp-Text a.package_id b.package_id, then-Equal (slice_cmp nat_cmp a.package_id b.package_id)) refl) _ (λ rows t orderly found. found (conclusions_rise t.conclusion orderly.sorted.conclusion))
+    (λ cs. record {
+      document = number_in (column cs 0);
+      package_id = text_in (column cs 1);
+      expression = text_in (column cs 2);
+    }) (λ a. refl) conclusion_stored (λ t. t.conclusion) (λ t. refl) 3 (λ r. refl)
+    (1 ∷ 2 ∷ []) (0 ∷ 1 ∷ []) 0 refl refl refl conclusion_is refl
+    (λ r. rw (itself (column r 1)) refl) (λ r. refl) (λ r. refl) (λ x. refl)
+    (λ a b. rw (
+      value_cmp-Int a.document b.document,
+      value_cmp-Text a.package_id b.package_id,
+      then-Equal (slice_cmp nat_cmp a.package_id b.package_id),
+    ) refl) _ (λ rows t orderly found. found
+    (conclusions_rise t.conclusion orderly.sorted.conclusion))
 
 -- ---- adoption
 
 abbrev pub adoption_text : List ℕ
-adoption_text = codes "SELECT document, reference, licence FROM adoption ORDER BY +document, reference"
+adoption_text = codes
+    "SELECT document, reference, licence FROM adoption ORDER BY +document, reference"
 
-adoption_is : IsBareSelect adoption_text 0 12 [] (col 1 1 ∷ col 1 2 ∷ col 1 3 ∷ []) (sorted_by (1 ∷ 2 ∷ [])) (codes "document" ∷ codes "reference" ∷ codes "licence" ∷ [])
+adoption_is : IsBareSelect adoption_text 0 12 [] (col 1 1 ∷ col 1 2 ∷ col 1 3 ∷ [])
+    (sorted_by (1 ∷ 2 ∷ [])) (codes "document" ∷ codes "reference" ∷ codes "licence" ∷ [])
 unfolding first returning understood everything
 adoption_is = record {
   bare = λ schema base. refl;
   select = record { is = (refl, refl); plain = (refl, refl); suits = (refl, refl) };
 }
 
-pub adoption_read : {S : Type 0} (g : Ghosts S) → TellsRows g adoption_text 3 d.adoption_table stored_adoption_cells adoption_order (λ rows t. rows ≡ map adoption_stored t.adoption)
+pub adoption_read : {S : Type 0} (g : Ghosts S)
+    → TellsRows g adoption_text 3 d.adoption_table stored_adoption_cells adoption_order
+    (λ rows t. rows ≡ map adoption_stored t.adoption)
 adoption_read g =
     read_by_key g d.adoption_table 7 refl stored_adoption_cells adoption_order
-    (λ cs. record { document = number_in (column cs 0); reference = text_in (column cs 1); licence = text_in (column cs 2) }) (λ a. refl) adoption_stored (λ t. t.adoption) (λ t. refl) 3 (λ r. refl)
-    (1 ∷ 2 ∷ []) (0 ∷ 1 ∷ []) 0 refl refl refl adoption_is refl (λ r. rw (itself (column r 1)) refl) (λ r. refl) (λ r. refl) (λ x. refl)
-    (λ a b. rw (value_cmp-Int a.document b.document, value_cmp-Text a.reference b.reference, then-Equal (slice_cmp nat_cmp a.reference b.reference)) refl) _ (λ rows t orderly found. found (adoptions_rise t.adoption orderly.sorted.adoption))
+    (λ cs. record {
+      document = number_in (column cs 0);
+      reference = text_in (column cs 1);
+      licence = text_in (column cs 2);
+    }) (λ a. refl) adoption_stored (λ t. t.adoption) (λ t. refl) 3 (λ r. refl)
+    (1 ∷ 2 ∷ []) (0 ∷ 1 ∷ []) 0 refl refl refl adoption_is refl (λ r. rw (itself (column r 1)) refl)
+    (λ r. refl) (λ r. refl) (λ x. refl)
+    (λ a b. rw (
+      value_cmp-Int a.document b.document,
+      value_cmp-Text a.reference b.reference,
+      then-Equal (slice_cmp nat_cmp a.reference b.reference),
+    ) refl) _ (λ rows t orderly found. found (adoptions_rise t.adoption orderly.sorted.adoption))

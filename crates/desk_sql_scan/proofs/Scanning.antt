@@ -1,5 +1,6 @@
 -- What a query for all rows of a table shows, in the order of its key.
-use Rattle.std.proofs.Common.{◌≡◌, ℕ, true, false, List, [], ◌∷◌, map, refl, sym, ap, ap₂, subst, subst₂, ◌∙◌, IsPermutation, Ordering, is_lt, is_eq}
+use Rattle.std.proofs.Common.{◌≡◌, ℕ, true, false, List, [], ◌∷◌, map, refl, sym, ap, ap₂, subst}
+use Rattle.std.proofs.Common.{subst₂, ◌∙◌, IsPermutation, Ordering, is_lt, is_eq}
 use Rattle.std.specs.Cmp.{IsTotalOrder}
 use Rattle.std.specs.List.{AllByRecursion}
 use Rattle.std.proofs.lemmas.Cmp.{on_total}
@@ -46,11 +47,12 @@ each : {X : Type 0} (xs : List X) → AllByRecursion (λ x. true ≡ true) xs
 each [] = tt
 each (x ∷ xs) = (refl, each xs)
 
-same_map : {X Y : Type 0} (f g : X → Y) → ((x : X) → f x ≡ g x) → (xs : List X) → map f xs ≡ map g xs
+same_map : {X Y : Type 0} (f g : X → Y) → ((x : X) → f x ≡ g x) → (xs : List X)
+    → map f xs ≡ map g xs
 same_map f g same xs = λ i. map (λ x. same x i) xs
 
--- the order of columns, the first of which is written as `+column`: so it isn't taken from an index, by which
--- rows are sought one by one
+-- the order of columns, the first of which is written as `+column`: so it isn't taken from an
+-- index, by which rows are sought one by one
 abbrev pub sorted_by : List ℕ → List (Term × Key)
 sorted_by [] = []
 sorted_by (p ∷ ps) = (op2 Coalesce (col 1 p) (lit Null), ascending Binary) ∷ order_by ps
@@ -69,10 +71,15 @@ module _ (table : Table) where
   this = as_declared table
 
   -- a query that shows the cells of each row, and sorts by some of them
-  module _ (sql : List ℕ) (names : List (List ℕ)) (project : List Term) (ps : List ℕ) (by : List (Term × Key)) (keyed : map (λ (k : Term × Key). k.1) by ≡ keys ps) (pick : Row → Row) (width : ℕ)
-      (is : command_of (understood desk_schema sql) ≡ Select (record { lets = []; body = query_on table.tree [] project by }) names)
-      (acts : (r : Row) → output (query_on table.tree [] project by) (env [] r) ≡ (pick (cells this r), cells this r))
-      (wide : (r : Row) → columns_of width (cells this r) ≡ cells this r) (db : Database) (shown : List Row) (reads : Reads (command_of (understood desk_schema sql)) db [] shown) where
+  module _ (sql : List ℕ) (names : List (List ℕ)) (project : List Term) (ps : List ℕ)
+      (by : List (Term × Key)) (keyed : map (λ (k : Term × Key). k.1) by ≡ keys ps)
+      (pick : Row → Row) (width : ℕ)
+      (is : command_of (understood desk_schema sql)
+      ≡ Select (record { lets = []; body = query_on table.tree [] project by }) names)
+      (acts : (r : Row) → output (query_on table.tree [] project by) (env [] r)
+      ≡ (pick (cells this r), cells this r))
+      (wide : (r : Row) → columns_of width (cells this r) ≡ cells this r) (db : Database)
+      (shown : List Row) (reads : Reads (command_of (understood desk_schema sql)) db [] shown) where
     abbrev asked : Query
     asked = query_on table.tree [] project by
 
@@ -88,11 +95,14 @@ module _ (table : Table) where
 
     answer : Selected asked [] (db.trees table.tree) shown
     answer =
-        let it : Reads (Select (record { lets = []; body = asked }) names) db [] shown = subst (λ c. Reads c db [] shown) is reads in
+        let it : Reads (Select (record { lets = []; body = asked }) names) db [] shown =
+        subst (λ c. Reads c db [] shown) is reads in
         selected table.tree [] project by db.trees [] shown (it.answer Null)
 
     outs_are : IsPermutation (map out (db.trees table.tree)) answer.ordered
-    outs_are = subst (λ l. IsPermutation (map out l) answer.ordered) (filter_all (λ (r : Row). true) (db.trees table.tree) (each (db.trees table.tree))) answer.same
+    outs_are = subst (λ l. IsPermutation (map out l) answer.ordered)
+        (filter_all (λ (r : Row). true) (db.trees table.tree) (each (db.trees table.tree)))
+        answer.same
 
     -- the rows, each cut to its columns, which are all that it has
     abbrev rows : List Row
@@ -101,60 +111,91 @@ module _ (table : Table) where
     ordered_are : map of_cells rows ≡ answer.ordered
     ordered_are =
         let f = λ (o : Output). of_cells (columns_of width o.1) in
-        let one : (r : Row) → f (out r) ≡ out r = λ r. let e : out r ≡ of_cells (cells this r) = acts r in ap f e ∙ ap of_cells (wide r) ∙ sym e in
-        let all : AllByRecursion (λ o. f o ≡ o) answer.ordered = all_from (λ o. f o ≡ o) answer.ordered (λ o there.
-        let x = has_mapped out (db.trees table.tree) o (has_permuted (map out (db.trees table.tree)) answer.ordered o outs_are there) in
+        let one : (r : Row) → f (out r) ≡ out r = λ r. let e : out r ≡ of_cells (cells this r) =
+        acts r in ap f e ∙ ap of_cells (wide r) ∙ sym e in
+        let all : AllByRecursion (λ o. f o ≡ o) answer.ordered =
+        all_from (λ o. f o ≡ o) answer.ordered (λ o there.
+        let x = has_mapped out (db.trees table.tree) o
+        (has_permuted (map out (db.trees table.tree)) answer.ordered o outs_are there) in
         subst (λ o. f o ≡ o) (sym x.2) (one x.0)) in
-        ap (λ l. map of_cells (map (columns_of width) l)) answer.shown ∙ ap (map of_cells) (map-map (columns_of width) (λ (o : Output). o.1) answer.ordered)
-        ∙ map-map of_cells (λ (o : Output). columns_of width o.1) answer.ordered ∙ fixed f answer.ordered all
+        ap (λ l. map of_cells (map (columns_of width) l)) answer.shown
+        ∙ ap (map of_cells) (map-map (columns_of width) (λ (o : Output). o.1) answer.ordered)
+        ∙ map-map of_cells (λ (o : Output). columns_of width o.1) answer.ordered
+        ∙ fixed f answer.ordered all
 
     pub rows_are : IsPermutation rows (map (cells this) (db.trees table.tree))
     rows_are =
         let second = λ (o : Output). o.1 in
-        let left : map second (map out (db.trees table.tree)) ≡ map (cells this) (db.trees table.tree) = map-map second out (db.trees table.tree) ∙ same_map (λ r. second (out r)) (cells this) (λ r. ap second (acts r)) (db.trees table.tree) in
-        let right : map second answer.ordered ≡ rows = sym (ap (map second) ordered_are) ∙ map-map second of_cells rows ∙ fixed (λ r. r) rows (all_from (λ r. r ≡ r) rows (λ r there. refl)) in
-        IsPermutation-sym _ _ (subst₂ (λ a b. IsPermutation a b) left right (IsPermutation-map second _ _ outs_are))
+        let left : map second (map out (db.trees table.tree)) ≡ map (cells this) (db.trees
+        table.tree) = map-map second out (db.trees table.tree)
+        ∙ same_map (λ r. second (out r)) (cells this) (λ r. ap second (acts r))
+        (db.trees table.tree) in
+        let right : map second answer.ordered ≡ rows = sym (ap (map second) ordered_are)
+        ∙ map-map second of_cells rows
+        ∙ fixed (λ r. r) rows (all_from (λ r. r ≡ r) rows (λ r there. refl)) in
+        IsPermutation-sym _ _ (subst₂ (λ a b. IsPermutation a b) left right
+        (IsPermutation-map second _ _ outs_are))
 
     pub rows_rise : IsAscending (λ a b. is_lt (by_key b a) ≡ false) rows
     rows_rise =
-        let up = from_sorted (output_cmp asked) (output_cmp_total asked) answer.ordered answer.sorted in
-        ascending_from_map (λ a b. is_lt (output_cmp asked b a) ≡ false) of_cells rows (subst (IsAscending (λ a b. is_lt (output_cmp asked b a) ≡ false)) (sym ordered_are) up)
+        let up = from_sorted (output_cmp asked) (output_cmp_total asked) answer.ordered
+        answer.sorted in
+        ascending_from_map (λ a b. is_lt (output_cmp asked b a) ≡ false) of_cells rows
+        (subst (IsAscending (λ a b. is_lt (output_cmp asked b a) ≡ false)) (sym ordered_are) up)
 
     -- what is shown is in the table
     shown_are : IsPermutation (map (cells this) (db.trees table.tree)) shown
     shown_are =
         let second = λ (o : Output). o.1 in
-        let left : map second (map out (db.trees table.tree)) ≡ map (cells this) (db.trees table.tree) = map-map second out (db.trees table.tree) ∙ same_map (λ r. second (out r)) (cells this) (λ r. ap second (acts r)) (db.trees table.tree) in
-        subst₂ (λ a b. IsPermutation a b) left (sym answer.shown) (IsPermutation-map second _ _ outs_are)
+        let left : map second (map out (db.trees table.tree)) ≡ map (cells this) (db.trees
+        table.tree) = map-map second out (db.trees table.tree)
+        ∙ same_map (λ r. second (out r)) (cells this) (λ r. ap second (acts r))
+        (db.trees table.tree) in
+        subst₂ (λ a b. IsPermutation a b) left (sym answer.shown)
+        (IsPermutation-map second _ _ outs_are)
 
     -- it can be read, if the rows that are held are as a desk writes them
-    pub all_written : {A X : Type 0} (cells_of : A → Row) (stored_of : X → A) (xs : List X) → IsPermutation (map (λ x. cells_of (stored_of x)) xs) (map (cells this) (db.trees table.tree))
-        → AllByRecursion IsRow (map (λ x. cells_of (stored_of x)) xs) → AllByRecursion (AreCells cells_of) shown
+    pub all_written : {A X : Type 0} (cells_of : A → Row) (stored_of : X → A) (xs : List X)
+        → IsPermutation (map (λ x. cells_of (stored_of x)) xs)
+        (map (cells this) (db.trees table.tree))
+        → AllByRecursion IsRow (map (λ x. cells_of (stored_of x)) xs)
+        → AllByRecursion (AreCells cells_of) shown
     all_written {A} {X} cells_of stored_of xs same written =
         let base = map (cells this) (db.trees table.tree) in
         let f = λ (x : X). cells_of (stored_of x) in
         all_from (AreCells cells_of) shown (λ row there.
-        let held = has_permuted (map f xs) base row same (has_permuted base shown row shown_are there) in
+        let held = has_permuted (map f xs) base row same
+        (has_permuted base shown row shown_are there) in
         let x = has_mapped f xs row held in
         (all_has IsRow (map f xs) row written held, (stored_of x.0, x.2)))
 
-    module _ {A : Type 0} (cells_of : A → Row) (order : A → A → Ordering) (agrees : (a b : A) → by_key (cells_of a) (cells_of b) ≡ order a b) (found : List A) (are : rows ≡ map cells_of found) where
+    module _ {A : Type 0} (cells_of : A → Row) (order : A → A → Ordering)
+        (agrees : (a b : A) → by_key (cells_of a) (cells_of b) ≡ order a b) (found : List A)
+        (are : rows ≡ map cells_of found) where
       pub scanned : IsScan this cells_of order found db
       scanned = record {
         shown = subst (λ l. IsPermutation l (map (cells this) (db.trees table.tree))) are rows_are;
         ordered =
-            let up = ascending_from_map (λ a b. is_lt (by_key b a) ≡ false) cells_of found (subst (IsAscending (λ a b. is_lt (by_key b a) ≡ false)) are rows_rise) in
-            ascending_weaker (λ a b. is_lt (by_key (cells_of b) (cells_of a)) ≡ false) (λ a b. is_lt (order b a) ≡ false) (λ a b h. ap is_lt (sym (agrees b a)) ∙ h) found up;
+            let up = ascending_from_map (λ a b. is_lt (by_key b a) ≡ false) cells_of found
+            (subst (IsAscending (λ a b. is_lt (by_key b a) ≡ false)) are rows_rise) in
+            ascending_weaker (λ a b. is_lt (by_key (cells_of b) (cells_of a)) ≡ false)
+            (λ a b. is_lt (order b a) ≡ false) (λ a b h. ap is_lt (sym (agrees b a)) ∙ h) found up;
       }
 
       -- they are the rows that are held, if these are in order
-      module _ (apart : AreApart ps (db.trees table.tree)) (picks : (r : Row) → pick (cells this r) ≡ picked ps r) {X : Type 0} (stored_of : X → A) (xs : List X)
-          (same : IsPermutation (map (λ x. cells_of (stored_of x)) xs) (map (cells this) (db.trees table.tree))) (sorted : IsAscending (λ a b. is_lt (order (stored_of b) (stored_of a)) ≡ false) xs)
+      module _ (apart : AreApart ps (db.trees table.tree))
+          (picks : (r : Row) → pick (cells this r) ≡ picked ps r) {X : Type 0} (stored_of : X → A)
+          (xs : List X)
+          (same : IsPermutation (map (λ x. cells_of (stored_of x)) xs)
+          (map (cells this) (db.trees table.tree)))
+          (sorted : IsAscending (λ a b. is_lt (order (stored_of b) (stored_of a)) ≡ false) xs)
           (back : Row → A) (inverse : (a : A) → back (cells_of a) ≡ a) where
-        no_ties : IsAscending (λ a b. is_eq (by_key a b) ≡ false) (map (cells this) (db.trees table.tree))
+        no_ties : IsAscending (λ a b. is_eq (by_key a b) ≡ false)
+            (map (cells this) (db.trees table.tree))
         no_ties =
             ascending-map (λ a b. is_eq (by_key a b) ≡ false) (cells this) (db.trees table.tree)
-            (ascending_weaker (λ a b. is_eq (key_cmp 0 (keys ps) (picked ps a) (picked ps b)) ≡ false) (λ a b. is_eq (by_key (cells this a) (cells this b)) ≡ false)
+            (ascending_weaker (λ a b. is_eq (key_cmp 0 (keys ps) (picked ps a) (picked ps b))
+            ≡ false) (λ a b. is_eq (by_key (cells this a) (cells this b)) ≡ false)
             (λ a b h. rw (keyed, picks a, picks b) h) (db.trees table.tree) apart)
 
         abbrev wanted : List Row
@@ -163,7 +204,8 @@ module _ (table : Table) where
         wanted_rise : IsAscending (λ a b. is_lt (by_key b a) ≡ false) wanted
         wanted_rise =
             ascending-map (λ a b. is_lt (by_key b a) ≡ false) (λ x. cells_of (stored_of x)) xs
-            (ascending_weaker (λ a b. is_lt (order (stored_of b) (stored_of a)) ≡ false) (λ a b. is_lt (by_key (cells_of (stored_of b)) (cells_of (stored_of a))) ≡ false)
+            (ascending_weaker (λ a b. is_lt (order (stored_of b) (stored_of a)) ≡ false)
+            (λ a b. is_lt (by_key (cells_of (stored_of b)) (cells_of (stored_of a))) ≡ false)
             (λ a b h. ap is_lt (agrees (stored_of b) (stored_of a)) ∙ h) xs sorted)
 
         total : IsTotalOrder by_key
@@ -172,10 +214,15 @@ module _ (table : Table) where
         pub is_held : found ≡ map stored_of xs
         is_held =
             let base = map (cells this) (db.trees table.tree) in
-            let mine = sorted_is-sort_by by_key total base rows no_ties (IsPermutation-sym _ _ rows_are) (sorted_from by_key rows rows_rise) in
-            let theirs = sorted_is-sort_by by_key total base wanted no_ties (IsPermutation-sym _ _ same) (sorted_from by_key wanted wanted_rise) in
-            let shown : map cells_of found ≡ map cells_of (map stored_of xs) = sym are ∙ mine ∙ sym theirs ∙ sym (map-map cells_of stored_of xs) in
+            let mine = sorted_is-sort_by by_key total base rows no_ties
+            (IsPermutation-sym _ _ rows_are) (sorted_from by_key rows rows_rise) in
+            let theirs = sorted_is-sort_by by_key total base wanted no_ties
+            (IsPermutation-sym _ _ same) (sorted_from by_key wanted wanted_rise) in
+            let shown : map cells_of found ≡ map cells_of (map stored_of xs) = sym are ∙ mine
+            ∙ sym theirs ∙ sym (map-map cells_of stored_of xs) in
             sym (undone found) ∙ ap (map back) shown ∙ undone (map stored_of xs)
           where
             undone : (ys : List A) → map back (map cells_of ys) ≡ ys
-            undone ys = map-map back cells_of ys ∙ fixed (λ a. back (cells_of a)) ys (all_from (λ a. back (cells_of a) ≡ a) ys (λ a there. inverse a))
+            undone ys = map-map back cells_of ys
+                ∙ fixed (λ a. back (cells_of a)) ys
+                (all_from (λ a. back (cells_of a) ≡ a) ys (λ a there. inverse a))

@@ -22,11 +22,19 @@ use Rattle.desk_sql_scan.specs.Scanning.{Lists, Scans}
 use Rattle.desk_sql_scan.specs.declared.source.Source.{Ghosts}
 use Rattle.desk_sql_scan.specs.Scans.{IsRead, IsShown}
 
-module _ (text : List ℕ) (asks : Asks text) (known : IsPlain (understood desk_schema text) × (reads_listing desk_schema text ≡ false)) {A : Type 0} (width : ℕ) (cells_of : A → Row) (old new : State) where
-  pub told : (r : Result (List A) Fault) → HasAsked old new r → (HasCleanDisk new → IfOk r (λ rows. IsShown text width cells_of rows old new))
+module _ (text : List ℕ) (asks : Asks text)
+    (known : IsPlain (understood desk_schema text)
+    × (reads_listing desk_schema text ≡ false)) {A : Type 0} (width : ℕ) (cells_of : A → Row)
+    (old new : State) where
+  pub told : (r : Result (List A) Fault) → HasAsked old new r
+      → (HasCleanDisk new → IfOk r (λ rows. IsShown text width cells_of rows old new))
       → (Raw : List A → Database → Type 0) (Is : List A → Tables → Type 0)
-      → ((rows : List A) (db : Database) (shown : List Row) → Reads (command_of (understood desk_schema text)) db [] shown → map (columns_of width) shown ≡ map cells_of rows → Raw rows db)
-      → ((rows : List A) (db : Database) (shown : List Row) → Reads (command_of (understood desk_schema text)) db [] shown → map (columns_of width) shown ≡ map cells_of rows
+      → ((rows : List A) (db : Database) (shown : List Row)
+      → Reads (command_of (understood desk_schema text)) db [] shown
+      → map (columns_of width) shown ≡ map cells_of rows → Raw rows db)
+      → ((rows : List A) (db : Database) (shown : List Row)
+      → Reads (command_of (understood desk_schema text)) db [] shown
+      → map (columns_of width) shown ≡ map cells_of rows
       → (t : Tables) → Holds t db → Is rows t)
       → IfOk r (λ rows. IsRead (Raw rows) (Is rows) old new)
   told (Err e) stayed it Raw Is raw found = tt
@@ -34,45 +42,67 @@ module _ (text : List ℕ) (asks : Asks text) (known : IsPlain (understood desk_
     survives = stayed.0;
     same = stayed.1;
     raw = λ clean has. let o = it clean in raw rows old.now o.0 (reads has clean) o.2;
-    found = λ clean t holds. let o = it clean in found rows old.now o.0 (reads holds.rows.declared clean) o.2 t holds;
+    found = λ clean t holds. let o = it clean in
+        found rows old.now o.0 (reads holds.rows.declared clean) o.2 t holds;
   }
     where
-      reads : old.now.schema ≡ desk_schema → (clean : HasCleanDisk new) → Reads (command_of (understood desk_schema text)) old.now [] (it clean).0
-      reads has clean = let o = it clean in reads_as text [] old new desk_schema has (command_of (understood desk_schema text)) refl known.0 known.1 o.0 o.1
+      reads : old.now.schema ≡ desk_schema → (clean : HasCleanDisk new)
+          → Reads (command_of (understood desk_schema text)) old.now [] (it clean).0
+      reads has clean = let o = it clean in
+          reads_as text [] old new desk_schema has (command_of (understood desk_schema text)) refl
+          known.0 known.1 o.0 o.1
 
 -- the outcome when a query's rows are read
-module _ (text : List ℕ) (asks : Asks text) (asked : IsAsked text []) (known : IsPlain (understood desk_schema text) × (reads_listing desk_schema text ≡ false)) {A : Type 0} (width : ℕ) (cells_of : A → Row)
-    {S : Type 0} (g : Ghosts S) (old new : S) (r : Result (List A) Fault) (it : Lists g text width cells_of old new r) where
+module _ (text : List ℕ) (asks : Asks text) (asked : IsAsked text [])
+    (known : IsPlain (understood desk_schema text)
+    × (reads_listing desk_schema text ≡ false)) {A : Type 0} (width : ℕ) (cells_of : A → Row)
+    {S : Type 0} (g : Ghosts S) (old new : S) (r : Result (List A) Fault)
+    (it : Lists g text width cells_of old new r) where
   abbrev before : State
   before = g.shows old
 
   abbrev Given : Type 0
-  Given = (rows : List Row) → Shown text [] before (g.shows new) rows → AllByRecursion (AreCells cells_of) rows
+  Given = (rows : List Row) → Shown text [] before (g.shows new) rows
+      → AllByRecursion (AreCells cells_of) rows
 
   pub scan_told : (Raw : List A → Database → Type 0) (Is : List A → Tables → Type 0)
-      → ((rows : List A) (db : Database) (shown : List Row) → Reads (command_of (understood desk_schema text)) db [] shown → map (columns_of width) shown ≡ map cells_of rows → Raw rows db)
-      → ((rows : List A) (db : Database) (shown : List Row) → Reads (command_of (understood desk_schema text)) db [] shown → map (columns_of width) shown ≡ map cells_of rows
+      → ((rows : List A) (db : Database) (shown : List Row)
+      → Reads (command_of (understood desk_schema text)) db [] shown
+      → map (columns_of width) shown ≡ map cells_of rows → Raw rows db)
+      → ((rows : List A) (db : Database) (shown : List Row)
+      → Reads (command_of (understood desk_schema text)) db [] shown
+      → map (columns_of width) shown ≡ map cells_of rows
       → (t : Tables) → Holds t db → Is rows t)
-      → ((db : Database) (shown : List Row) → Reads (command_of (understood desk_schema text)) db [] shown → (t : Tables) → Holds t db → AreWritten t → AllByRecursion (AreCells cells_of) shown) → Scans g old new r Raw Is
+      → ((db : Database) (shown : List Row)
+      → Reads (command_of (understood desk_schema text)) db [] shown → (t : Tables) → Holds t db
+      → AreWritten t → AllByRecursion (AreCells cells_of) shown) → Scans g old new r Raw Is
   scan_told Raw Is raw found all = record {
-    ok = told text asks known width cells_of before (g.shows new) r (it.asked asks) it.shown Raw Is raw found;
+    ok = told text asks known width cells_of before (g.shows new) r (it.asked asks) it.shown Raw Is
+        raw found;
     asked = it.asked asks;
     ready = it.ready;
     same_reference = it.same_reference;
-    cause = IfErr-weaker r (ScanFailsIf Given before (g.shows new)) (ScanFailsFor before (g.shows new)) (λ fault has. record {
-      cause = λ clean opened unlimited t holds written any.
-          has.cause clean opened unlimited t holds written (λ rows shown.
-          all before.now rows (reads_as text [] before (g.shows new) desk_schema holds.rows.declared (command_of (understood desk_schema text)) refl known.0 known.1 rows shown) t holds written);
-    }) (it.cause asks asked);
+    cause = IfErr-weaker r (ScanFailsIf Given before (g.shows new))
+        (ScanFailsFor before (g.shows new)) (λ fault has. record {
+          cause = λ clean opened unlimited t holds written any.
+              has.cause clean opened unlimited t holds written (λ rows shown.
+              all before.now rows (reads_as text [] before (g.shows new) desk_schema
+              holds.rows.declared
+              (command_of (understood desk_schema text)) refl known.0 known.1 rows shown) t holds
+              written);
+        }) (it.cause asks asked);
   }
 
 -- one reading after another
-pub then_read : (R S : Database → Type 0) (P Q : Tables → Type 0) (a b c : State) → IsRead R P a b → IsRead S Q b c → IsRead (λ db. R db × S db) (λ t. P t × Q t) a c
+pub then_read : (R S : Database → Type 0) (P Q : Tables → Type 0) (a b c : State) → IsRead R P a b
+    → IsRead S Q b c → IsRead (λ db. R db × S db) (λ t. P t × Q t) a c
 then_read R S P Q a b c one two =
     let before : HasCleanDisk c → HasCleanDisk b = clean_before b c (λ _. ⊥) two.survives in
-    let now : (clean : HasCleanDisk c) → b.now ≡ a.now = λ clean. (one.same (before clean)).0.now_is in
+    let now : (clean : HasCleanDisk c) → b.now ≡ a.now =
+    λ clean. (one.same (before clean)).0.now_is in
     record {
-      survives = survives_then a b c (λ _. ⊥) (λ _. ⊥) (λ _. ⊥) (λ _ db none. none) (λ _ db none. none) one.survives two.survives;
+      survives = survives_then a b c (λ _. ⊥) (λ _. ⊥) (λ _. ⊥) (λ _ db none. none)
+          (λ _ db none. none) one.survives two.survives;
       same = λ clean. unchanged_then a b c (one.same (before clean)) (two.same clean);
       raw = λ clean has. (
         one.raw (before clean) has,

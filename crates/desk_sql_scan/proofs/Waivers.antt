@@ -11,11 +11,16 @@ day_is : (day : Option (List ℕ)) → is_some day ≡ true → text_or_null day
 day_is None is = absurd (cc)
 day_is (Some day) is = refl
 
-pub waivers_are : (rows : List ChangeRow) → map waiver_cells (filter is_waiver rows) ≡ map (λ x. stored_waiver_cells (waiver_stored x)) (filter is_waiver rows)
+pub waivers_are : (rows : List ChangeRow)
+    → map waiver_cells (filter is_waiver rows)
+    ≡ map (λ x. stored_waiver_cells (waiver_stored x)) (filter is_waiver rows)
 waivers_are [] = refl
 waivers_are (x ∷ xs) = go (waivers_are xs) (is_waiver x) refl
   where
-    go : map waiver_cells (filter is_waiver xs) ≡ map (λ x. stored_waiver_cells (waiver_stored x)) (filter is_waiver xs) → (b : Bool) → is_waiver x ≡ b
-        → map waiver_cells (filter is_waiver (x ∷ xs)) ≡ map (λ x. stored_waiver_cells (waiver_stored x)) (filter is_waiver (x ∷ xs))
+    go : map waiver_cells (filter is_waiver xs)
+        ≡ map (λ x. stored_waiver_cells (waiver_stored x)) (filter is_waiver xs) → (b : Bool)
+        → is_waiver x ≡ b
+        → map waiver_cells (filter is_waiver (x ∷ xs))
+        ≡ map (λ x. stored_waiver_cells (waiver_stored x)) (filter is_waiver (x ∷ xs))
     go more true is = rw is (ap₂ (λ a l. a ∷ l) (rw (day_is x.last_day is) refl) more)
     go more false is = rw is more

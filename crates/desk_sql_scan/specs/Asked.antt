@@ -7,9 +7,9 @@ use Rattle.desk_model.specs.declared.command.Fault.{Fault}
 abbrev pub IsSettled : State → Type 0
 IsSettled s = IsTrue s.is_open → s.now ≡ s.committed
 
--- Nothing was committed, and a stop leaves nothing that it couldn't leave before. A connection that shows
--- only what is committed shows what it showed, as far as it still shows anything; inside a transaction what
--- was written may be undone.
+-- Nothing was committed, and a stop leaves nothing that it couldn't leave before. A connection that
+-- shows only what is committed shows what it showed, as far as it still shows anything; inside a
+-- transaction what was written may be undone.
 pub record IsSpared (old new : State) : Type 0 where
   pub survives : Survives old new (λ _. ⊥)
   pub kept : HasCleanDisk new → KeepsCommit old new

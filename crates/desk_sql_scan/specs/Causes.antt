@@ -14,11 +14,13 @@ use Rattle.desk_sql_lookup.specs.Causes.{AreWritten, IsRow}
 abbrev pub AreCells : {A : Type 0} → (A → Row) → Row → Type 0
 AreCells {A} cells_of row = IsRow row × ((x : A) × (row ≡ cells_of x))
 
--- If the rows that are shown, committed or not, are as a desk writes them, and the steps of a query have no
--- limit, reading fails only if no memory is left, or with a fault of the database if the disk failed once
--- more. `Given` is what its caller says besides.
+-- If the rows that are shown, committed or not, are as a desk writes them, and the steps of a query
+-- have no limit, reading fails only if no memory is left, or with a fault of the database if the
+-- disk failed once more. `Given` is what its caller says besides.
 pub record ScanFailsIf (Given : Type 0) (old new : State) (fault : Fault) : Type 0 where
-  pub cause : HasCleanDisk new → IsTrue old.is_open → old.step_limit ≡ None → (t : Tables) → Holds t old.now → AreWritten t → Given → (fault ≡ Memory) ⊎ ((fault ≡ Store DatabaseFault) × MoreFaults old.faults new.faults)
+  pub cause : HasCleanDisk new → IsTrue old.is_open → old.step_limit ≡ None → (t : Tables)
+      → Holds t old.now → AreWritten t → Given
+      → (fault ≡ Memory) ⊎ ((fault ≡ Store DatabaseFault) × MoreFaults old.faults new.faults)
 
 abbrev pub ScanFailsFor : State → State → Fault → Type 0
 ScanFailsFor = ScanFailsIf (Unit {0})

@@ -32,7 +32,8 @@ abbrev pub stored_catalogue_cells : StoredCatalogue → Row
 stored_catalogue_cells row = Int row.revision ∷ Text row.body ∷ []
 
 abbrev pub stored_rule_cells : StoredRule → Row
-stored_rule_cells row = Int row.revision ∷ Text row.term ∷ Text row.form ∷ Text row.spelled ∷ Text row.codes ∷ []
+stored_rule_cells row = Int row.revision ∷ Text row.term ∷ Text row.form ∷ Text row.spelled
+    ∷ Text row.codes ∷ []
 
 abbrev pub stored_document_cells : StoredDocument → Row
 stored_document_cells row = Int row.number ∷ Text row.namespace ∷ Blob row.bytes ∷ []
@@ -42,7 +43,8 @@ stored_reading_cells row = Int row.document ∷ Int row.profile ∷ []
 
 abbrev pub stored_package_cells : StoredPackage → Row
 stored_package_cells row =
-    Int row.document ∷ Text row.id ∷ Text row.name ∷ text_or_null row.version ∷ text_or_null row.concluded ∷ text_or_null row.copyright
+    Int row.document ∷ Text row.id ∷ Text row.name ∷ text_or_null row.version
+    ∷ text_or_null row.concluded ∷ text_or_null row.copyright
     ∷ Int row.shipped ∷ []
 
 abbrev pub stored_extracted_cells : StoredExtracted → Row
@@ -55,23 +57,28 @@ abbrev pub stored_adoption_cells : StoredAdoption → Row
 stored_adoption_cells row = Int row.document ∷ Text row.reference ∷ Text row.licence ∷ []
 
 abbrev pub stored_release_cells : StoredRelease → Row
-stored_release_cells row = Text row.name ∷ Int row.place ∷ Text row.form ∷ Text row.state ∷ Int row.revision ∷ []
+stored_release_cells row = Text row.name ∷ Int row.place ∷ Text row.form ∷ Text row.state
+    ∷ Int row.revision ∷ []
 
 abbrev pub stored_attached_cells : StoredAttached → Row
 stored_attached_cells row = Text row.release ∷ Int row.document ∷ []
 
 abbrev pub stored_choice_cells : StoredChoice → Row
-stored_choice_cells row = Text row.release ∷ Int row.document ∷ Text row.package_id ∷ Text row.term ∷ []
+stored_choice_cells row = Text row.release ∷ Int row.document ∷ Text row.package_id ∷ Text row.term
+    ∷ []
 
 abbrev pub stored_frozen_cells : StoredFrozen → Row
-stored_frozen_cells row = Text row.release ∷ Int row.document ∷ Text row.package_id ∷ Text row.term ∷ Text row.rule ∷ []
+stored_frozen_cells row = Text row.release ∷ Int row.document ∷ Text row.package_id ∷ Text row.term
+    ∷ Text row.rule ∷ []
 
 abbrev pub stored_duty_cells : StoredDuty → Row
 stored_duty_cells row =
-    Int row.number ∷ Text row.release ∷ Int row.document ∷ Text row.package_id ∷ Text row.term ∷ Text row.code ∷ Text row.rule ∷ Text row.state ∷ []
+    Int row.number ∷ Text row.release ∷ Int row.document ∷ Text row.package_id ∷ Text row.term
+    ∷ Text row.code ∷ Text row.rule ∷ Text row.state ∷ []
 
 abbrev pub stored_change_cells : StoredChange → Row
-stored_change_cells row = Int row.duty ∷ Int row.step ∷ Text row.day ∷ Text row.word ∷ Text row.body ∷ []
+stored_change_cells row = Int row.duty ∷ Int row.step ∷ Text row.day ∷ Text row.word ∷ Text row.body
+    ∷ []
 
 abbrev pub stored_waiver_cells : StoredWaiver → Row
 stored_waiver_cells row = Int row.duty ∷ Int row.step ∷ Text row.last_day ∷ []

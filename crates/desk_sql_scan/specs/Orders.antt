@@ -17,7 +17,8 @@ abbrev pub catalogue_order : StoredCatalogue → StoredCatalogue → Ordering
 catalogue_order = by_number (λ row. row.revision)
 
 abbrev pub rule_order : StoredRule → StoredRule → Ordering
-rule_order = then_cmp (by_number (λ row. row.revision)) (then_cmp (by_text (λ row. row.term)) (by_text (λ row. row.form)))
+rule_order = then_cmp (by_number (λ row. row.revision))
+    (then_cmp (by_text (λ row. row.term)) (by_text (λ row. row.form)))
 
 abbrev pub document_order : StoredDocument → StoredDocument → Ordering
 document_order = by_number (λ row. row.number)

@@ -2,12 +2,29 @@
 use Rattle.std.specs.Prelude.{◌≡◌, pos, [], ◌∷◌, map, filter}
 use Rattle.sqlite.specs.Effect.{Database}
 use Rattle.desk_history.specs.Laws.{AreSortedAsListed}
-use Rattle.desk_sql_layout.specs.Layout.{meta_table, catalogue_table, rule_table, document_table, reading_table, package_table, extracted_table, conclusion_table, adoption_table, releases_table, attached_table, choice_table, frozen_table, duty_table, change_table, waiver_table}
+use Rattle.desk_sql_layout.specs.Layout.{meta_table, catalogue_table, rule_table, document_table}
+use Rattle.desk_sql_layout.specs.Layout.{reading_table, package_table, extracted_table}
+use Rattle.desk_sql_layout.specs.Layout.{conclusion_table, adoption_table, releases_table}
+use Rattle.desk_sql_layout.specs.Layout.{attached_table, choice_table, frozen_table, duty_table}
+use Rattle.desk_sql_layout.specs.Layout.{change_table, waiver_table}
 use Rattle.desk_model.specs.Tables.{Tables}
-use Rattle.desk_snapshot.specs.Orders.{reading_order, package_order, conclusion_order, release_order, attached_order, choice_order, frozen_order, change_order, waiver_order}
-use Rattle.desk_snapshot.specs.Tables.{catalogue_stored, rule_stored, document_stored, reading_stored, package_stored, extracted_stored, conclusion_stored, adoption_stored, release_stored, attached_stored, choice_stored, frozen_stored, duty_stored, change_stored, waiver_stored, is_waiver}
-use Rattle.desk_sql_scan.specs.Cells.{stored_meta_cells, stored_catalogue_cells, stored_rule_cells, stored_document_cells, stored_reading_cells, stored_package_cells, stored_extracted_cells, stored_conclusion_cells, stored_adoption_cells, stored_release_cells, stored_attached_cells, stored_choice_cells, stored_frozen_cells, stored_duty_cells, stored_change_cells, stored_waiver_cells}
-use Rattle.desk_sql_scan.specs.Orders.{meta_order, catalogue_order, rule_order, document_order, extracted_order, adoption_order, duty_order}
+use Rattle.desk_snapshot.specs.Orders.{reading_order, package_order, conclusion_order}
+use Rattle.desk_snapshot.specs.Orders.{release_order, attached_order, choice_order, frozen_order}
+use Rattle.desk_snapshot.specs.Orders.{change_order, waiver_order}
+use Rattle.desk_snapshot.specs.Tables.{catalogue_stored, rule_stored, document_stored}
+use Rattle.desk_snapshot.specs.Tables.{reading_stored, package_stored, extracted_stored}
+use Rattle.desk_snapshot.specs.Tables.{conclusion_stored, adoption_stored, release_stored}
+use Rattle.desk_snapshot.specs.Tables.{attached_stored, choice_stored, frozen_stored, duty_stored}
+use Rattle.desk_snapshot.specs.Tables.{change_stored, waiver_stored, is_waiver}
+use Rattle.desk_sql_scan.specs.Cells.{stored_meta_cells, stored_catalogue_cells, stored_rule_cells}
+use Rattle.desk_sql_scan.specs.Cells.{stored_document_cells, stored_reading_cells}
+use Rattle.desk_sql_scan.specs.Cells.{stored_package_cells, stored_extracted_cells}
+use Rattle.desk_sql_scan.specs.Cells.{stored_conclusion_cells, stored_adoption_cells}
+use Rattle.desk_sql_scan.specs.Cells.{stored_release_cells, stored_attached_cells}
+use Rattle.desk_sql_scan.specs.Cells.{stored_choice_cells, stored_frozen_cells, stored_duty_cells}
+use Rattle.desk_sql_scan.specs.Cells.{stored_change_cells, stored_waiver_cells}
+use Rattle.desk_sql_scan.specs.Orders.{meta_order, catalogue_order, rule_order, document_order}
+use Rattle.desk_sql_scan.specs.Orders.{extracted_order, adoption_order, duty_order}
 use Rattle.desk_sql_scan.specs.Scans.{IsScan}
 use Rattle.desk_snapshot.specs.declared.snapshot.Snapshot.{Snapshot}
 use Rattle.desk_sql_scan.specs.declared.whole.FirstPart.{FirstPart}
@@ -26,7 +43,9 @@ HasCatalogues part db =
     × (IsScan rule_table stored_rule_cells rule_order part.rule db))
 
 abbrev pub OfCatalogues : CataloguePart → Tables → Type 0
-OfCatalogues part t = (part.meta ≡ record { version = pos 3 } ∷ []) × ((part.catalogue ≡ map catalogue_stored t.catalogue) × ((AreSortedAsListed t → part.rule ≡ map rule_stored t.rule)))
+OfCatalogues part t = (part.meta ≡ record { version = pos 3 } ∷ [])
+    × ((part.catalogue ≡ map catalogue_stored t.catalogue)
+    × ((AreSortedAsListed t → part.rule ≡ map rule_stored t.rule)))
 
 -- documents with their profiles, packages and extracted licences
 abbrev pub HasDocuments : DocumentPart → Database → Type 0
@@ -37,7 +56,10 @@ HasDocuments part db =
     × (IsScan extracted_table stored_extracted_cells extracted_order part.extracted db)))
 
 abbrev pub OfDocuments : DocumentPart → Tables → Type 0
-OfDocuments part t = (part.document ≡ map document_stored t.document) × ((part.reading ≡ map reading_stored t.document) × ((part.packages ≡ map package_stored t.packages) × ((AreSortedAsListed t → part.extracted ≡ map extracted_stored t.extracted))))
+OfDocuments part t = (part.document ≡ map document_stored t.document)
+    × ((part.reading ≡ map reading_stored t.document)
+    × ((part.packages ≡ map package_stored t.packages)
+    × ((AreSortedAsListed t → part.extracted ≡ map extracted_stored t.extracted))))
 
 -- what the office concluded and adopted
 abbrev pub HasOffice : OfficePart → Database → Type 0
@@ -46,7 +68,8 @@ HasOffice part db =
     × (IsScan adoption_table stored_adoption_cells adoption_order part.adoption db)
 
 abbrev pub OfOffice : OfficePart → Tables → Type 0
-OfOffice part t = (part.conclusion ≡ map conclusion_stored t.conclusion) × ((part.adoption ≡ map adoption_stored t.adoption))
+OfOffice part t = (part.conclusion ≡ map conclusion_stored t.conclusion)
+    × ((part.adoption ≡ map adoption_stored t.adoption))
 
 -- releases with their documents, and their chosen and frozen terms
 abbrev pub HasReleases : ReleasePart → Database → Type 0
@@ -57,7 +80,9 @@ HasReleases part db =
     × (IsScan frozen_table stored_frozen_cells frozen_order part.frozen db)))
 
 abbrev pub OfReleases : ReleasePart → Tables → Type 0
-OfReleases part t = (part.releases ≡ map release_stored t.releases) × ((part.attached ≡ map attached_stored t.attached) × ((part.choice ≡ map choice_stored t.choice) × ((part.frozen ≡ map frozen_stored t.frozen))))
+OfReleases part t = (part.releases ≡ map release_stored t.releases)
+    × ((part.attached ≡ map attached_stored t.attached)
+    × ((part.choice ≡ map choice_stored t.choice) × ((part.frozen ≡ map frozen_stored t.frozen))))
 
 -- duties with their changes, and the last days of waivers
 abbrev pub HasDuties : DutyPart → Database → Type 0
@@ -67,7 +92,9 @@ HasDuties part db =
     × (IsScan waiver_table stored_waiver_cells waiver_order part.waiver db))
 
 abbrev pub OfDuties : DutyPart → Tables → Type 0
-OfDuties part t = (part.changes ≡ map change_stored t.changes) × ((part.duty ≡ map duty_stored t.duty) × ((part.waiver ≡ map waiver_stored (filter is_waiver t.changes))))
+OfDuties part t = (part.changes ≡ map change_stored t.changes)
+    × ((part.duty ≡ map duty_stored t.duty)
+    × ((part.waiver ≡ map waiver_stored (filter is_waiver t.changes))))
 
 -- the snapshot of two parts
 abbrev pub joined_of : FirstPart → SecondPart → Snapshot

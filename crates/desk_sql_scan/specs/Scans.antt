@@ -12,20 +12,35 @@ use Rattle.sqlite_schema.specs.declared.schema.Schema.{Schema}
 use Rattle.sqlite.specs.Effect.{Database}
 use Rattle.sqlite.specs.State.{State, HasCleanDisk, IsUnchanged, Shown, Survives}
 use Rattle.desk_sql_layout.specs.Held.{Holds}
-use Rattle.desk_sql_layout.specs.Layout.{desk_schema, meta_table, catalogue_table, rule_table, document_table, package_table, extracted_table, conclusion_table, adoption_table, releases_table, attached_table, choice_table, frozen_table, duty_table, change_table, reading_table, waiver_table}
+use Rattle.desk_sql_layout.specs.Layout.{desk_schema, meta_table, catalogue_table, rule_table}
+use Rattle.desk_sql_layout.specs.Layout.{document_table, package_table, extracted_table}
+use Rattle.desk_sql_layout.specs.Layout.{conclusion_table, adoption_table, releases_table}
+use Rattle.desk_sql_layout.specs.Layout.{attached_table, choice_table, frozen_table, duty_table}
+use Rattle.desk_sql_layout.specs.Layout.{change_table, reading_table, waiver_table}
 use Rattle.desk_sql_layout.specs.Stored.{cells}
 use Rattle.desk_model.specs.Tables.{Tables}
-use Rattle.desk_snapshot.specs.Orders.{reading_order, package_order, conclusion_order, release_order, attached_order, choice_order, frozen_order, change_order, waiver_order}
+use Rattle.desk_snapshot.specs.Orders.{reading_order, package_order, conclusion_order}
+use Rattle.desk_snapshot.specs.Orders.{release_order, attached_order, choice_order, frozen_order}
+use Rattle.desk_snapshot.specs.Orders.{change_order, waiver_order}
 use Rattle.desk_snapshot.specs.declared.snapshot.Snapshot.{Snapshot}
-use Rattle.desk_sql_scan.specs.Cells.{columns_of, stored_meta_cells, stored_catalogue_cells, stored_rule_cells, stored_document_cells, stored_reading_cells, stored_package_cells, stored_extracted_cells, stored_conclusion_cells, stored_adoption_cells, stored_release_cells, stored_attached_cells, stored_choice_cells, stored_frozen_cells, stored_duty_cells, stored_change_cells, stored_waiver_cells}
-use Rattle.desk_sql_scan.specs.Orders.{meta_order, catalogue_order, rule_order, document_order, extracted_order, adoption_order, duty_order}
+use Rattle.desk_sql_scan.specs.Cells.{columns_of, stored_meta_cells, stored_catalogue_cells}
+use Rattle.desk_sql_scan.specs.Cells.{stored_rule_cells, stored_document_cells}
+use Rattle.desk_sql_scan.specs.Cells.{stored_reading_cells, stored_package_cells}
+use Rattle.desk_sql_scan.specs.Cells.{stored_extracted_cells, stored_conclusion_cells}
+use Rattle.desk_sql_scan.specs.Cells.{stored_adoption_cells, stored_release_cells}
+use Rattle.desk_sql_scan.specs.Cells.{stored_attached_cells, stored_choice_cells}
+use Rattle.desk_sql_scan.specs.Cells.{stored_frozen_cells, stored_duty_cells, stored_change_cells}
+use Rattle.desk_sql_scan.specs.Cells.{stored_waiver_cells}
+use Rattle.desk_sql_scan.specs.Orders.{meta_order, catalogue_order, rule_order, document_order}
+use Rattle.desk_sql_scan.specs.Orders.{extracted_order, adoption_order, duty_order}
 
 -- no row comes after one that it should come before
 abbrev pub IsInOrder : {A : Type 0} → (A → A → Ordering) → List A → Type 0
 IsInOrder order = IsAscending (λ a b. is_lt (order b a) ≡ false)
 
 -- These are all rows of a table, in the order of its key.
-pub record IsScan {A : Type 0} (table : Table) (cells_of : A → Row) (order : A → A → Ordering) (rows : List A) (db : Database) : Type 0 where
+pub record IsScan {A : Type 0} (table : Table) (cells_of : A → Row) (order : A → A → Ordering)
+    (rows : List A) (db : Database) : Type 0 where
   pub shown : IsPermutation (map cells_of rows) (map (cells table) (db.trees table.tree))
   pub ordered : IsInOrder order rows
 
@@ -70,14 +85,17 @@ stored_rows s tree =
 
 -- the rows of each table are in the order of their rowids, as every store keeps them
 abbrev pub AreTables : Schema → Trees → Type 0
-AreTables schema trees = AllByRecursion (λ t. IsTable (trees t.tree) × AllByRecursion (λ r. is_int (rowid r) ≡ true) (trees t.tree)) schema.tables
+AreTables schema trees = AllByRecursion
+    (λ t. IsTable (trees t.tree) × AllByRecursion (λ r. is_int (rowid r) ≡ true) (trees t.tree))
+    schema.tables
 
 -- these are the rows whose cells a query with no parameters shows, in its first `width` columns
 abbrev pub IsShown : {A : Type 0} → List ℕ → ℕ → (A → Row) → List A → State → State → Type 0
-IsShown sql width cells_of rows old new = (shown : List Row) × Shown sql [] old new shown × (map (columns_of width) shown ≡ map cells_of rows)
+IsShown sql width cells_of rows old new = (shown : List Row) × Shown sql [] old new shown
+    × (map (columns_of width) shown ≡ map cells_of rows)
 
--- What was read from a connection, which stays as it was: it is true of the database that the connection
--- shows, if that has a desk's schema, and of whatever tables the database holds.
+-- What was read from a connection, which stays as it was: it is true of the database that the
+-- connection shows, if that has a desk's schema, and of whatever tables the database holds.
 pub record IsRead (Raw : Database → Type 0) (Is : Tables → Type 0) (old new : State) : Type 0 where
   pub survives : Survives old new (λ _. ⊥)
   pub same : HasCleanDisk new → IsUnchanged old new

@@ -1,10 +1,14 @@
--- What a change writes is what it does to the tables, apart from the order of their rows, and it fails as
--- these writes do.
-use Rattle.std.proofs.Common.{◌≡◌, ℕ, Bool, true, false, not, cond, find, List, [], ◌∷◌, ◌++◌, filter, map, length, ◌+◌, ◌∙◌, Option, Some, None, Ok, Err, Result, refl, sym, ap, subst}
+-- What a change writes is what it does to the tables, apart from the order of their rows, and it
+-- fails as these writes do.
+use Rattle.std.proofs.Common.{◌≡◌, ℕ, Bool, true, false, not, cond, find, List, [], ◌∷◌, ◌++◌}
+use Rattle.std.proofs.Common.{filter, map, length, ◌+◌, ◌∙◌, Option, Some, None, Ok, Err, Result}
+use Rattle.std.proofs.Common.{refl, sym, ap, subst}
 use Rattle.std.specs.Option.{option_map}
 use Rattle.std.specs.List.{AllByRecursion}
 use Rattle.std.specs.List.Sorted.{IsPermutation}
-use Rattle.std.proofs.lemmas.List.Sorted.{IsPermutation-refl, IsPermutation-sym, IsPermutation-cons, IsPermutation-middle, IsPermutation-trans, IsPermutation-map}
+use Rattle.std.proofs.lemmas.List.Sorted.{IsPermutation-refl, IsPermutation-sym, IsPermutation-cons}
+use Rattle.std.proofs.lemmas.List.Sorted.{IsPermutation-middle, IsPermutation-trans}
+use Rattle.std.proofs.lemmas.List.Sorted.{IsPermutation-map}
 use Rattle.sqlite_value.specs.Order.{Row}
 use Rattle.std.proofs.lemmas.List.{map-append}
 use Rattle.sqlite_trees.proofs.ListLemmas.{all-permutation, IsPermutation-filter, IsPermutation-same}
@@ -12,8 +16,11 @@ use Rattle.sqlite_schema.specs.declared.schema.Table.{Table}
 use Rattle.sqlite.specs.Effect.{Database}
 use Rattle.sqlite.specs.State.{State}
 use Rattle.desk_model.specs.Lists.{put, put_all, updated}
-use Rattle.desk_model.specs.Keys.{below_by, release_below, attached_order, choice_order, frozen_order, change_below, conclusion_order, adoption_order, is_release, is_conclusion, is_adoption}
-use Rattle.desk_model.specs.Tables.{Tables, applied, is_other_choice, is_choice_elsewhere, with_release_state, withdrawn_release, moved_by}
+use Rattle.desk_model.specs.Keys.{below_by, release_below, attached_order, choice_order}
+use Rattle.desk_model.specs.Keys.{frozen_order, change_below, conclusion_order, adoption_order}
+use Rattle.desk_model.specs.Keys.{is_release, is_conclusion, is_adoption}
+use Rattle.desk_model.specs.Tables.{Tables, applied, is_other_choice, is_choice_elsewhere}
+use Rattle.desk_model.specs.Tables.{with_release_state, withdrawn_release, moved_by}
 use Rattle.desk_model.specs.declared.row.CatalogueRow.{CatalogueRow}
 use Rattle.desk_model.specs.declared.row.RuleRow.{RuleRow}
 use Rattle.desk_model.specs.declared.row.DocumentRow.{DocumentRow}
@@ -29,11 +36,18 @@ use Rattle.desk_model.specs.declared.row.DutyRow.{DutyRow}
 use Rattle.desk_model.specs.declared.row.ChangeRow.{ChangeRow}
 use Rattle.desk_model.specs.declared.state.ReleaseState.TheVariants.{Frozen}
 use Rattle.desk_model.specs.declared.command.Change.{Change}
-use Rattle.desk_model.specs.declared.command.Change.TheVariants.{Loaded, Imported, Opened, Attached, Chosen, Froze, Moved, Withdrew, Concluded, Adopted}
+use Rattle.desk_model.specs.declared.command.Change.TheVariants.{Loaded, Imported, Opened, Attached}
+use Rattle.desk_model.specs.declared.command.Change.TheVariants.{Chosen, Froze, Moved, Withdrew}
+use Rattle.desk_model.specs.declared.command.Change.TheVariants.{Concluded, Adopted}
 use Rattle.desk_model.specs.declared.command.Fault.{Fault}
-use Rattle.desk_sql_layout.specs.Layout.{desk_schema, catalogue_table, rule_table, conclusion_table, adoption_table, releases_table, attached_table, choice_table, frozen_table}
+use Rattle.desk_sql_layout.specs.Layout.{desk_schema, catalogue_table, rule_table, conclusion_table}
+use Rattle.desk_sql_layout.specs.Layout.{adoption_table, releases_table, attached_table}
+use Rattle.desk_sql_layout.specs.Layout.{choice_table, frozen_table}
 use Rattle.desk_sql_layout.specs.Stored.{AreStored}
-use Rattle.desk_sql_layout.specs.Cells.{catalogue_cells, rule_cells, document_cells, reading_cells, package_cells, extracted_cells, duty_cells, release_cells, attached_cells, choice_cells, frozen_cells, change_cells, conclusion_cells, adoption_cells, is_waiver, waiver_cells}
+use Rattle.desk_sql_layout.specs.Cells.{catalogue_cells, rule_cells, document_cells, reading_cells}
+use Rattle.desk_sql_layout.specs.Cells.{package_cells, extracted_cells, duty_cells, release_cells}
+use Rattle.desk_sql_layout.specs.Cells.{attached_cells, choice_cells, frozen_cells, change_cells}
+use Rattle.desk_sql_layout.specs.Cells.{conclusion_cells, adoption_cells, is_waiver, waiver_cells}
 use Rattle.desk_sql_layout.specs.Held.{HasRows, rows_of}
 use Rattle.desk_sql_layout.proofs.Writes.{stored_as}
 use Rattle.desk_sql_write.specs.Replacing.{Taking, rows_before, rows_after}
@@ -46,39 +60,74 @@ use Rattle.desk_sql_write.proofs.Puts.{once_permuted}
 
 -- each table has the same rows, in some order
 abbrev pub AreSame : (ℕ → List Row) → (ℕ → List Row) → Type 0
-AreSame rows other = AllByRecursion (λ t. IsPermutation (rows t.tree) (other t.tree)) desk_schema.tables
+AreSame rows other = AllByRecursion (λ t. IsPermutation (rows t.tree) (other t.tree))
+    desk_schema.tables
 
-permuted : (rows other : ℕ → List Row) (db : Database) → AreSame rows other → HasRows other db → HasRows rows db
-permuted rows other db same has = record { declared = has.declared; stored = each desk_schema.tables same has.stored; sound = has.sound }
+permuted : (rows other : ℕ → List Row) (db : Database) → AreSame rows other → HasRows other db
+    → HasRows rows db
+permuted rows other db same has = record {
+  declared = has.declared;
+  stored = each desk_schema.tables same has.stored;
+  sound = has.sound;
+}
   where
-    each : (tables : List Table) → AllByRecursion (λ t. IsPermutation (rows t.tree) (other t.tree)) tables → AllByRecursion (λ t. AreStored t (other t.tree) (db.trees t.tree)) tables
+    each : (tables : List Table) → AllByRecursion (λ t. IsPermutation (rows t.tree) (other t.tree))
+        tables → AllByRecursion (λ t. AreStored t (other t.tree) (db.trees t.tree)) tables
         → AllByRecursion (λ t. AreStored t (rows t.tree) (db.trees t.tree)) tables
     each [] a b = tt
-    each (t ∷ tables) a b = (stored_as t (other t.tree) (rows t.tree) (db.trees t.tree) a.0 b.0, each tables a.1 b.1)
+    each (t ∷ tables) a b = (
+      stored_as t (other t.tree) (rows t.tree) (db.trees t.tree) a.0 b.0,
+      each tables a.1 b.1,
+    )
 
 permuted_stand : (rows other : ℕ → List Row) → AreSame rows other → CanStand rows → CanStand other
-permuted_stand rows other same can = record { small = small desk_schema.tables same can.small; keys = keys desk_schema.tables same can.keys }
+permuted_stand rows other same can = record {
+  small = small desk_schema.tables same can.small;
+  keys = keys desk_schema.tables same can.keys;
+}
   where
-    small : (tables : List Table) → AllByRecursion (λ t. IsPermutation (rows t.tree) (other t.tree)) tables → AllByRecursion (λ t. AllByRecursion (AllByRecursion IsSmall) (rows t.tree)) tables → AllByRecursion (λ t. AllByRecursion (AllByRecursion IsSmall) (other t.tree)) tables
+    small : (tables : List Table)
+        → AllByRecursion (λ t. IsPermutation (rows t.tree) (other t.tree)) tables
+        → AllByRecursion (λ t. AllByRecursion (AllByRecursion IsSmall) (rows t.tree)) tables
+        → AllByRecursion (λ t. AllByRecursion (AllByRecursion IsSmall) (other t.tree)) tables
     small [] a b = tt
-    small (t ∷ tables) a b = (all-permutation (AllByRecursion IsSmall) (rows t.tree) (other t.tree) a.0 b.0, small tables a.1 b.1)
+    small (t ∷ tables) a b = (
+      all-permutation (AllByRecursion IsSmall) (rows t.tree) (other t.tree) a.0 b.0,
+      small tables a.1 b.1,
+    )
 
-    once : (xs ys : List Row) (places : List (List ℕ)) → IsPermutation xs ys → AllByRecursion (StandsOnce xs) places → AllByRecursion (StandsOnce ys) places
+    once : (xs ys : List Row) (places : List (List ℕ)) → IsPermutation xs ys
+        → AllByRecursion (StandsOnce xs) places → AllByRecursion (StandsOnce ys) places
     once xs ys [] same all = tt
-    once xs ys (p ∷ places) same all = (once_permuted xs ys p same all.0, once xs ys places same all.1)
+    once xs ys (p ∷ places) same all = (
+      once_permuted xs ys p same all.0,
+      once xs ys places same all.1,
+    )
 
-    keys : (tables : List Table) → AllByRecursion (λ t. IsPermutation (rows t.tree) (other t.tree)) tables → AllByRecursion (λ t. AllByRecursion (StandsOnce (rows t.tree)) (t.primary ∷ t.uniques)) tables → AllByRecursion (λ t. AllByRecursion (StandsOnce (other t.tree)) (t.primary ∷ t.uniques)) tables
+    keys : (tables : List Table) → AllByRecursion (λ t. IsPermutation (rows t.tree) (other t.tree))
+        tables → AllByRecursion (λ t. AllByRecursion (StandsOnce (rows t.tree))
+        (t.primary ∷ t.uniques)) tables
+        → AllByRecursion (λ t. AllByRecursion (StandsOnce (other t.tree)) (t.primary ∷ t.uniques))
+        tables
     keys [] a b = tt
-    keys (t ∷ tables) a b = (once (rows t.tree) (other t.tree) (t.primary ∷ t.uniques) a.0 b.0, keys tables a.1 b.1)
+    keys (t ∷ tables) a b = (
+      once (rows t.tree) (other t.tree) (t.primary ∷ t.uniques) a.0 b.0,
+      keys tables a.1 b.1,
+    )
 
 -- a change is written by what does the same to the tables
 abbrev IsWritten : (Tables → ℕ → List Row) → ℕ → Change → Type 1
-IsWritten after many change = (old new : State) (r : Result (Unit {0}) Fault) → Turns rows_of after many old new r → Writes rows_of (applied change) old new r × FailsOnlyFor rows_of (applied change) many old new r
+IsWritten after many change = (old new : State) (r : Result (Unit {0}) Fault)
+    → Turns rows_of after many old new r
+    → Writes rows_of (applied change) old new r
+    × FailsOnlyFor rows_of (applied change) many old new r
 
 -- what does the same to the tables that something shows writes the change of them
-pub written_from : {A : Type 0} (show : A → Tables) (after : A → ℕ → List Row) (many : ℕ) (change : Change)
+pub written_from : {A : Type 0} (show : A → Tables) (after : A → ℕ → List Row) (many : ℕ)
+    (change : Change)
     → ((a : A) → AreSame (rows_of (applied change (show a))) (after a))
-    → (old new : State) (r : Result (Unit {0}) Fault) → Turns (λ a. rows_of (show a)) after many old new r
+    → (old new : State) (r : Result (Unit {0}) Fault)
+    → Turns (λ a. rows_of (show a)) after many old new r
     → WritesAs (λ a. rows_of (show a)) (λ a. rows_of (applied change (show a))) old new r
     × FailsOnlyAs (λ a. rows_of (show a)) (λ a. rows_of (applied change (show a))) many old new r
 written_from show after many change same old new (Ok done) turns = (
@@ -88,7 +137,8 @@ written_from show after many change same old new (Ok done) turns = (
         inside = it.inside;
         kept = it.kept;
         change = λ a has.
-            permuted (rows_of (applied change (show a))) (after a) new.now (same a) (it.change a has);
+            permuted (rows_of (applied change (show a))) (after a) new.now (same a)
+            (it.change a has);
       },
   turns.cause,
 )
@@ -101,79 +151,164 @@ written_from show after many change same old new (Err fault) turns = (
   },
 )
 
-written : (after : Tables → ℕ → List Row) (many : ℕ) (change : Change) → ((t : Tables) → AreSame (rows_of (applied change t)) (after t)) → IsWritten after many change
+written : (after : Tables → ℕ → List Row) (many : ℕ) (change : Change)
+    → ((t : Tables) → AreSame (rows_of (applied change t)) (after t)) → IsWritten after many change
 written = written_from (λ t. t)
 
 -- ---- a row in its place is a row after the others, in another order
 
-added : {X : Type 0} (cells : X → Row) (xs ys : List X) → IsPermutation (map cells (xs ++ ys)) (map cells xs ++ map cells ys)
+added : {X : Type 0} (cells : X → Row) (xs ys : List X)
+    → IsPermutation (map cells (xs ++ ys)) (map cells xs ++ map cells ys)
 added cells xs ys = IsPermutation-same _ _ (map-append cells xs ys)
 
-waivers_added : (all changes : List ChangeRow) → IsPermutation (map waiver_cells (filter is_waiver (all ++ changes))) (map waiver_cells (filter is_waiver all) ++ map waiver_cells (filter is_waiver changes))
-waivers_added all changes = IsPermutation-same _ _ (ap (map waiver_cells) (filter_both is_waiver all changes) ∙ map-append waiver_cells (filter is_waiver all) (filter is_waiver changes))
+waivers_added : (all changes : List ChangeRow)
+    → IsPermutation (map waiver_cells (filter is_waiver (all ++ changes)))
+    (map waiver_cells (filter is_waiver all) ++ map waiver_cells (filter is_waiver changes))
+waivers_added all changes = IsPermutation-same _ _
+    (ap (map waiver_cells) (filter_both is_waiver all changes)
+    ∙ map-append waiver_cells (filter is_waiver all) (filter is_waiver changes))
 
 behind : {X : Type 0} (x : X) (xs : List X) → IsPermutation (x ∷ xs) (xs ++ x ∷ [])
-behind x xs = IsPermutation-sym _ _ (subst (λ l. IsPermutation (xs ++ x ∷ []) (x ∷ l)) (append_nil xs) (IsPermutation-middle xs x []))
+behind x xs = IsPermutation-sym _ _
+    (subst (λ l. IsPermutation (xs ++ x ∷ []) (x ∷ l)) (append_nil xs)
+    (IsPermutation-middle xs x []))
 
-put_in : {X : Type 0} (below : X → X → Bool) (x : X) (xs : List X) → IsPermutation (put below x xs) (x ∷ xs)
+put_in : {X : Type 0} (below : X → X → Bool) (x : X) (xs : List X)
+    → IsPermutation (put below x xs) (x ∷ xs)
 put_in below x [] = IsPermutation-refl _
 put_in {X} below x (y ∷ ys) = go (put_in below x ys) (below x y)
   where
-    go : IsPermutation (put below x ys) (x ∷ ys) → (b : Bool) → IsPermutation (cond b (x ∷ y ∷ ys) (y ∷ put below x ys)) (x ∷ y ∷ ys)
+    go : IsPermutation (put below x ys) (x ∷ ys) → (b : Bool)
+        → IsPermutation (cond b (x ∷ y ∷ ys) (y ∷ put below x ys)) (x ∷ y ∷ ys)
     go more true = IsPermutation-refl _
-    go more false = IsPermutation-trans _ _ _ (IsPermutation-cons y _ _ more) (IsPermutation-middle (y ∷ []) x ys)
+    go more false = IsPermutation-trans _ _ _ (IsPermutation-cons y _ _ more)
+        (IsPermutation-middle (y ∷ []) x ys)
 
-put_all_in : {X : Type 0} (below : X → X → Bool) (xs ys : List X) → IsPermutation (put_all below xs ys) (ys ++ xs)
+put_all_in : {X : Type 0} (below : X → X → Bool) (xs ys : List X)
+    → IsPermutation (put_all below xs ys) (ys ++ xs)
 put_all_in below [] ys = IsPermutation-same _ _ (sym (append_nil ys))
 put_all_in below (x ∷ xs) ys =
-    IsPermutation-trans _ _ _ (put_in below x (put_all below xs ys)) (IsPermutation-trans _ _ _ (IsPermutation-cons x _ _ (put_all_in below xs ys)) (IsPermutation-sym _ _ (IsPermutation-middle ys x xs)))
+    IsPermutation-trans _ _ _ (put_in below x (put_all below xs ys))
+    (IsPermutation-trans _ _ _ (IsPermutation-cons x _ _ (put_all_in below xs ys))
+    (IsPermutation-sym _ _ (IsPermutation-middle ys x xs)))
 
-placed : {X : Type 0} (cells : X → Row) (below : X → X → Bool) (x : X) (xs : List X) → IsPermutation (map cells (put below x xs)) (map cells xs ++ cells x ∷ [])
-placed cells below x xs = IsPermutation-trans _ _ _ (IsPermutation-map cells _ _ (IsPermutation-trans _ _ _ (put_in below x xs) (behind x xs))) (added cells xs (x ∷ []))
+placed : {X : Type 0} (cells : X → Row) (below : X → X → Bool) (x : X) (xs : List X)
+    → IsPermutation (map cells (put below x xs)) (map cells xs ++ cells x ∷ [])
+placed cells below x xs = IsPermutation-trans _ _ _
+    (IsPermutation-map cells _ _ (IsPermutation-trans _ _ _ (put_in below x xs) (behind x xs)))
+    (added cells xs (x ∷ []))
 
-all_placed : {X : Type 0} (cells : X → Row) (below : X → X → Bool) (xs ys : List X) → IsPermutation (map cells (put_all below xs ys)) (map cells ys ++ map cells xs)
-all_placed cells below xs ys = IsPermutation-trans _ _ _ (IsPermutation-map cells _ _ (put_all_in below xs ys)) (added cells ys xs)
+all_placed : {X : Type 0} (cells : X → Row) (below : X → X → Bool) (xs ys : List X)
+    → IsPermutation (map cells (put_all below xs ys)) (map cells ys ++ map cells xs)
+all_placed cells below xs ys = IsPermutation-trans _ _ _
+    (IsPermutation-map cells _ _ (put_all_in below xs ys)) (added cells ys xs)
 
-waivers_placed : (changes all : List ChangeRow) → IsPermutation (map waiver_cells (filter is_waiver (put_all change_below changes all))) (map waiver_cells (filter is_waiver all) ++ map waiver_cells (filter is_waiver changes))
+waivers_placed : (changes all : List ChangeRow)
+    → IsPermutation (map waiver_cells (filter is_waiver (put_all change_below changes all)))
+    (map waiver_cells (filter is_waiver all) ++ map waiver_cells (filter is_waiver changes))
 waivers_placed changes all =
-    IsPermutation-trans _ _ _ (IsPermutation-map waiver_cells _ _ (IsPermutation-filter is_waiver _ _ (put_all_in change_below changes all))) (waivers_added all changes)
+    IsPermutation-trans _ _ _ (IsPermutation-map waiver_cells _ _
+    (IsPermutation-filter is_waiver _ _ (put_all_in change_below changes all)))
+    (waivers_added all changes)
 
 -- ---- the changes
 
-pub loaded : (row : CatalogueRow) (rules : List RuleRow) (forms : List (List ℕ)) → IsWritten (λ t. with_rows rule_table.tree (map rule_cells rules) (with_rows catalogue_table.tree (catalogue_cells row ∷ []) (rows_of t))) (1 + length rules) (Loaded row rules forms)
-loaded row rules forms = written (λ t. with_rows rule_table.tree (map rule_cells rules) (with_rows catalogue_table.tree (catalogue_cells row ∷ []) (rows_of t))) (1 + length rules) (Loaded row rules forms)
+pub loaded : (row : CatalogueRow) (rules : List RuleRow) (forms : List (List ℕ))
+    → IsWritten (λ t. with_rows rule_table.tree (map rule_cells rules)
+    (with_rows catalogue_table.tree (catalogue_cells row ∷ []) (rows_of t))) (1 + length rules)
+    (Loaded row rules forms)
+loaded row rules forms = written
+    (λ t. with_rows rule_table.tree (map rule_cells rules)
+    (with_rows catalogue_table.tree (catalogue_cells row ∷ []) (rows_of t))) (1 + length rules)
+    (Loaded row rules forms)
     (λ t. (IsPermutation-refl _, (added catalogue_cells t.catalogue (row ∷ []), (added rule_cells t.rule rules, (IsPermutation-refl _, (IsPermutation-refl _, (IsPermutation-refl _, (IsPermutation-refl _, (IsPermutation-refl _, (IsPermutation-refl _, (IsPermutation-refl _, (IsPermutation-refl _, (IsPermutation-refl _, (IsPermutation-refl _, (IsPermutation-refl _, (IsPermutation-refl _, (IsPermutation-refl _, tt)))))))))))))))))
 
-pub imported : (row : DocumentRow) (packages : List PackageRow) (references : List ExtractedRow) → IsWritten (λ t. with_parts packages references (with_document row (rows_of t))) (2 + (length packages + length references)) (Imported row packages references)
-imported row packages references = written (λ t. with_parts packages references (with_document row (rows_of t))) (2 + (length packages + length references)) (Imported row packages references)
+pub imported : (row : DocumentRow) (packages : List PackageRow) (references : List ExtractedRow)
+    → IsWritten (λ t. with_parts packages references (with_document row (rows_of t)))
+    (2 + (length packages + length references)) (Imported row packages references)
+imported row packages references = written
+    (λ t. with_parts packages references (with_document row (rows_of t)))
+    (2 + (length packages + length references)) (Imported row packages references)
     (λ t. (IsPermutation-refl _, (IsPermutation-refl _, (IsPermutation-refl _, (added document_cells t.document (row ∷ []), (added package_cells t.packages packages, (added extracted_cells t.extracted references, (IsPermutation-refl _, (IsPermutation-refl _, (IsPermutation-refl _, (IsPermutation-refl _, (IsPermutation-refl _, (IsPermutation-refl _, (IsPermutation-refl _, (IsPermutation-refl _, (added reading_cells t.document (row ∷ []), (IsPermutation-refl _, tt)))))))))))))))))
 
-pub opened : (row : ReleaseRow) → IsWritten (λ t. with_rows releases_table.tree (release_cells row ∷ []) (rows_of t)) (1) (Opened row)
-opened row = written (λ t. with_rows releases_table.tree (release_cells row ∷ []) (rows_of t)) (1) (Opened row)
+pub opened : (row : ReleaseRow)
+    → IsWritten (λ t. with_rows releases_table.tree (release_cells row ∷ []) (rows_of t)) (1)
+    (Opened row)
+opened row = written (λ t. with_rows releases_table.tree (release_cells row ∷ []) (rows_of t)) (1)
+    (Opened row)
     (λ t. (IsPermutation-refl _, (IsPermutation-refl _, (IsPermutation-refl _, (IsPermutation-refl _, (IsPermutation-refl _, (IsPermutation-refl _, (IsPermutation-refl _, (IsPermutation-refl _, (placed release_cells release_below row t.releases, (IsPermutation-refl _, (IsPermutation-refl _, (IsPermutation-refl _, (IsPermutation-refl _, (IsPermutation-refl _, (IsPermutation-refl _, (IsPermutation-refl _, tt)))))))))))))))))
 
-pub attached : (row : AttachedRow) → IsWritten (λ t. with_rows attached_table.tree (attached_cells row ∷ []) (rows_of t)) (1) (Attached row)
-attached row = written (λ t. with_rows attached_table.tree (attached_cells row ∷ []) (rows_of t)) (1) (Attached row)
+pub attached : (row : AttachedRow)
+    → IsWritten (λ t. with_rows attached_table.tree (attached_cells row ∷ []) (rows_of t)) (1)
+    (Attached row)
+attached row = written (λ t. with_rows attached_table.tree (attached_cells row ∷ []) (rows_of t))
+    (1) (Attached row)
     (λ t. (IsPermutation-refl _, (IsPermutation-refl _, (IsPermutation-refl _, (IsPermutation-refl _, (IsPermutation-refl _, (IsPermutation-refl _, (IsPermutation-refl _, (IsPermutation-refl _, (IsPermutation-refl _, (placed attached_cells (below_by attached_order) row t.attached, (IsPermutation-refl _, (IsPermutation-refl _, (IsPermutation-refl _, (IsPermutation-refl _, (IsPermutation-refl _, (IsPermutation-refl _, tt)))))))))))))))))
 
-pub chosen : (release : List ℕ) (document : ℕ) (package_id : List ℕ) (rows : List ChoiceRow) → IsWritten (λ t. with_rows choice_table.tree (map choice_cells rows) (rows_of (record t { choice = filter (is_other_choice release document package_id) t.choice }))) (length rows) (Chosen release document package_id rows)
-chosen release document package_id rows = written (λ t. with_rows choice_table.tree (map choice_cells rows) (rows_of (record t { choice = filter (is_other_choice release document package_id) t.choice }))) (length rows) (Chosen release document package_id rows)
+pub chosen : (release : List ℕ) (document : ℕ) (package_id : List ℕ) (rows : List ChoiceRow)
+    → IsWritten (λ t. with_rows choice_table.tree (map choice_cells rows)
+    (rows_of (record t { choice = filter (is_other_choice release document package_id) t.choice })))
+    (length rows) (Chosen release document package_id rows)
+chosen release document package_id rows = written
+    (λ t. with_rows choice_table.tree (map choice_cells rows)
+    (rows_of (record t { choice = filter (is_other_choice release document package_id) t.choice })))
+    (length rows) (Chosen release document package_id rows)
     (λ t. (IsPermutation-refl _, (IsPermutation-refl _, (IsPermutation-refl _, (IsPermutation-refl _, (IsPermutation-refl _, (IsPermutation-refl _, (IsPermutation-refl _, (IsPermutation-refl _, (IsPermutation-refl _, (IsPermutation-refl _, (all_placed choice_cells (below_by choice_order) rows (filter (is_other_choice release document package_id) t.choice), (IsPermutation-refl _, (IsPermutation-refl _, (IsPermutation-refl _, (IsPermutation-refl _, (IsPermutation-refl _, tt)))))))))))))))))
 
-pub froze : (release : List ℕ) (revision : ℕ) (frozen : List FrozenRow) (duties : List DutyRow) (changes : List ChangeRow) → IsWritten (λ t. with_raised duties changes (with_rows frozen_table.tree (map frozen_cells frozen) (rows_of (record t { releases = updated (is_release release) (with_release_state Frozen revision) t.releases })))) (length frozen + (length duties + (length changes + length changes))) (Froze release revision frozen duties changes)
-froze release revision frozen duties changes = written (λ t. with_raised duties changes (with_rows frozen_table.tree (map frozen_cells frozen) (rows_of (record t { releases = updated (is_release release) (with_release_state Frozen revision) t.releases })))) (length frozen + (length duties + (length changes + length changes))) (Froze release revision frozen duties changes)
+pub froze : (release : List ℕ) (revision : ℕ) (frozen : List FrozenRow) (duties : List DutyRow)
+    (changes : List ChangeRow) → IsWritten
+    (λ t. with_raised duties changes
+    (with_rows frozen_table.tree (map frozen_cells frozen)
+    (rows_of (record t {
+      releases = updated (is_release release)
+          (with_release_state Frozen revision) t.releases;
+    })))) (length frozen + (length duties + (length changes + length changes)))
+    (Froze release revision frozen duties changes)
+froze release revision frozen duties changes = written
+    (λ t. with_raised duties changes
+    (with_rows frozen_table.tree (map frozen_cells frozen)
+    (rows_of (record t {
+      releases = updated (is_release release)
+          (with_release_state Frozen revision) t.releases;
+    })))) (length frozen + (length duties + (length changes + length changes)))
+    (Froze release revision frozen duties changes)
     (λ t. (IsPermutation-refl _, (IsPermutation-refl _, (IsPermutation-refl _, (IsPermutation-refl _, (IsPermutation-refl _, (IsPermutation-refl _, (IsPermutation-refl _, (IsPermutation-refl _, (IsPermutation-refl _, (IsPermutation-refl _, (IsPermutation-refl _, (all_placed frozen_cells (below_by frozen_order) frozen t.frozen, (added duty_cells t.duty duties, (added change_cells t.changes changes, (IsPermutation-refl _, (waivers_added t.changes changes, tt)))))))))))))))))
 
-pub moved : (changes : List ChangeRow) → IsWritten (λ t. with_steps changes (rows_of (record t { duty = moved_by changes t.duty }))) (length changes + length changes) (Moved changes)
-moved changes = written (λ t. with_steps changes (rows_of (record t { duty = moved_by changes t.duty }))) (length changes + length changes) (Moved changes)
+pub moved : (changes : List ChangeRow)
+    → IsWritten (λ t. with_steps changes (rows_of (record t { duty = moved_by changes t.duty })))
+    (length changes + length changes) (Moved changes)
+moved changes = written (λ t. with_steps changes
+    (rows_of (record t { duty = moved_by changes t.duty }))) (length changes + length changes)
+    (Moved changes)
     (λ t. (IsPermutation-refl _, (IsPermutation-refl _, (IsPermutation-refl _, (IsPermutation-refl _, (IsPermutation-refl _, (IsPermutation-refl _, (IsPermutation-refl _, (IsPermutation-refl _, (IsPermutation-refl _, (IsPermutation-refl _, (IsPermutation-refl _, (IsPermutation-refl _, (IsPermutation-refl _, (all_placed change_cells change_below changes t.changes, (IsPermutation-refl _, (waivers_placed changes t.changes, tt)))))))))))))))))
 
-pub withdrew : (release : List ℕ) (changes : List ChangeRow) → IsWritten (λ t. with_steps changes (rows_of (record t { releases = updated (is_release release) withdrawn_release t.releases; choice = filter (is_choice_elsewhere release) t.choice; duty = moved_by changes t.duty }))) (length changes + length changes) (Withdrew release changes)
-withdrew release changes = written (λ t. with_steps changes (rows_of (record t { releases = updated (is_release release) withdrawn_release t.releases; choice = filter (is_choice_elsewhere release) t.choice; duty = moved_by changes t.duty }))) (length changes + length changes) (Withdrew release changes)
+pub withdrew : (release : List ℕ) (changes : List ChangeRow)
+    → IsWritten (λ t. with_steps changes
+    (rows_of (record t {
+      releases = updated (is_release release) withdrawn_release t.releases;
+      choice = filter (is_choice_elsewhere release) t.choice;
+      duty = moved_by changes t.duty;
+    }))) (length changes + length changes) (Withdrew release changes)
+withdrew release changes = written
+    (λ t. with_steps changes (rows_of
+    (record t {
+      releases = updated (is_release release) withdrawn_release t.releases;
+      choice = filter (is_choice_elsewhere release) t.choice;
+      duty = moved_by changes t.duty;
+    }))) (length changes + length changes) (Withdrew release changes)
     (λ t. (IsPermutation-refl _, (IsPermutation-refl _, (IsPermutation-refl _, (IsPermutation-refl _, (IsPermutation-refl _, (IsPermutation-refl _, (IsPermutation-refl _, (IsPermutation-refl _, (IsPermutation-refl _, (IsPermutation-refl _, (IsPermutation-refl _, (IsPermutation-refl _, (IsPermutation-refl _, (all_placed change_cells change_below changes t.changes, (IsPermutation-refl _, (waivers_placed changes t.changes, tt)))))))))))))))))
 
-pub concluded : (row : ConclusionRow) → IsWritten (λ t. with_rows conclusion_table.tree (conclusion_cells row ∷ []) (rows_of (record t { conclusion = filter (λ other. not (is_conclusion row.document row.package_id other)) t.conclusion }))) (1) (Concluded row)
-concluded row = written (λ t. with_rows conclusion_table.tree (conclusion_cells row ∷ []) (rows_of (record t { conclusion = filter (λ other. not (is_conclusion row.document row.package_id other)) t.conclusion }))) (1) (Concluded row)
+pub concluded : (row : ConclusionRow)
+    → IsWritten (λ t. with_rows conclusion_table.tree (conclusion_cells row ∷ [])
+    (rows_of (record t {
+      conclusion = filter
+          (λ other. not (is_conclusion row.document row.package_id other)) t.conclusion;
+    }))) (1) (Concluded row)
+concluded row = written (λ t. with_rows conclusion_table.tree (conclusion_cells row ∷ [])
+    (rows_of (record t {
+      conclusion = filter
+          (λ other. not (is_conclusion row.document row.package_id other)) t.conclusion;
+    }))) (1) (Concluded row)
     (λ t. (IsPermutation-refl _, (IsPermutation-refl _, (IsPermutation-refl _, (IsPermutation-refl _, (IsPermutation-refl _, (IsPermutation-refl _, (placed conclusion_cells (below_by conclusion_order) row (filter (λ other. not (is_conclusion row.document row.package_id other)) t.conclusion), (IsPermutation-refl _, (IsPermutation-refl _, (IsPermutation-refl _, (IsPermutation-refl _, (IsPermutation-refl _, (IsPermutation-refl _, (IsPermutation-refl _, (IsPermutation-refl _, (IsPermutation-refl _, tt)))))))))))))))))
 
 -- an adoption after the others
@@ -218,14 +353,25 @@ adoption_placed row t = (
   ),
 )
 
-pub adopted : (row : AdoptionRow) → IsWritten (λ t. with_rows adoption_table.tree (adoption_cells row ∷ []) (rows_of (record t { adoption = filter (λ other. not (is_adoption row.document row.reference other)) t.adoption }))) (1) (Adopted row)
+pub adopted : (row : AdoptionRow)
+    → IsWritten (λ t. with_rows adoption_table.tree (adoption_cells row ∷ [])
+    (rows_of (record t {
+      adoption = filter
+          (λ other. not (is_adoption row.document row.reference other)) t.adoption;
+    }))) (1) (Adopted row)
 adopted row =
-    let dropped = λ (t : Tables). record t { adoption = filter (λ other. not (is_adoption row.document row.reference other)) t.adoption } in
-    written (λ t. with_rows adoption_table.tree (adoption_cells row ∷ []) (rows_of (dropped t))) (1) (Adopted row) (λ t. adoption_placed row (dropped t))
+    let dropped = λ (t : Tables).
+    record t {
+      adoption = filter (λ other. not (is_adoption row.document row.reference other))
+          t.adoption;
+    } in
+    written (λ t. with_rows adoption_table.tree (adoption_cells row ∷ []) (rows_of (dropped t))) (1)
+    (Adopted row) (λ t. adoption_placed row (dropped t))
 
 -- ---- an adoption of a reference that wasn't adopted
 
-none_found : (o : Option AdoptionRow) → option_map (λ (row : AdoptionRow). row.licence) o ≡ None → o ≡ None
+none_found : (o : Option AdoptionRow) → option_map (λ (row : AdoptionRow). row.licence) o ≡ None
+    → o ≡ None
 none_found None is = refl
 none_found (Some row) is = absurd (cc)
 
@@ -235,10 +381,12 @@ module _ (row : AdoptionRow) (is_new : Bool) (new : is_new ≡ true) where
       (with_rows adoption_table.tree (adoption_cells row ∷ []) (rows_of a.tables))
   same_rows a =
       let t = a.tables in
-      let none = none_found (find (is_adoption row.document row.reference) t.adoption) (a.takes new) in
+      let none = none_found (find (is_adoption row.document row.reference) t.adoption)
+      (a.takes new) in
       subst (λ l. AreSame (rows_of (record t { adoption = put (below_by adoption_order) row l }))
       (with_rows adoption_table.tree (adoption_cells row ∷ []) (rows_of t)))
-      (sym (none_out (is_adoption row.document row.reference) t.adoption none)) (adoption_placed row t)
+      (sym (none_out (is_adoption row.document row.reference) t.adoption none))
+      (adoption_placed row t)
 
   pub adopted_first : (old now : State) (r : Result (Unit {0}) Fault)
       → Adds (with_rows adoption_table.tree (adoption_cells row ∷ [])) 1 old now r
@@ -247,5 +395,6 @@ module _ (row : AdoptionRow) (is_new : Bool) (new : is_new ≡ true) where
   adopted_first old now r adds =
       let before = rows_before is_new (Adopted row) in
       let more = with_rows adoption_table.tree (adoption_cells row ∷ []) in
-      written_from (λ (a : Taking is_new (Adopted row)). a.tables) (λ a. more (before a)) 1 (Adopted row) same_rows
+      written_from (λ (a : Taking is_new (Adopted row)). a.tables) (λ a. more (before a)) 1
+      (Adopted row) same_rows
       old now r (along before (λ rows. rows) more 1 old now r adds)

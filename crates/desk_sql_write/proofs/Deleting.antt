@@ -1,5 +1,7 @@
 -- A DELETE fails only for a cause, if the tables can hold the rows that it leaves.
-use Rattle.std.proofs.Common.{◌≡◌, ◌≢◌, ◌∙◌, inl, inr, ℕ, ◌+◌, Bool, true, false, not, List, [], ◌∷◌, filter, map, length, slice_get, Option, Some, None, IfErr, Ok, Err, Result, refl, sym, ap, subst, subst₂, arith}
+use Rattle.std.proofs.Common.{◌≡◌, ◌≢◌, ◌∙◌, inl, inr, ℕ, ◌+◌, Bool, true, false, not, List, []}
+use Rattle.std.proofs.Common.{◌∷◌, filter, map, length, slice_get, Option, Some, None, IfErr, Ok}
+use Rattle.std.proofs.Common.{Err, Result, refl, sym, ap, subst, subst₂, arith}
 use Rattle.std.specs.Prelude.{nat_lt}
 use Rattle.std.specs.List.{AllByRecursion}
 use Rattle.std.specs.List.Sorted.{IsPermutation}
@@ -13,7 +15,9 @@ use Rattle.sqlite_trees.proofs.ListLemmas.{all-filter, map-map}
 use Rattle.sqlite_sql.specs.Query.{Output, output}
 use Rattle.sqlite_sql.specs.Term.{Term, col}
 use Rattle.sqlite_schema.specs.declared.schema.Column.{Column}
-use Rattle.sqlite_schema.specs.declared.schema.Constraint.TheVariants.{Datatype, NotNull, Check, PrimaryKey, Unique, ForeignKey}
+use Rattle.sqlite_schema.specs.declared.schema.Constraint.TheVariants.{Datatype, NotNull, Check}
+use Rattle.sqlite_schema.specs.declared.schema.Constraint.TheVariants.{PrimaryKey, Unique}
+use Rattle.sqlite_schema.specs.declared.schema.Constraint.TheVariants.{ForeignKey}
 use Rattle.sqlite_schema.specs.declared.schema.Keys.TheVariants.{Enforced}
 use Rattle.sqlite_schema.specs.declared.schema.Table.{Table}
 use Rattle.sqlite_schema.specs.declared.program.Program.{Program}
@@ -54,36 +58,63 @@ use Rattle.desk_sql_write.proofs.Keyed.{unique_kept}
 use Rattle.desk_sql_write.proofs.Refusing.{IsFree, fits_none, never_stops, never_concludes, stored_with}
 
 -- the rowids that a query showed first
-pub ids_are : (p : Row → Bool) (g : Row → Row) (stored rows : List Row) → ((r : Row) → rowid (g r) ≡ rowid r) → AllByRecursion (λ r. is_int (rowid r) ≡ true) stored
+pub ids_are : (p : Row → Bool) (g : Row → Row) (stored rows : List Row)
+    → ((r : Row) → rowid (g r) ≡ rowid r) → AllByRecursion (λ r. is_int (rowid r) ≡ true) stored
     → IsPermutation (map g (filter p stored)) rows → AreIdsOf p stored (ids_of rows)
 ids_are p g stored rows first keyed same = record {
   sound = λ id there.
       let x = has_mapped (λ r. id_in (rowid r)) rows id there in
       let y = has_mapped g (filter p stored) x.0 (has_permuted _ _ x.0 same x.1) in
       let z = has_filtered p stored y.0 y.1 in
-      let whole = int_is (rowid y.0) (all_has (λ r. is_int (rowid r) ≡ true) stored y.0 keyed z.0) in
-      (y.0, z.0, z.1, whole ∙ ap (λ v. Int (id_in v)) (sym (first y.0)) ∙ ap (λ r. Int (id_in (rowid r))) (sym y.2) ∙ ap Int (sym x.2));
+      let whole = int_is (rowid y.0)
+      (all_has (λ r. is_int (rowid r) ≡ true) stored y.0 keyed z.0) in (
+        y.0,
+        z.0,
+        z.1,
+        whole ∙ ap (λ v. Int (id_in v)) (sym (first y.0))
+            ∙ ap (λ r. Int (id_in (rowid r))) (sym y.2) ∙ ap Int (sym x.2),
+      );
   complete = λ r there yes.
       let shown = mapped_has g (filter p stored) r (has_kept p stored r there yes) in
-      let got = has_permuted rows (map g (filter p stored)) (g r) (IsPermutation-sym _ _ same) shown in
-      (id_in (rowid (g r)), mapped_has (λ x. id_in (rowid x)) rows (g r) got, int_is (rowid r) (all_has (λ r. is_int (rowid r) ≡ true) stored r keyed there) ∙ ap (λ v. Int (id_in v)) (sym (first r)));
+      let got = has_permuted rows (map g (filter p stored)) (g r) (IsPermutation-sym _ _ same)
+      shown in (
+        id_in (rowid (g r)),
+        mapped_has (λ x. id_in (rowid x)) rows (g r) got,
+        int_is (rowid r) (all_has (λ r. is_int (rowid r) ≡ true) stored r keyed there)
+            ∙ ap (λ v. Int (id_in v)) (sym (first r)),
+      );
 }
 
 -- a query of one table is never refused
-pub no_refusal : (trees : Trees) (tree : ℕ) (tests project : List Term) (params : Row) (limit : Option ℕ) (stop : Option Error) → limit ≡ None → accepts_program desk_schema [] (query_on tree tests project []) params ≡ true
-    → Queried limit (at desk_schema trees) (record { lets = []; body = query_on tree tests project [] }) params (Err stop) → ⊥
+pub no_refusal : (trees : Trees) (tree : ℕ) (tests project : List Term) (params : Row)
+    (limit : Option ℕ) (stop : Option Error) → limit ≡ None
+    → accepts_program desk_schema [] (query_on tree tests project []) params ≡ true
+    → Queried limit (at desk_schema trees)
+    (record { lets = []; body = query_on tree tests project [] }) params (Err stop) → ⊥
 no_refusal trees tree tests project params limit None none accepts refused = refused
-no_refusal trees tree tests project params limit (Some e) none accepts (inl typed) = absurd (let no = rw accepts at typed.1 in cc)
-no_refusal trees tree tests project params limit (Some e) none accepts (inr (inl (is, inl over))) = over
-no_refusal trees tree tests project params limit (Some e) none accepts (inr (inl (is, inr any))) = any.4
-no_refusal trees tree tests project params limit (Some e) none accepts (inr (inr limited)) = absurd (let no = rw none at limited.1 in cc)
+no_refusal trees tree tests project params limit (Some e) none accepts (inl typed) = absurd
+    (let no = rw accepts at typed.1 in cc)
+no_refusal trees tree tests project params limit (Some e) none accepts (inr (inl (
+  is,
+  inl over,
+))) = over
+no_refusal trees tree tests project params limit (Some e) none accepts (inr (inl (
+  is,
+  inr any,
+))) = any.4
+no_refusal trees tree tests project params limit (Some e) none accepts (inr (inr limited)) = absurd
+    (let no = rw none at limited.1 in cc)
 
-module _ (name : List ℕ) (tree : ℕ) (columns : List Column) (key : Option ℕ) (primary : List ℕ) (uniques : List (List ℕ)) (orders : List Order) where
+module _ (name : List ℕ) (tree : ℕ) (columns : List Column) (key : Option ℕ) (primary : List ℕ)
+    (uniques : List (List ℕ)) (orders : List Order) where
   abbrev this : Table
   this = table_of name tree columns key primary uniques orders
 
-  module _ (place : ℕ) (listed : slice_get desk_schema.tables place ≡ Some this) (rows after : ℕ → List Row) (same : AllByRecursion (λ t. t.tree ≢ tree → after t.tree ≡ rows t.tree) desk_schema.tables)
-      (s : State) (has : HasRows rows s.now) (params : Row) (tests : List Term) (q : Row → Bool) (agree : (r : Row) → passes tests params r ≡ q (cells this r))
+  module _ (place : ℕ) (listed : slice_get desk_schema.tables place ≡ Some this)
+      (rows after : ℕ → List Row) (same : AllByRecursion
+      (λ t. t.tree ≢ tree → after t.tree ≡ rows t.tree) desk_schema.tables)
+      (s : State) (has : HasRows rows s.now) (params : Row) (tests : List Term) (q : Row → Bool)
+      (agree : (r : Row) → passes tests params r ≡ q (cells this r))
       (perm : IsPermutation (after tree) (filter (λ x. not (q x)) (rows tree))) where
     abbrev program : Program
     program = record { lets = []; body = query_on tree tests (col 1 0 ∷ []) [] }
@@ -92,73 +123,132 @@ module _ (name : List ℕ) (tree : ℕ) (columns : List Column) (key : Option �
     there = has_got desk_schema.tables place this listed
 
     mine : AreStored this (rows tree) (s.now.trees tree)
-    mine = all_has (λ t. AreStored t (rows t.tree) (s.now.trees t.tree)) desk_schema.tables this has.stored there
+    mine = all_has (λ t. AreStored t (rows t.tree) (s.now.trees t.tree)) desk_schema.tables this
+        has.stored there
 
     -- the rows that are left
-    left : (found : List Row) → Answers (at desk_schema s.now.trees) program params found → without_all (s.now.trees tree) (ids_of found) ≡ filter (λ r. not (passes tests params r)) (s.now.trees tree)
+    left : (found : List Row) → Answers (at desk_schema s.now.trees) program params found
+        → without_all (s.now.trees tree) (ids_of found)
+        ≡ filter (λ r. not (passes tests params r)) (s.now.trees tree)
     left found answers =
         let stored = s.now.trees tree in
-        let sel = selected tree tests (col 1 0 ∷ []) [] s.now.trees params found (answers.answer Null) in
+        let sel = selected tree tests (col 1 0 ∷ []) [] s.now.trees params found
+        (answers.answer Null) in
         let g = λ (r : Row). rowid r ∷ [] in
         let shown : IsPermutation (map g (filter (passes tests params) stored)) found =
-        subst₂ (λ xs ys. IsPermutation xs ys) (map-map (λ (o : Output). o.1) (λ r. output (query_on tree tests (col 1 0 ∷ []) []) (env params r)) (filter (passes tests params) stored)) (sym sel.shown)
+        subst₂ (λ xs ys. IsPermutation xs ys)
+        (map-map (λ (o : Output). o.1)
+        (λ r. output (query_on tree tests (col 1 0 ∷ []) []) (env params r))
+        (filter (passes tests params) stored)) (sym sel.shown)
         (IsPermutation-map (λ (o : Output). o.1) _ _ sel.same) in
-        left_is (passes tests params) stored (ids_of found) mine.rising (ids_are (passes tests params) g stored found (λ r. refl) mine.keyed shown)
+        left_is (passes tests params) stored (ids_of found) mine.rising
+        (ids_are (passes tests params) g stored found (λ r. refl) mine.keyed shown)
 
-    free : HaveKeys after → (found : List Row) → Answers (at desk_schema s.now.trees) program params found → IsFree s.now.trees (edit_of s.now.trees this (ids_of found) Given 0 [])
+    free : HaveKeys after → (found : List Row)
+        → Answers (at desk_schema s.now.trees) program params found
+        → IsFree s.now.trees (edit_of s.now.trees this (ids_of found) Given 0 [])
     free keys found answers = record { allowed = allowed; stored = λ row none. absurd none }
       where
         are : AreStored this (after tree) (without_all (s.now.trees tree) (ids_of found))
-        are = stored_as this _ (after tree) _ perm (subst (AreStored this (filter (λ x. not (q x)) (rows tree))) (sym (left found answers)) (stored_less this (rows tree) (s.now.trees tree) mine (passes tests params) q agree))
+        are = stored_as this _ (after tree) _ perm
+            (subst (AreStored this (filter (λ x. not (q x)) (rows tree))) (sym (left found answers))
+            (stored_less this (rows tree) (s.now.trees tree) mine (passes tests params) q agree))
 
-        allowed : (why : Refusal) → IsRefused desk_schema Enforced s.now.trees (edit_of s.now.trees this (ids_of found) Given 0 []) why → ⊥
+        allowed : (why : Refusal) → IsRefused desk_schema Enforced s.now.trees
+            (edit_of s.now.trees this (ids_of found) Given 0 []) why → ⊥
         allowed (Violates Datatype) refused = absurd (let no = refused in cc)
         allowed (Violates NotNull) refused = absurd (let no = refused in cc)
         allowed (Violates Check) refused = absurd (let no = refused in cc)
         allowed (Violates PrimaryKey) refused = absurd (let no = refused in cc)
-        allowed (Violates Unique) refused = refused (unique_kept after (with_tree s.now.trees tree (without_all (s.now.trees tree) (ids_of found))) (stored_with rows after s.now.trees this (without_all (s.now.trees tree) (ids_of found)) there has.stored same are) keys)
+        allowed (Violates Unique) refused = refused
+            (unique_kept after (with_tree s.now.trees tree
+            (without_all (s.now.trees tree) (ids_of found)))
+            (stored_with rows after s.now.trees this (without_all (s.now.trees tree) (ids_of found))
+            there has.stored same are) keys)
         allowed (Violates ForeignKey) refused = refused
         allowed Mismatch refused = absurd (let no = refused in cc)
         allowed NoRowid refused = absurd (let no = refused in cc)
-        allowed BadReference refused = absurd (let no = sym refused ∙ fits_none this refl false (nat_lt 0 (length (ids_of found))) in cc)
+        allowed BadReference refused = absurd (let no = sym refused
+            ∙ fits_none this refl false (nat_lt 0 (length (ids_of found))) in cc)
         allowed TooDeep refused = refused
 
-    never_deleted : (none : s.step_limit ≡ None) (text : List ℕ) → accepts_program desk_schema [] (query_on tree tests (col 1 0 ∷ []) []) params ≡ true → HaveKeys after
-        → (stop : Option Error) → Does s.step_limit (mode_of s) params s.now text None (Delete place program) (Err stop) → ⊥
+    never_deleted : (none : s.step_limit ≡ None) (text : List ℕ)
+        → accepts_program desk_schema [] (query_on tree tests (col 1 0 ∷ []) []) params ≡ true
+        → HaveKeys after
+        → (stop : Option Error) → Does s.step_limit (mode_of s) params s.now text None
+        (Delete place program) (Err stop) → ⊥
     never_deleted none text accepts keys stop did = go (rw (has.declared, listed) at did)
       where
         doing : Task
-        doing = record { limit = s.step_limit; keys = Enforced; schema = desk_schema; table = this; params = params }
+        doing = record {
+          limit = s.step_limit;
+          keys = Enforced;
+          schema = desk_schema;
+          table = this;
+          params = params;
+        }
 
         removes : (st : Option Error) → Deletes doing program s.now.trees (Err st) → ⊥
-        removes st (inl (e, queried, told)) = no_refusal s.now.trees tree tests (col 1 0 ∷ []) params s.step_limit e none accepts queried
-        removes st (inr (found, answers, inl (e, stopped, told))) = never_stops s.now.trees (edit_of s.now.trees this (ids_of found) Given 0 []) e (free keys found answers) stopped
+        removes st (inl (e, queried, told)) = no_refusal s.now.trees tree tests (col 1 0 ∷ [])
+            params s.step_limit e none accepts queried
+        removes st (inr (found, answers, inl (e, stopped, told))) = never_stops s.now.trees
+            (edit_of s.now.trees this (ids_of found) Given 0 []) e (free keys found answers) stopped
         removes st (inr (found, answers, inr (next, edited, gives))) = absurd (let no = gives in cc)
 
-        go : Then (Deletes doing program s.now.trees) (Concludes doing (mode_of s) None) (Err stop) → ⊥
+        go : Then (Deletes doing program s.now.trees) (Concludes doing (mode_of s) None) (Err stop)
+            → ⊥
         go (inl (st, deleting, told)) = removes st deleting
         go (inr (w, deleting, concludes)) = never_concludes doing (mode_of s) w stop refl concludes
 
-  module _ {A : Type 0} (rows : A → ℕ → List Row) (made : A → A) (place : ℕ) (listed : slice_get desk_schema.tables place ≡ Some this) (sql : List ℕ) (params : Row) (tests : List Term) (q : Row → Bool)
-      (reads : Reads sql (length params) (Delete place (record { lets = []; body = query_on tree tests (col 1 0 ∷ []) [] }))) (accepts : accepts_program desk_schema [] (query_on tree tests (col 1 0 ∷ []) []) params ≡ true)
-      (agree : (r : Row) → passes tests params r ≡ q (cells this r)) (same : (a : A) → AllByRecursion (λ t. t.tree ≢ tree → rows (made a) t.tree ≡ rows a t.tree) desk_schema.tables)
-      (perm : (a : A) → IsPermutation (rows (made a) tree) (filter (λ x. not (q x)) (rows a tree))) (old new : State) where
-    uses : (count : ℕ) (a : A) → Executes sql params old new (Ok count) → HasRows (rows a) old.now → (n : ℕ) → HasRoom (n + 0) old.now.trees → HasRoom n new.now.trees
+  module _ {A : Type 0} (rows : A → ℕ → List Row) (made : A → A) (place : ℕ)
+      (listed : slice_get desk_schema.tables place ≡ Some this) (sql : List ℕ) (params : Row)
+      (tests : List Term) (q : Row → Bool)
+      (reads : Reads sql (length params)
+      (Delete place (record { lets = []; body = query_on tree tests (col 1 0 ∷ []) [] })))
+      (accepts : accepts_program desk_schema [] (query_on tree tests (col 1 0 ∷ []) []) params
+      ≡ true)
+      (agree : (r : Row) → passes tests params r ≡ q (cells this r))
+      (same : (a : A) → AllByRecursion (λ t. t.tree ≢ tree → rows (made a) t.tree ≡ rows a t.tree)
+      desk_schema.tables)
+      (perm : (a : A) → IsPermutation (rows (made a) tree) (filter (λ x. not (q x)) (rows a tree)))
+      (old new : State) where
+    uses : (count : ℕ) (a : A) → Executes sql params old new (Ok count) → HasRows (rows a) old.now
+        → (n : ℕ) → HasRoom (n + 0) old.now.trees → HasRoom n new.now.trees
     uses count a executed has n room =
-        let program : Program = record { lets = []; body = query_on tree tests (col 1 0 ∷ []) [] } in
-        let w = runs_as sql params old new desk_schema has.declared (Delete place program) reads.is reads.plain count executed in
-        let step = deletes name tree columns key primary uniques orders desk_schema place listed alone old has.declared params (statement_of sql (understood desk_schema sql)) new.now w.tally program w.changed in
-        let kept = left place listed (rows a) (rows (made a)) (same a) old has params tests q agree (perm a) step.0 step.1 in
+        let program : Program = record {
+          lets = [];
+          body = query_on tree tests (col 1 0 ∷ []) [];
+        } in
+        let w = runs_as sql params old new desk_schema has.declared (Delete place program) reads.is
+        reads.plain count executed in
+        let step = deletes name tree columns key primary uniques orders desk_schema place listed
+        alone old has.declared params (statement_of sql (understood desk_schema sql)) new.now
+        w.tally program w.changed in
+        let kept = left place listed (rows a) (rows (made a)) (same a) old has params tests q agree
+        (perm a) step.0 step.1 in
         let same_many : n + 0 ≡ n = omega arith in
-        rooms_after 0 n old.now.trees new.now.trees this (edit_of old.now.trees this (ids_of step.0) Given 0 []) refl (has_got desk_schema.tables place this listed) step.2.applies room (λ r low. omega (arith, low))
+        rooms_after 0 n old.now.trees new.now.trees this
+        (edit_of old.now.trees this (ids_of step.0) Given 0 []) refl
+        (has_got desk_schema.tables place this listed) step.2.applies room
+        (λ r low. omega (arith, low))
         (λ rs all. subst (λ m. AllByRecursion (λ r. LeavesRoom m (rowid r)) rs) same_many all)
-        (λ none before. subst (AllByRecursion (λ r. LeavesRoom n (rowid r))) (sym (step.2.applies.rows ∙ kept))
-        (all-filter (λ r. LeavesRoom n (rowid r)) (λ r. not (passes tests params r)) (old.now.trees tree) (subst (λ m. AllByRecursion (λ r. LeavesRoom m (rowid r)) (old.now.trees tree)) same_many before)))
+        (λ none before. subst (AllByRecursion (λ r. LeavesRoom n (rowid r)))
+        (sym (step.2.applies.rows ∙ kept))
+        (all-filter (λ r. LeavesRoom n (rowid r)) (λ r. not (passes tests params r))
+        (old.now.trees tree) (subst (λ m. AllByRecursion (λ r. LeavesRoom m (rowid r))
+        (old.now.trees tree)) same_many before)))
 
-    pub deleted_turns : (r : Result (Unit {0}) Fault) → Ran sql params old new r → IfErr r (RanInto sql params old new) → Survives old new (λ _. ⊥) → Turns rows (λ a. rows (made a)) 0 old new r
+    pub deleted_turns : (r : Result (Unit {0}) Fault) → Ran sql params old new r
+        → IfErr r (RanInto sql params old new) → Survives old new (λ _. ⊥)
+        → Turns rows (λ a. rows (made a)) 0 old new r
     deleted_turns = turns_by rows (λ a. rows (made a)) 0 sql params old new
-        (λ count a executed has. deleted name tree columns key primary uniques orders place listed sql reads.plain params (rows a) (rows (made a)) (same a) old new count executed has tests q reads.is agree (perm a))
+        (λ count a executed has. deleted name tree columns key primary uniques orders place listed
+        sql reads.plain params (rows a) (rows (made a)) (same a) old new count executed has tests q
+        reads.is agree (perm a))
         uses
         (λ opened unlimited a has before after room.
-        caused desk_schema sql params old new has.declared opened reads.plain reads.fits (Delete place (record { lets = []; body = query_on tree tests (col 1 0 ∷ []) [] })) reads.is refl
-        (never_deleted place listed (rows a) (rows (made a)) (same a) old has params tests q agree (perm a) unlimited (statement_of sql (understood desk_schema sql)) accepts after.keys))
+        caused desk_schema sql params old new has.declared opened reads.plain reads.fits
+        (Delete place (record { lets = []; body = query_on tree tests (col 1 0 ∷ []) [] })) reads.is
+        refl
+        (never_deleted place listed (rows a) (rows (made a)) (same a) old has params tests q agree
+        (perm a) unlimited (statement_of sql (understood desk_schema sql)) accepts after.keys))

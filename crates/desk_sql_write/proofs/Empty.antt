@@ -1,5 +1,7 @@
 -- The tables of an empty desk.
-use Rattle.std.proofs.Common.{◌≡◌, ◌∙◌, ◌⊎◌, inl, inr, ℕ, pos, ◌≤◌, Bool, true, false, cond, filter, length, List, [], ◌∷◌, codes, None, IfErr, IsTrue, Ok, Err, Result, refl, sym, subst, arith}
+use Rattle.std.proofs.Common.{◌≡◌, ◌∙◌, ◌⊎◌, inl, inr, ℕ, pos, ◌≤◌, Bool, true, false, cond, filter}
+use Rattle.std.proofs.Common.{length, List, [], ◌∷◌, codes, None, IfErr, IsTrue, Ok, Err, Result}
+use Rattle.std.proofs.Common.{refl, sym, subst, arith}
 use Rattle.std.specs.Prelude.{◌==◌}
 use Rattle.std.specs.List.{AllByRecursion}
 use Rattle.sqlite_value.specs.Keys.{plain}
@@ -59,9 +61,23 @@ version_reads = record { is = refl; plain = (refl, refl); fits = (refl, refl) }
 version_adds : AreAdded version_text [] 0 (meta_cells ∷ []) 1
 version_adds old new =
     let this = d.meta_table in
-    inserted_adds this.name 0 this.columns this.key this.primary this.uniques this.orders 0 refl version_text [] version_terms 2 version_reads refl
-    ((number 3 ∷ Null ∷ []) ∷ []) (meta_cells ∷ []) refl refl (refl, λ r. refl) ((λ stored. rw (cast_null, cast_int (pos 3)) refl), tt) (λ id. refl, tt)
-    (λ trees small. (record { number = (3, _, refl, omega arith); right = λ id. record { typed = refl; present = refl; light = (int_light (pos 3), (null_light, tt)); some = omega arith; few = omega arith } }, tt)) old new
+    inserted_adds this.name 0 this.columns this.key this.primary this.uniques this.orders 0 refl
+    version_text [] version_terms 2 version_reads refl
+    ((number 3 ∷ Null ∷ []) ∷ []) (meta_cells ∷ []) refl refl (refl, λ r. refl)
+    ((λ stored. rw (cast_null, cast_int (pos 3)) refl), tt) (λ id. refl, tt)
+    (λ trees small. (
+      record {
+        number = (3, _, refl, omega arith);
+        right = λ id. record {
+          typed = refl;
+          present = refl;
+          light = (int_light (pos 3), (null_light, tt));
+          some = omega arith;
+          few = omega arith;
+        };
+      },
+      tt,
+    )) old new
 
 -- no rows anywhere
 abbrev nothing : ℕ → List Row
@@ -80,12 +96,24 @@ bare_rows db bare =
       sound = bare.sound;
     }
 
-version_added : (db : Database) → HasRows (with_rows 0 (meta_cells ∷ []) nothing) db → HasRows (rows_of no_tables) db
+version_added : (db : Database) → HasRows (with_rows 0 (meta_cells ∷ []) nothing) db
+    → HasRows (rows_of no_tables) db
 version_added db has = record { declared = has.declared; stored = has.stored; sound = has.sound }
 
 orderly : AreOrderly no_tables
 orderly = record {
-  sorted = record { catalogue = tt; document = tt; conclusion = tt; adoption = tt; releases = tt; attached = tt; choice = tt; frozen = tt; duty = tt; changes = tt };
+  sorted = record {
+    catalogue = tt;
+    document = tt;
+    conclusion = tt;
+    adoption = tt;
+    releases = tt;
+    attached = tt;
+    choice = tt;
+    frozen = tt;
+    duty = tt;
+    changes = tt;
+  };
   packages = tt;
   revisions = tt;
   documents = tt;
@@ -98,7 +126,8 @@ orderly = record {
 none_stand : CanStand nothing
 none_stand = record {
   small = (tt, (tt, (tt, (tt, (tt, (tt, (tt, (tt, (tt, (tt, (tt, (tt, (tt, (tt, (tt, (tt, tt))))))))))))))));
-  keys = all_from (λ t. AllByRecursion (StandsOnce []) (t.primary ∷ t.uniques)) d.desk_schema.tables (λ t there. once (t.primary ∷ t.uniques));
+  keys = all_from (λ t. AllByRecursion (StandsOnce []) (t.primary ∷ t.uniques)) d.desk_schema.tables
+      (λ t there. once (t.primary ∷ t.uniques));
 }
   where
     once : (keys : List (List ℕ)) → AllByRecursion (StandsOnce []) keys
@@ -108,7 +137,9 @@ none_stand = record {
 version_stands : CanStand (with_rows 0 (meta_cells ∷ []) nothing)
 version_stands = record {
   small = (((omega arith, tt), tt), (tt, (tt, (tt, (tt, (tt, (tt, (tt, (tt, (tt, (tt, (tt, (tt, (tt, (tt, (tt, tt))))))))))))))));
-  keys = all_from (λ t. AllByRecursion (StandsOnce (with_rows 0 (meta_cells ∷ []) nothing t.tree)) (t.primary ∷ t.uniques)) d.desk_schema.tables (λ t there. each (t.tree == 0) (t.primary ∷ t.uniques));
+  keys = all_from (λ t. AllByRecursion (StandsOnce (with_rows 0 (meta_cells ∷ []) nothing t.tree))
+      (t.primary ∷ t.uniques)) d.desk_schema.tables
+      (λ t there. each (t.tree == 0) (t.primary ∷ t.uniques));
 }
   where
     once : (b : Bool) (test : Row → Bool) → length (filter test (cond b (meta_cells ∷ []) [])) ≤ 1
@@ -119,19 +150,29 @@ version_stands = record {
         go true = omega arith
         go false = omega arith
 
-    each : (b : Bool) (keys : List (List ℕ)) → AllByRecursion (StandsOnce (cond b (meta_cells ∷ []) [])) keys
+    each : (b : Bool) (keys : List (List ℕ))
+        → AllByRecursion (StandsOnce (cond b (meta_cells ∷ []) [])) keys
     each b [] = tt
-    each b (k ∷ keys) = ((λ key. once b (λ row. agree plain (in_cells k) row (in_cells k) key)), each b keys)
+    each b (k ∷ keys) = (
+      (λ key. once b (λ row. agree plain (in_cells k) row (in_cells k) key)),
+      each b keys,
+    )
 
 bare_room : (db : Database) → IsBare d.desk_schema db → HasRoom 1 db.trees
 bare_room db bare = record {
   few = omega arith;
-  room = all_from (λ t. t.key ≡ None → AllByRecursion (λ r. LeavesRoom 1 (rowid r)) (db.trees t.tree)) d.desk_schema.tables (λ t there none.
-      subst (AllByRecursion (λ r. LeavesRoom 1 (rowid r))) (sym (all_has (λ t. db.trees t.tree ≡ []) d.desk_schema.tables t bare.empty there)) tt);
+  room = all_from (λ t. t.key ≡ None
+      → AllByRecursion (λ r. LeavesRoom 1 (rowid r)) (db.trees t.tree)) d.desk_schema.tables
+      (λ t there none.
+      subst (AllByRecursion (λ r. LeavesRoom 1 (rowid r)))
+      (sym (all_has (λ t. db.trees t.tree ≡ []) d.desk_schema.tables t bare.empty there)) tt);
 }
 
 abbrev pub all_texts : List (List ℕ)
-all_texts = d.meta_text ∷ d.catalogue_text ∷ d.rule_text ∷ d.document_text ∷ d.package_text ∷ d.extracted_text ∷ d.conclusion_text ∷ d.adoption_text ∷ d.releases_text ∷ d.attached_text ∷ d.choice_text ∷ d.frozen_text ∷ d.duty_text ∷ d.change_text ∷ d.reading_text ∷ d.waiver_text ∷ []
+all_texts = d.meta_text ∷ d.catalogue_text ∷ d.rule_text ∷ d.document_text ∷ d.package_text
+    ∷ d.extracted_text ∷ d.conclusion_text ∷ d.adoption_text ∷ d.releases_text ∷ d.attached_text
+    ∷ d.choice_text ∷ d.frozen_text ∷ d.duty_text ∷ d.change_text ∷ d.reading_text ∷ d.waiver_text
+    ∷ []
 
 all_left : (db : Database) → IsBare d.no_schema db → Left all_texts d.desk_schema db
 all_left db bare = record {
@@ -144,7 +185,9 @@ all_left db bare = record {
 }
 
 -- the tables were declared, and the version was recorded
-pub founded : (a b c : State) (texts : List (List ℕ)) (r : Result (Unit {0}) Fault) → texts ≡ all_texts → (HasCleanDisk b → IsTrue a.in_transaction → Went texts [] a b) → Survives b c (λ _. ⊥)
+pub founded : (a b c : State) (texts : List (List ℕ)) (r : Result (Unit {0}) Fault)
+    → texts ≡ all_texts → (HasCleanDisk b → IsTrue a.in_transaction → Went texts [] a b)
+    → Survives b c (λ _. ⊥)
     → Ran version_text [] b c r → IfErr r (RanInto version_text [] b c) → HasFounded a c r
 founded a b c texts (Ok done) are went survives ran into = λ clean inside.
     let first = went (clean_before b c _ survives clean) inside in
@@ -155,31 +198,46 @@ founded a b c texts (Ok done) are went survives ran into = λ clean inside.
       is_open = (ran clean first.inside).1.1.is_open;
       kept = keeps_then a b c first.kept next.kept;
       holds = λ bare.
-          let declared = all_declared d.desk_schema b.now (first.left d.desk_schema (subst (λ (ts : List (List ℕ)). Left ts d.desk_schema a.now) (sym are) (all_left a.now bare))) in
-          record { rows = version_added c.now (next.change nothing (bare_rows b.now declared)); orderly = orderly };
+          let declared = all_declared d.desk_schema b.now
+          (first.left d.desk_schema (subst (λ (ts : List (List ℕ)). Left ts d.desk_schema a.now)
+          (sym are) (all_left a.now bare))) in
+          record {
+            rows = version_added c.now (next.change nothing (bare_rows b.now declared));
+            orderly = orderly;
+          };
     }
 founded a b c texts (Err fault) are went survives ran into = λ clean inside.
     let first = went (clean_before b c _ survives clean) inside in
     keeps_then a b c first.kept (ran clean first.inside)
 
 -- and it fails only for a cause, as declaring them does
-pub declared_fails : (a c : State) (texts : List (List ℕ)) (fault : Fault) → texts ≡ all_texts → DeclareFails texts a c fault → FoundFails a c fault
+pub declared_fails : (a c : State) (texts : List (List ℕ)) (fault : Fault) → texts ≡ all_texts
+    → DeclareFails texts a c fault → FoundFails a c fault
 declared_fails a c texts fault are fails = record {
-  cause = λ clean inside opened unlimited bare. fails.cause clean inside opened unlimited d.desk_schema (subst (λ (ts : List (List ℕ)). Left ts d.desk_schema a.now) (sym are) (all_left a.now bare));
+  cause = λ clean inside opened unlimited bare. fails.cause clean inside opened unlimited
+      d.desk_schema (subst (λ (ts : List (List ℕ)). Left ts d.desk_schema a.now) (sym are)
+      (all_left a.now bare));
 }
 
-pub founding_fails : (a b c : State) (texts : List (List ℕ)) (r : Result (Unit {0}) Fault) → texts ≡ all_texts → (HasCleanDisk b → IsTrue a.in_transaction → Went texts [] a b) → Survives a b (λ _. ⊥) → Survives b c (λ _. ⊥)
+pub founding_fails : (a b c : State) (texts : List (List ℕ)) (r : Result (Unit {0}) Fault)
+    → texts ≡ all_texts → (HasCleanDisk b → IsTrue a.in_transaction → Went texts [] a b)
+    → Survives a b (λ _. ⊥) → Survives b c (λ _. ⊥)
     → Ran version_text [] b c r → IfErr r (RanInto version_text [] b c) → IfErr r (FoundFails a c)
 founding_fails a b c texts (Ok done) are went s survives ran into = tt
 founding_fails a b c texts (Err fault) are went s survives ran into = record {
   cause = λ clean inside opened unlimited bare.
       let first = went (clean_before b c _ survives clean) inside in
-      let declared = all_declared d.desk_schema b.now (first.left d.desk_schema (subst (λ (ts : List (List ℕ)). Left ts d.desk_schema a.now) (sym are) (all_left a.now bare))) in
+      let declared = all_declared d.desk_schema b.now
+      (first.left d.desk_schema (subst (λ (ts : List (List ℕ)). Left ts d.desk_schema a.now)
+      (sym are) (all_left a.now bare))) in
       first_caused a b c fault s
-      ((version_adds b c (Err fault) ran into survives).cause.cause clean first.inside (first.is_open opened) (s.limit ∙ unlimited) nothing (bare_rows b.now declared) none_stand version_stands (bare_room b.now declared));
+      ((version_adds b c (Err fault) ran into survives).cause.cause clean first.inside
+      (first.is_open opened) (s.limit ∙ unlimited) nothing (bare_rows b.now declared) none_stand
+      version_stands (bare_room b.now declared));
 }
 
-pub err_founds : (a c : State) (r : Result (Unit {0}) Fault) (fault : Fault) → IsErrAnd r (λ e. e ≡ fault) → FoundFails a c fault → IfErr r (FoundFails a c)
+pub err_founds : (a c : State) (r : Result (Unit {0}) Fault) (fault : Fault)
+    → IsErrAnd r (λ e. e ≡ fault) → FoundFails a c fault → IfErr r (FoundFails a c)
 err_founds a c (Ok done) fault is fails = absurd is
 err_founds a c (Err e) fault is fails = rw is fails
 
@@ -188,21 +246,28 @@ module _ {S : Type 0} (g : Ghosts S) (old : Held S) (last new : State) (P : Tree
   abbrev begun : State
   begun = state g (record old { in_transaction = true })
 
-  pub dropped_fails : (r : Result (Unit {0}) Fault) (fault : Fault) → IsErrAnd r (λ e. e ≡ fault) → Survives last new P → FoundFails begun last fault → IfErr r (CreateFails (state g old) new)
+  pub dropped_fails : (r : Result (Unit {0}) Fault) (fault : Fault) → IsErrAnd r (λ e. e ≡ fault)
+      → Survives last new P → FoundFails begun last fault → IfErr r (CreateFails (state g old) new)
   dropped_fails (Ok done) fault is s fails = absurd is
   dropped_fails (Err e) fault is s fails = record {
-    cause = λ clean opened unlimited bare. later_caused begun last new P e s (subst (IsCaused begun last) (sym is) (fails.cause (clean_before last new P s clean) refl opened unlimited bare));
+    cause = λ clean opened unlimited bare. later_caused begun last new P e s
+        (subst (IsCaused begun last) (sym is)
+        (fails.cause (clean_before last new P s clean) refl opened unlimited bare));
   }
 
-  pub commit_fails : (e : Error) → Survives begun last (λ _. ⊥) → Survives last new P → (HasCleanDisk last → Founds begun last) → (HasCleanDisk new → FailsToCommit last new e) → CreateFails (state g old) new (fault_by e)
+  pub commit_fails : (e : Error) → Survives begun last (λ _. ⊥) → Survives last new P
+      → (HasCleanDisk last → Founds begun last) → (HasCleanDisk new → FailsToCommit last new e)
+      → CreateFails (state g old) new (fault_by e)
   commit_fails e s u founds fails = record {
     cause = λ clean opened unlimited bare.
         let it = founds (clean_before last new P u clean) in
-        first_caused begun last new (fault_by e) s (ends_caused last new e it.is_open it.inside (fails clean));
+        first_caused begun last new (fault_by e) s
+        (ends_caused last new e it.is_open it.inside (fails clean));
   }
 
 -- what a stop leaves, in terms of the tables alone
-pub leaves_tables : (old new : State) → (IsTrue old.is_open → IsBare d.no_schema old.now) → Survives old new (LeavesTables old) → Survives old new (λ trees. Stands trees no_tables)
+pub leaves_tables : (old new : State) → (IsTrue old.is_open → IsBare d.no_schema old.now)
+    → Survives old new (LeavesTables old) → Survives old new (λ trees. Stands trees no_tables)
 leaves_tables old new bare survives = record {
   clean = survives.clean;
   shield = survives.shield;

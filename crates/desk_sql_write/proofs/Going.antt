@@ -1,5 +1,7 @@
 -- Writes, one after another, fail only for a cause if each does.
-use Rattle.std.proofs.Common.{◌≡◌, ◌∙◌, ◌⊎◌, inl, inr, ℕ, ◌+◌, ◌-◌, ◌≤◌, List, [], ◌∷◌, ◌++◌, filter, length, length-append, None, Ok, Err, Result, refl, sym, ap, subst, arith, rules}
+use Rattle.std.proofs.Common.{◌≡◌, ◌∙◌, ◌⊎◌, inl, inr, ℕ, ◌+◌, ◌-◌, ◌≤◌, List, [], ◌∷◌, ◌++◌}
+use Rattle.std.proofs.Common.{filter, length, length-append, None, Ok, Err, Result, refl, sym, ap}
+use Rattle.std.proofs.Common.{subst, arith, rules}
 use Rattle.std.specs.List.{AllByRecursion}
 use Rattle.std.specs.Result.{IsErrAnd}
 use Rattle.sqlite_value.specs.Keys.{plain}
@@ -19,61 +21,135 @@ use Rattle.desk_sql_write.proofs.Lists.{filter_both}
 use Rattle.desk_sql_write.proofs.Rooms.{fewer_left, front_all}
 
 pub room_less : (n many : ℕ) (trees : Trees) → HasRoom (n + many) trees → HasRoom n trees
-room_less n many trees room = record { few = omega (arith, room.few); room = each desk_schema.tables room.room }
+room_less n many trees room = record {
+  few = omega (arith, room.few);
+  room = each desk_schema.tables room.room;
+}
   where
-    each : (tables : List Table) → AllByRecursion (λ t. t.key ≡ None → AllByRecursion (λ r. LeavesRoom (n + many) (rowid r)) (trees t.tree)) tables → AllByRecursion (λ t. t.key ≡ None → AllByRecursion (λ r. LeavesRoom n (rowid r)) (trees t.tree)) tables
+    each : (tables : List Table) → AllByRecursion
+        (λ t. t.key ≡ None → AllByRecursion (λ r. LeavesRoom (n + many) (rowid r)) (trees t.tree))
+        tables → AllByRecursion (λ t. t.key ≡ None
+        → AllByRecursion (λ r. LeavesRoom n (rowid r)) (trees t.tree)) tables
     each [] all = tt
-    each (t ∷ tables) all = ((λ none. fewer_left n many (trees t.tree) (all.0 none)), each tables all.1)
+    each (t ∷ tables) all = (
+      (λ none. fewer_left n many (trees t.tree) (all.0 none)),
+      each tables all.1,
+    )
 
 -- ---- rows between those before and those after
 
-front_once : (xs ys : List Row) (places : List ℕ) → StandsOnce (xs ++ ys) places → StandsOnce xs places
+front_once : (xs ys : List Row) (places : List ℕ) → StandsOnce (xs ++ ys) places
+    → StandsOnce xs places
 front_once xs ys places once key =
     let p = λ (row : Row). agree plain (in_cells places) row (in_cells places) key in
-    omega (arith, once key, ap length (filter_both p xs ys), length-append (filter p xs) (filter p ys))
+    omega (
+      arith,
+      once key,
+      ap length (filter_both p xs ys),
+      length-append (filter p xs) (filter p ys),
+    )
 
-front_keys : (xs ys : List Row) (keys : List (List ℕ)) → AllByRecursion (StandsOnce (xs ++ ys)) keys → AllByRecursion (StandsOnce xs) keys
+front_keys : (xs ys : List Row) (keys : List (List ℕ)) → AllByRecursion (StandsOnce (xs ++ ys)) keys
+    → AllByRecursion (StandsOnce xs) keys
 front_keys xs ys [] all = tt
 front_keys xs ys (k ∷ keys) all = (front_once xs ys k all.0, front_keys xs ys keys all.1)
 
 -- each table is as before, or as after, or has more rows at the end
 abbrev pub AreBetween : (ℕ → List Row) → (ℕ → List Row) → (ℕ → List Row) → Type 0
-AreBetween old mid last = AllByRecursion (λ t. (mid t.tree ≡ old t.tree) ⊎ ((mid t.tree ≡ last t.tree) ⊎ ((more : List Row) × (last t.tree ≡ mid t.tree ++ more)))) desk_schema.tables
+AreBetween old mid last = AllByRecursion
+    (λ t. (mid t.tree ≡ old t.tree)
+    ⊎ ((mid t.tree ≡ last t.tree) ⊎ ((more : List Row) × (last t.tree ≡ mid t.tree ++ more))))
+    desk_schema.tables
 
-pub can_stand : (old mid last : ℕ → List Row) → AreBetween old mid last → CanStand old → CanStand last → CanStand mid
-can_stand old mid last between before after = record { small = small desk_schema.tables between before.small after.small; keys = keys desk_schema.tables between before.keys after.keys }
+pub can_stand : (old mid last : ℕ → List Row) → AreBetween old mid last → CanStand old
+    → CanStand last → CanStand mid
+can_stand old mid last between before after = record {
+  small = small desk_schema.tables between before.small after.small;
+  keys = keys desk_schema.tables between before.keys after.keys;
+}
   where
-    small : (tables : List Table) → AllByRecursion (λ t. (mid t.tree ≡ old t.tree) ⊎ ((mid t.tree ≡ last t.tree) ⊎ ((more : List Row) × (last t.tree ≡ mid t.tree ++ more)))) tables
-        → AllByRecursion (λ t. AllByRecursion (AllByRecursion IsSmall) (old t.tree)) tables → AllByRecursion (λ t. AllByRecursion (AllByRecursion IsSmall) (last t.tree)) tables → AllByRecursion (λ t. AllByRecursion (AllByRecursion IsSmall) (mid t.tree)) tables
+    small : (tables : List Table)
+        → AllByRecursion (λ t. (mid t.tree ≡ old t.tree)
+        ⊎ ((mid t.tree ≡ last t.tree) ⊎ ((more : List Row) × (last t.tree ≡ mid t.tree ++ more))))
+        tables
+        → AllByRecursion (λ t. AllByRecursion (AllByRecursion IsSmall) (old t.tree)) tables
+        → AllByRecursion (λ t. AllByRecursion (AllByRecursion IsSmall) (last t.tree)) tables
+        → AllByRecursion (λ t. AllByRecursion (AllByRecursion IsSmall) (mid t.tree)) tables
     small [] all a b = tt
-    small (t ∷ tables) (inl is, all) a b = (subst (AllByRecursion (AllByRecursion IsSmall)) (sym is) a.0, small tables all a.1 b.1)
-    small (t ∷ tables) (inr (inl is), all) a b = (subst (AllByRecursion (AllByRecursion IsSmall)) (sym is) b.0, small tables all a.1 b.1)
-    small (t ∷ tables) (inr (inr (more, is)), all) a b = (front_all (AllByRecursion IsSmall) (mid t.tree) more (subst (AllByRecursion (AllByRecursion IsSmall)) is b.0), small tables all a.1 b.1)
+    small (t ∷ tables) (
+      inl is,
+      all,
+    ) a b = (subst (AllByRecursion (AllByRecursion IsSmall)) (sym is) a.0, small tables all a.1 b.1)
+    small (t ∷ tables) (
+      inr (inl is),
+      all,
+    ) a b = (subst (AllByRecursion (AllByRecursion IsSmall)) (sym is) b.0, small tables all a.1 b.1)
+    small (t ∷ tables) (
+      inr (inr (more, is)),
+      all,
+    ) a b = (
+      front_all (AllByRecursion IsSmall) (mid t.tree) more
+          (subst (AllByRecursion (AllByRecursion IsSmall)) is b.0),
+      small tables all a.1 b.1,
+    )
 
-    keys : (tables : List Table) → AllByRecursion (λ t. (mid t.tree ≡ old t.tree) ⊎ ((mid t.tree ≡ last t.tree) ⊎ ((more : List Row) × (last t.tree ≡ mid t.tree ++ more)))) tables
-        → AllByRecursion (λ t. AllByRecursion (StandsOnce (old t.tree)) (t.primary ∷ t.uniques)) tables → AllByRecursion (λ t. AllByRecursion (StandsOnce (last t.tree)) (t.primary ∷ t.uniques)) tables
-        → AllByRecursion (λ t. AllByRecursion (StandsOnce (mid t.tree)) (t.primary ∷ t.uniques)) tables
+    keys : (tables : List Table) → AllByRecursion
+        (λ t. (mid t.tree ≡ old t.tree)
+        ⊎ ((mid t.tree ≡ last t.tree) ⊎ ((more : List Row) × (last t.tree ≡ mid t.tree ++ more))))
+        tables
+        → AllByRecursion (λ t. AllByRecursion (StandsOnce (old t.tree)) (t.primary ∷ t.uniques))
+        tables → AllByRecursion (λ t. AllByRecursion (StandsOnce (last t.tree))
+        (t.primary ∷ t.uniques)) tables
+        → AllByRecursion (λ t. AllByRecursion (StandsOnce (mid t.tree)) (t.primary ∷ t.uniques))
+        tables
     keys [] all a b = tt
-    keys (t ∷ tables) (inl is, all) a b = (subst (λ rows. AllByRecursion (StandsOnce rows) (t.primary ∷ t.uniques)) (sym is) a.0, keys tables all a.1 b.1)
-    keys (t ∷ tables) (inr (inl is), all) a b = (subst (λ rows. AllByRecursion (StandsOnce rows) (t.primary ∷ t.uniques)) (sym is) b.0, keys tables all a.1 b.1)
-    keys (t ∷ tables) (inr (inr (more, is)), all) a b = (front_keys (mid t.tree) more (t.primary ∷ t.uniques) (subst (λ rows. AllByRecursion (StandsOnce rows) (t.primary ∷ t.uniques)) is b.0), keys tables all a.1 b.1)
+    keys (t ∷ tables) (
+      inl is,
+      all,
+    ) a b = (
+      subst (λ rows. AllByRecursion (StandsOnce rows) (t.primary ∷ t.uniques)) (sym is) a.0,
+      keys tables all a.1 b.1,
+    )
+    keys (t ∷ tables) (
+      inr (inl is),
+      all,
+    ) a b = (
+      subst (λ rows. AllByRecursion (StandsOnce rows) (t.primary ∷ t.uniques)) (sym is) b.0,
+      keys tables all a.1 b.1,
+    )
+    keys (t ∷ tables) (
+      inr (inr (more, is)),
+      all,
+    ) a b = (
+      front_keys (mid t.tree) more (t.primary ∷ t.uniques)
+          (subst (λ rows. AllByRecursion (StandsOnce rows) (t.primary ∷ t.uniques)) is b.0),
+      keys tables all a.1 b.1,
+    )
 
 room_within : (j l : ℕ) (trees : Trees) → j ≤ l → HasRoom l trees → HasRoom j trees
-room_within j l trees within room = let some : l ≡ j + (l - j) = omega (arith, within) in room_less j (l - j) trees (subst (λ m. HasRoom m trees) some room)
+room_within j l trees within room = let some : l ≡ j + (l - j) = omega (arith, within) in
+    room_less j (l - j) trees (subst (λ m. HasRoom m trees) some room)
 
 none_survives : (s : State) → Survives s s (λ _. ⊥)
 none_survives s = search rules
 
 -- the same write, for what shows the rows
-pub along : {A B : Type 0} (show : B → A) (before after : A → ℕ → List Row) (many : ℕ) (a b : State) (r : Result (Unit {0}) Fault) → Turns before after many a b r → Turns (λ x. before (show x)) (λ x. after (show x)) many a b r
+pub along : {A B : Type 0} (show : B → A) (before after : A → ℕ → List Row) (many : ℕ) (a b : State)
+    (r : Result (Unit {0}) Fault) → Turns before after many a b r
+    → Turns (λ x. before (show x)) (λ x. after (show x)) many a b r
 along show before after many a b (Ok done) w = record {
-  wrote = λ clean inside. let it = w.wrote clean inside in record { inside = it.inside; kept = it.kept; change = λ x has. it.change (show x) has };
-  cause = λ clean inside. let it = w.cause clean inside in record { is_open = it.is_open; room = λ x has n room. it.room (show x) has n room };
+  wrote = λ clean inside. let it = w.wrote clean inside in
+      record { inside = it.inside; kept = it.kept; change = λ x has. it.change (show x) has };
+  cause = λ clean inside. let it = w.cause clean inside in
+      record { is_open = it.is_open; room = λ x has n room. it.room (show x) has n room };
   survives = w.survives;
 }
 along show before after many a b (Err fault) w = record {
   wrote = w.wrote;
-  cause = record { cause = λ clean inside opened unlimited x has before after room. w.cause.cause clean inside opened unlimited (show x) has before after room };
+  cause = record {
+    cause = λ clean inside opened unlimited x has before after room. w.cause.cause
+        clean inside opened unlimited (show x) has before after room;
+  };
   survives = w.survives;
 }
 
@@ -81,62 +157,98 @@ module _ {A : Type 0} where
   -- nothing was written yet
   pub none_turns : (f : A → ℕ → List Row) (s : State) → Turns f f 0 s s (Ok tt)
   none_turns f s = record {
-    wrote = λ clean inside. record { inside = inside; kept = record { was_open = λ is. is; committed = λ is. refl }; change = λ x has. has };
-    cause = λ clean inside. record { is_open = λ is. is; room = λ x has n room. room_less n 0 s.now.trees room };
+    wrote = λ clean inside. record {
+      inside = inside;
+      kept = record { was_open = λ is. is; committed = λ is. refl };
+      change = λ x has. has;
+    };
+    cause = λ clean inside. record {
+      is_open = λ is. is;
+      room = λ x has n room. room_less n 0 s.now.trees room;
+    };
     survives = none_survives s;
   }
 
   -- the same rows, said differently
-  pub as_turns : (f g h : A → ℕ → List Row) (many : ℕ) (a b : State) (r : Result (Unit {0}) Fault) → ((x : A) (tree : ℕ) → g x tree ≡ h x tree) → Turns f g many a b r → Turns f h many a b r
-  as_turns f g h many a b r same = subst (λ (k : A → ℕ → List Row). Turns f k many a b r) (λ i x tree. same x tree i)
+  pub as_turns : (f g h : A → ℕ → List Row) (many : ℕ) (a b : State) (r : Result (Unit {0}) Fault)
+      → ((x : A) (tree : ℕ) → g x tree ≡ h x tree) → Turns f g many a b r → Turns f h many a b r
+  as_turns f g h many a b r same = subst (λ (k : A → ℕ → List Row). Turns f k many a b r)
+      (λ i x tree. same x tree i)
 
   -- with a count that is no smaller
-  pub more_turns : (f g : A → ℕ → List Row) (j l : ℕ) (a b : State) (r : Result (Unit {0}) Fault) → j ≤ l → Turns f g j a b r → Turns f g l a b r
+  pub more_turns : (f g : A → ℕ → List Row) (j l : ℕ) (a b : State) (r : Result (Unit {0}) Fault)
+      → j ≤ l → Turns f g j a b r → Turns f g l a b r
   more_turns f g j l a b (Ok done) within w = record {
     wrote = w.wrote;
     cause = λ clean inside.
         let it = w.cause clean inside in
-        record { is_open = it.is_open; room = λ x has n room. it.room x has n (room_within (n + j) (n + l) a.now.trees (omega (arith, within)) room) };
+        record {
+          is_open = it.is_open;
+          room = λ x has n room. it.room x has n
+              (room_within (n + j) (n + l) a.now.trees (omega (arith, within)) room);
+        };
     survives = w.survives;
   }
   more_turns f g j l a b (Err fault) within w = record {
     wrote = w.wrote;
-    cause = record { cause = λ clean inside opened unlimited x has before after room. w.cause.cause clean inside opened unlimited x has before after (room_within j l a.now.trees within room) };
+    cause = record {
+      cause = λ clean inside opened unlimited x has before after room. w.cause.cause
+          clean inside opened unlimited x has before after
+          (room_within j l a.now.trees within room);
+    };
     survives = w.survives;
   }
 
   -- a write that failed, as one that would have done more
-  pub less_turns : (f g h : A → ℕ → List Row) (many : ℕ) (a b : State) (fault : Fault) → ((x : A) → CanStand (f x) → CanStand (h x) → CanStand (g x)) → Turns f g many a b (Err fault) → Turns f h many a b (Err fault)
+  pub less_turns : (f g h : A → ℕ → List Row) (many : ℕ) (a b : State) (fault : Fault)
+      → ((x : A) → CanStand (f x) → CanStand (h x) → CanStand (g x))
+      → Turns f g many a b (Err fault) → Turns f h many a b (Err fault)
   less_turns f g h many a b fault between w = record {
     wrote = w.wrote;
-    cause = record { cause = λ clean inside opened unlimited x has before after room. w.cause.cause clean inside opened unlimited x has before (between x before after) room };
+    cause = record {
+      cause = λ clean inside opened unlimited x has before after room. w.cause.cause
+          clean inside opened unlimited x has before (between x before after) room;
+    };
     survives = w.survives;
   }
 
   -- `?` returns a fault
-  pub err_turns : (f g : A → ℕ → List Row) (many : ℕ) (a b : State) (r : Result (Unit {0}) Fault) (fault : Fault) → IsErrAnd r (λ e. e ≡ fault) → Turns f g many a b (Err fault) → Turns f g many a b r
+  pub err_turns : (f g : A → ℕ → List Row) (many : ℕ) (a b : State) (r : Result (Unit {0}) Fault)
+      (fault : Fault) → IsErrAnd r (λ e. e ≡ fault) → Turns f g many a b (Err fault)
+      → Turns f g many a b r
   err_turns f g many a b (Ok done) fault is w = absurd is
   err_turns f g many a b (Err e) fault is w = rw is w
 
   -- a fault before anything was written
-  pub early_turns : (f g : A → ℕ → List Row) (many : ℕ) (s : State) (r : Result (Unit {0}) Fault) (fault : Fault) → IsErrAnd r (λ e. e ≡ fault) → ((x : A) → CanStand (g x) → IsCaused s s fault) → Turns f g many s s r
+  pub early_turns : (f g : A → ℕ → List Row) (many : ℕ) (s : State) (r : Result (Unit {0}) Fault)
+      (fault : Fault) → IsErrAnd r (λ e. e ≡ fault)
+      → ((x : A) → CanStand (g x) → IsCaused s s fault) → Turns f g many s s r
   early_turns f g many s r fault is caused = err_turns f g many s s r fault is (record {
     wrote = λ clean inside. record { was_open = λ is. is; committed = λ is. refl };
-    cause = record { cause = λ clean inside opened unlimited x has before after room. caused x after };
+    cause = record {
+      cause = λ clean inside opened unlimited x has before after room. caused x
+          after;
+    };
     survives = none_survives s;
   })
 
-  pub memory_turns : (f g : A → ℕ → List Row) (many : ℕ) (s : State) (r : Result (Unit {0}) Fault) → IsErrAnd r (λ e. e ≡ Memory) → Turns f g many s s r
+  pub memory_turns : (f g : A → ℕ → List Row) (many : ℕ) (s : State) (r : Result (Unit {0}) Fault)
+      → IsErrAnd r (λ e. e ≡ Memory) → Turns f g many s s r
   memory_turns f g many s r is = early_turns f g many s r Memory is (λ x after. inl refl)
 
   -- one write, and then another
-  pub then_turns : (f g h : A → ℕ → List Row) (j k : ℕ) (a b c : State) (r : Result (Unit {0}) Fault) → ((x : A) → CanStand (f x) → CanStand (h x) → CanStand (g x))
+  pub then_turns : (f g h : A → ℕ → List Row) (j k : ℕ) (a b c : State)
+      (r : Result (Unit {0}) Fault) → ((x : A) → CanStand (f x) → CanStand (h x) → CanStand (g x))
       → Turns f g j a b (Ok tt) → Turns g h k b c r → Turns f h (j + k) a c r
   then_turns f g h j k a b c (Ok done) between v w = record {
     wrote = λ clean inside.
         let first = v.wrote (clean_before b c _ w.survives clean) inside in
         let next = w.wrote clean first.inside in
-        record { inside = next.inside; kept = keeps_then a b c first.kept next.kept; change = λ x has. next.change x (first.change x has) };
+        record {
+          inside = next.inside;
+          kept = keeps_then a b c first.kept next.kept;
+          change = λ x has. next.change x (first.change x has);
+        };
     cause = λ clean inside.
         let was = clean_before b c _ w.survives clean in
         let first = v.wrote was inside in
@@ -146,7 +258,8 @@ module _ {A : Type 0} where
           is_open = λ is. then.is_open (used.is_open is);
           room = λ x has n room.
               let turned : n + (j + k) ≡ (n + k) + j = omega arith in
-              then.room x (first.change x has) n (used.room x has (n + k) (subst (λ m. HasRoom m a.now.trees) turned room));
+              then.room x (first.change x has) n
+              (used.room x has (n + k) (subst (λ m. HasRoom m a.now.trees) turned room));
         };
     survives = survives_both a b c v.survives w.survives;
   }
@@ -161,7 +274,8 @@ module _ {A : Type 0} where
           let used = v.cause was inside in
           let turned : j + k ≡ k + j = omega arith in
           let left = used.room x has k (subst (λ m. HasRoom m a.now.trees) turned room) in
-          elim (w.cause.cause clean first.inside (used.is_open opened) (v.survives.limit ∙ unlimited) x (first.change x has) (between x before after) after left) [
+          elim (w.cause.cause clean first.inside (used.is_open opened)
+          (v.survives.limit ∙ unlimited) x (first.change x has) (between x before after) after left) [
             | inl memory ↦ inl memory
             | inr more ↦ inr (more.0, omega (arith, v.survives.counts, more.1))
           ];
@@ -170,10 +284,16 @@ module _ {A : Type 0} where
   }
 
   -- a write that adds nothing, and then another
-  pub next_turns : (f g h : A → ℕ → List Row) (k : ℕ) (a b c : State) (r : Result (Unit {0}) Fault) → ((x : A) → CanStand (f x) → CanStand (h x) → CanStand (g x)) → Turns f g 0 a b (Ok tt) → Turns g h k b c r → Turns f h k a c r
-  next_turns f g h k a b c r between v w = let same : 0 + k ≡ k = omega arith in subst (λ n. Turns f h n a c r) same (then_turns f g h 0 k a b c r between v w)
+  pub next_turns : (f g h : A → ℕ → List Row) (k : ℕ) (a b c : State) (r : Result (Unit {0}) Fault)
+      → ((x : A) → CanStand (f x) → CanStand (h x) → CanStand (g x)) → Turns f g 0 a b (Ok tt)
+      → Turns g h k b c r → Turns f h k a c r
+  next_turns f g h k a b c r between v w = let same : 0 + k ≡ k = omega arith in
+      subst (λ n. Turns f h n a c r) same (then_turns f g h 0 k a b c r between v w)
 
   -- the first of two writes failed
-  pub first_fails : (f g h : A → ℕ → List Row) (j l : ℕ) (a b : State) (r : Result (Unit {0}) Fault) (fault : Fault) → IsErrAnd r (λ e. e ≡ fault) → j ≤ l → ((x : A) → CanStand (f x) → CanStand (h x) → CanStand (g x))
+  pub first_fails : (f g h : A → ℕ → List Row) (j l : ℕ) (a b : State) (r : Result (Unit {0}) Fault)
+      (fault : Fault) → IsErrAnd r (λ e. e ≡ fault) → j ≤ l
+      → ((x : A) → CanStand (f x) → CanStand (h x) → CanStand (g x))
       → Turns f g j a b (Err fault) → Turns f h l a b r
-  first_fails f g h j l a b r fault is within between w = err_turns f h l a b r fault is (more_turns f h j l a b (Err fault) within (less_turns f g h j a b fault between w))
+  first_fails f g h j l a b r fault is within between w = err_turns f h l a b r fault is
+      (more_turns f h j l a b (Err fault) within (less_turns f g h j a b fault between w))

@@ -1,5 +1,7 @@
 -- What each INSERT adds to its table, and why it fails.
-use Rattle.std.proofs.Common.{◌≡◌, ◌≢◌, ℕ, ℤ, zero, suc, pos, ◌+◌, true, List, [], ◌∷◌, map, flat_map, length, codes, Option, Some, None, IfErr, Result, refl, sym, subst, arith}
+use Rattle.std.proofs.Common.{◌≡◌, ◌≢◌, ℕ, ℤ, zero, suc, pos, ◌+◌, true, List, [], ◌∷◌, map}
+use Rattle.std.proofs.Common.{flat_map, length, codes, Option, Some, None, IfErr, Result, refl, sym}
+use Rattle.std.proofs.Common.{subst, arith}
 use Rattle.std.specs.Prelude.{if◌then◌else◌, ◌/◌}
 use Rattle.std.specs.List.{AllByRecursion}
 use Rattle.std.proofs.lemmas.List.{length-map}
@@ -32,7 +34,11 @@ use Rattle.desk_model.specs.declared.row.PackageRow.{PackageRow}
 use Rattle.desk_model.specs.declared.row.ReleaseRow.{ReleaseRow}
 use Rattle.desk_model.specs.declared.row.RuleRow.{RuleRow}
 use Rattle.desk_sql_layout.specs.Layout as d
-use Rattle.desk_sql_layout.specs.Cells.{number, text_or_null, catalogue_cells, rule_cells, document_cells, reading_cells, package_cells, extracted_cells, conclusion_cells, adoption_cells, release_cells, attached_cells, choice_cells, frozen_cells, duty_cells, change_cells, waiver_cells}
+use Rattle.desk_sql_layout.specs.Cells.{number, text_or_null, catalogue_cells, rule_cells}
+use Rattle.desk_sql_layout.specs.Cells.{document_cells, reading_cells, package_cells}
+use Rattle.desk_sql_layout.specs.Cells.{extracted_cells, conclusion_cells, adoption_cells}
+use Rattle.desk_sql_layout.specs.Cells.{release_cells, attached_cells, choice_cells, frozen_cells}
+use Rattle.desk_sql_layout.specs.Cells.{duty_cells, change_cells, waiver_cells}
 use Rattle.desk_sql_layout.proofs.Casts.{cast_null, cast_int, cast_text}
 use Rattle.desk_sql_write.specs.Taking.{IsSmall, RanInto}
 use Rattle.desk_sql_write.specs.Turning.{Adds, with_rows}
@@ -45,7 +51,9 @@ use Rattle.desk_sql_write.proofs.Storable.{all_light, int_light, null_light}
 
 -- a text adds rows to the table with this tree, at most this many
 abbrev pub AreAdded : List ℕ → Row → ℕ → List Row → ℕ → Type 1
-AreAdded text params tree rows many = (old new : State) (r : Result (Unit {0}) Fault) → Ran text params old new r → IfErr r (RanInto text params old new) → Survives old new (λ _. ⊥) → Adds (with_rows tree rows) many old new r
+AreAdded text params tree rows many = (old new : State) (r : Result (Unit {0}) Fault)
+    → Ran text params old new r → IfErr r (RanInto text params old new) → Survives old new (λ _. ⊥)
+    → Adds (with_rows tree rows) many old new r
 
 -- a text adds a row
 abbrev pub IsAdded : List ℕ → ℕ → Row → Type 1
@@ -55,15 +63,17 @@ abbrev columns_from : ℕ → ℕ → List Term
 columns_from at zero = []
 columns_from at (suc n) = col 0 at ∷ columns_from (at + 1) n
 
--- what a row is made of, from the first of this many parameters: NULL gives the rowid, or the first parameter
--- does, and NULL is in its place
+-- what a row is made of, from the first of this many parameters: NULL gives the rowid, or the first
+-- parameter does, and NULL is in its place
 abbrev terms_of : Option ℕ → ℕ → ℕ → List Term
 terms_of None at n = lit Null ∷ columns_from at n
 terms_of (Some key) at zero = []
 terms_of (Some key) at (suc n) = col 0 at ∷ lit Null ∷ columns_from (at + 1) n
 
 abbrev eight_terms : Option ℕ → ℕ → List Term
-eight_terms key n = flat_map (λ at. terms_of key at n) (0 ∷ n ∷ (n + n) ∷ (n + n + n) ∷ (n + n + n + n) ∷ (n + n + n + n + n) ∷ (n + n + n + n + n + n) ∷ (n + n + n + n + n + n + n) ∷ [])
+eight_terms key n = flat_map (λ at. terms_of key at n)
+    (0 ∷ n ∷ (n + n) ∷ (n + n + n) ∷ (n + n + n + n) ∷ (n + n + n + n + n) ∷ (n + n + n + n + n + n)
+    ∷ (n + n + n + n + n + n + n) ∷ [])
 
 abbrev source_of : Option ℕ → Row → Row
 source_of None cells = Null ∷ cells
@@ -82,9 +92,27 @@ add_revision_reads = record { is = refl; plain = (refl, refl); fits = (refl, ref
 pub revision_added : (row : CatalogueRow) → IsAdded add_revision_text 1 (catalogue_cells row)
 revision_added row old new =
     let this = d.catalogue_table in
-    inserted_adds this.name 1 this.columns this.key this.primary this.uniques this.orders 1 refl add_revision_text (catalogue_cells row) (terms_of (Some 0) 0 2) 3 add_revision_reads refl
-    (source_of (Some 0) (catalogue_cells row) ∷ []) (catalogue_cells row ∷ []) refl refl (refl, λ r. refl) ((λ stored. rw (cast_null, cast_int (pos row.revision)) refl), tt) (λ id. refl, tt)
-    (λ trees small. (record { number = (row.revision, _, refl, small.0.0); right = λ id. record { typed = refl; present = refl; light = ((all_light (catalogue_cells row) small.0).0, (null_light, (all_light (catalogue_cells row) small.0).1)); some = omega arith; few = omega arith } }, tt)) old new
+    inserted_adds this.name 1 this.columns this.key this.primary this.uniques this.orders 1 refl
+    add_revision_text (catalogue_cells row) (terms_of (Some 0) 0 2) 3 add_revision_reads refl
+    (source_of (Some 0) (catalogue_cells row) ∷ []) (catalogue_cells row ∷ []) refl refl
+    (refl, λ r. refl) ((λ stored. rw (cast_null, cast_int (pos row.revision)) refl), tt)
+    (λ id. refl, tt)
+    (λ trees small. (
+      record {
+        number = (row.revision, _, refl, small.0.0);
+        right = λ id. record {
+          typed = refl;
+          present = refl;
+          light = (
+            (all_light (catalogue_cells row) small.0).0,
+            (null_light, (all_light (catalogue_cells row) small.0).1),
+          );
+          some = omega arith;
+          few = omega arith;
+        };
+      },
+      tt,
+    )) old new
 
 -- ---- rule
 
@@ -98,9 +126,23 @@ add_rule_reads = record { is = refl; plain = (refl, refl); fits = (refl, refl) }
 pub rule_added : (row : RuleRow) → IsAdded add_rule_text 2 (rule_cells row)
 rule_added row old new =
     let this = d.rule_table in
-    inserted_adds this.name 2 this.columns this.key this.primary this.uniques this.orders 2 refl add_rule_text (rule_cells row) (terms_of None 0 5) 6 add_rule_reads refl
-    (source_of None (rule_cells row) ∷ []) (rule_cells row ∷ []) refl refl tt ((λ stored. rw (cast_null, cast_int (pos row.revision)) refl), tt) (λ id. refl, tt)
-    (λ trees small. (record { number = tt; right = λ id. record { typed = refl; present = refl; light = (int_light id, all_light (rule_cells row) small.0); some = omega arith; few = omega arith } }, tt)) old new
+    inserted_adds this.name 2 this.columns this.key this.primary this.uniques this.orders 2 refl
+    add_rule_text (rule_cells row) (terms_of None 0 5) 6 add_rule_reads refl
+    (source_of None (rule_cells row) ∷ []) (rule_cells row ∷ []) refl refl tt
+    ((λ stored. rw (cast_null, cast_int (pos row.revision)) refl), tt) (λ id. refl, tt)
+    (λ trees small. (
+      record {
+        number = tt;
+        right = λ id. record {
+          typed = refl;
+          present = refl;
+          light = (int_light id, all_light (rule_cells row) small.0);
+          some = omega arith;
+          few = omega arith;
+        };
+      },
+      tt,
+    )) old new
 
 -- ---- document
 
@@ -114,9 +156,27 @@ add_document_reads = record { is = refl; plain = (refl, refl); fits = (refl, ref
 pub document_added : (row : DocumentRow) → IsAdded add_document_text 4 (document_cells row)
 document_added row old new =
     let this = d.document_table in
-    inserted_adds this.name 4 this.columns this.key this.primary this.uniques this.orders 3 refl add_document_text (document_cells row) (terms_of (Some 0) 0 3) 4 add_document_reads refl
-    (source_of (Some 0) (document_cells row) ∷ []) (document_cells row ∷ []) refl refl (refl, λ r. refl) ((λ stored. rw (cast_null, cast_int (pos row.number)) refl), tt) (λ id. refl, tt)
-    (λ trees small. (record { number = (row.number, _, refl, small.0.0); right = λ id. record { typed = refl; present = refl; light = ((all_light (document_cells row) small.0).0, (null_light, (all_light (document_cells row) small.0).1)); some = omega arith; few = omega arith } }, tt)) old new
+    inserted_adds this.name 4 this.columns this.key this.primary this.uniques this.orders 3 refl
+    add_document_text (document_cells row) (terms_of (Some 0) 0 3) 4 add_document_reads refl
+    (source_of (Some 0) (document_cells row) ∷ []) (document_cells row ∷ []) refl refl
+    (refl, λ r. refl) ((λ stored. rw (cast_null, cast_int (pos row.number)) refl), tt)
+    (λ id. refl, tt)
+    (λ trees small. (
+      record {
+        number = (row.number, _, refl, small.0.0);
+        right = λ id. record {
+          typed = refl;
+          present = refl;
+          light = (
+            (all_light (document_cells row) small.0).0,
+            (null_light, (all_light (document_cells row) small.0).1),
+          );
+          some = omega arith;
+          few = omega arith;
+        };
+      },
+      tt,
+    )) old new
 
 -- ---- reading
 
@@ -130,9 +190,35 @@ add_reading_reads = record { is = refl; plain = (refl, refl); fits = (refl, refl
 pub reading_added : (row : DocumentRow) → IsAdded add_reading_text 27 (reading_cells row)
 reading_added row old new =
     let this = d.reading_table in
-    inserted_adds this.name 27 this.columns this.key this.primary this.uniques this.orders 14 refl add_reading_text (reading_cells row) (terms_of (Some 0) 0 2) 3 add_reading_reads refl
-    (source_of (Some 0) (reading_cells row) ∷ []) (reading_cells row ∷ []) refl refl (refl, λ r. refl) ((λ stored. rw (cast_null, cast_int (pos row.number), cast_int (pos (profile_number row.profile))) refl), tt) (λ id. refl, tt)
-    (λ trees small. (record { number = (row.number, _, refl, small.0.0); right = λ id. record { typed = refl; present = refl; light = ((all_light (reading_cells row) small.0).0, (null_light, (all_light (reading_cells row) small.0).1)); some = omega arith; few = omega arith } }, tt)) old new
+    inserted_adds this.name 27 this.columns this.key this.primary this.uniques this.orders 14 refl
+    add_reading_text (reading_cells row) (terms_of (Some 0) 0 2) 3 add_reading_reads refl
+    (source_of (Some 0) (reading_cells row) ∷ []) (reading_cells row ∷ []) refl refl (
+      refl,
+      λ r. refl,
+    ) (
+      (λ stored. rw (
+        cast_null,
+        cast_int (pos row.number),
+        cast_int (pos (profile_number row.profile)),
+      ) refl),
+      tt,
+    ) (λ id. refl, tt)
+    (λ trees small. (
+      record {
+        number = (row.number, _, refl, small.0.0);
+        right = λ id. record {
+          typed = refl;
+          present = refl;
+          light = (
+            (all_light (reading_cells row) small.0).0,
+            (null_light, (all_light (reading_cells row) small.0).1),
+          );
+          some = omega arith;
+          few = omega arith;
+        };
+      },
+      tt,
+    )) old new
 
 -- ---- package
 
@@ -143,7 +229,10 @@ add_package_reads : Reads add_package_text 7 (Insert 4 (Values (terms_of None 0 
 unfolding understood everything
 add_package_reads = record { is = refl; plain = (refl, refl); fits = (refl, refl) }
 
-add_package_accepts : (row : PackageRow) (a b c : Option (List ℕ)) → accepts_terms (terms_of None 0 7) (number row.document ∷ Text row.id ∷ Text row.name ∷ text_or_null a ∷ text_or_null b ∷ text_or_null c ∷ number (if row.shipped then 1 else 0) ∷ []) ≡ true
+add_package_accepts : (row : PackageRow) (a b c : Option (List ℕ))
+    → accepts_terms (terms_of None 0 7)
+    (number row.document ∷ Text row.id ∷ Text row.name ∷ text_or_null a ∷ text_or_null b
+    ∷ text_or_null c ∷ number (if row.shipped then 1 else 0) ∷ []) ≡ true
 add_package_accepts row None None None = refl
 add_package_accepts row None None (Some u) = refl
 add_package_accepts row None (Some t) None = refl
@@ -153,7 +242,13 @@ add_package_accepts row (Some s) None (Some u) = refl
 add_package_accepts row (Some s) (Some t) None = refl
 add_package_accepts row (Some s) (Some t) (Some u) = refl
 
-add_package_typed : (trees : Trees) (id : ℤ) (row : PackageRow) (a b c : Option (List ℕ)) → (passes Datatype d.desk_schema trees d.package_table (Int id ∷ number row.document ∷ Text row.id ∷ Text row.name ∷ text_or_null a ∷ text_or_null b ∷ text_or_null c ∷ number (if row.shipped then 1 else 0) ∷ []) ≡ true) × (passes NotNull d.desk_schema trees d.package_table (Int id ∷ number row.document ∷ Text row.id ∷ Text row.name ∷ text_or_null a ∷ text_or_null b ∷ text_or_null c ∷ number (if row.shipped then 1 else 0) ∷ []) ≡ true)
+add_package_typed : (trees : Trees) (id : ℤ) (row : PackageRow) (a b c : Option (List ℕ))
+    → (passes Datatype d.desk_schema trees d.package_table
+    (Int id ∷ number row.document ∷ Text row.id ∷ Text row.name ∷ text_or_null a ∷ text_or_null b
+    ∷ text_or_null c ∷ number (if row.shipped then 1 else 0) ∷ []) ≡ true)
+    × (passes NotNull d.desk_schema trees d.package_table
+    (Int id ∷ number row.document ∷ Text row.id ∷ Text row.name ∷ text_or_null a ∷ text_or_null b
+    ∷ text_or_null c ∷ number (if row.shipped then 1 else 0) ∷ []) ≡ true)
 add_package_typed trees id row None None None = (refl, refl)
 add_package_typed trees id row None None (Some u) = (refl, refl)
 add_package_typed trees id row None (Some t) None = (refl, refl)
@@ -166,9 +261,33 @@ add_package_typed trees id row (Some s) (Some t) (Some u) = (refl, refl)
 pub package_added : (row : PackageRow) → IsAdded add_package_text 6 (package_cells row)
 package_added row old new =
     let this = d.package_table in
-    inserted_adds this.name 6 this.columns this.key this.primary this.uniques this.orders 4 refl add_package_text (package_cells row) (terms_of None 0 7) 8 add_package_reads (add_package_accepts row row.version row.concluded row.copyright)
-    (source_of None (package_cells row) ∷ []) (package_cells row ∷ []) refl refl tt ((λ stored. rw (cast_null, cast_int (pos row.document), cast_int (pos (if row.shipped then 1 else 0)), cast_text row.version, cast_text row.concluded, cast_text row.copyright) refl), tt) (λ id. refl, tt)
-    (λ trees small. (record { number = tt; right = λ id. record { typed = (add_package_typed trees id row row.version row.concluded row.copyright).0; present = (add_package_typed trees id row row.version row.concluded row.copyright).1; light = (int_light id, all_light (package_cells row) small.0); some = omega arith; few = omega arith } }, tt)) old new
+    inserted_adds this.name 6 this.columns this.key this.primary this.uniques this.orders 4 refl
+    add_package_text (package_cells row) (terms_of None 0 7) 8 add_package_reads
+    (add_package_accepts row row.version row.concluded row.copyright)
+    (source_of None (package_cells row) ∷ []) (package_cells row ∷ []) refl refl tt (
+      (λ stored. rw (
+        cast_null,
+        cast_int (pos row.document),
+        cast_int (pos (if row.shipped then 1 else 0)),
+        cast_text row.version,
+        cast_text row.concluded,
+        cast_text row.copyright,
+      ) refl),
+      tt,
+    ) (λ id. refl, tt)
+    (λ trees small. (
+      record {
+        number = tt;
+        right = λ id. record {
+          typed = (add_package_typed trees id row row.version row.concluded row.copyright).0;
+          present = (add_package_typed trees id row row.version row.concluded row.copyright).1;
+          light = (int_light id, all_light (package_cells row) small.0);
+          some = omega arith;
+          few = omega arith;
+        };
+      },
+      tt,
+    )) old new
 
 -- ---- extracted
 
@@ -179,20 +298,42 @@ add_reference_reads : Reads add_reference_text 3 (Insert 5 (Values (terms_of Non
 unfolding understood everything
 add_reference_reads = record { is = refl; plain = (refl, refl); fits = (refl, refl) }
 
-add_reference_accepts : (row : ExtractedRow) (a : Option (List ℕ)) → accepts_terms (terms_of None 0 3) (number row.document ∷ Text row.reference ∷ text_or_null a ∷ []) ≡ true
+add_reference_accepts : (row : ExtractedRow) (a : Option (List ℕ))
+    → accepts_terms (terms_of None 0 3)
+    (number row.document ∷ Text row.reference ∷ text_or_null a ∷ []) ≡ true
 add_reference_accepts row None = refl
 add_reference_accepts row (Some s) = refl
 
-add_reference_typed : (trees : Trees) (id : ℤ) (row : ExtractedRow) (a : Option (List ℕ)) → (passes Datatype d.desk_schema trees d.extracted_table (Int id ∷ number row.document ∷ Text row.reference ∷ text_or_null a ∷ []) ≡ true) × (passes NotNull d.desk_schema trees d.extracted_table (Int id ∷ number row.document ∷ Text row.reference ∷ text_or_null a ∷ []) ≡ true)
+add_reference_typed : (trees : Trees) (id : ℤ) (row : ExtractedRow) (a : Option (List ℕ))
+    → (passes Datatype d.desk_schema trees d.extracted_table
+    (Int id ∷ number row.document ∷ Text row.reference ∷ text_or_null a ∷ []) ≡ true)
+    × (passes NotNull d.desk_schema trees d.extracted_table
+    (Int id ∷ number row.document ∷ Text row.reference ∷ text_or_null a ∷ []) ≡ true)
 add_reference_typed trees id row None = (refl, refl)
 add_reference_typed trees id row (Some s) = (refl, refl)
 
 pub reference_added : (row : ExtractedRow) → IsAdded add_reference_text 8 (extracted_cells row)
 reference_added row old new =
     let this = d.extracted_table in
-    inserted_adds this.name 8 this.columns this.key this.primary this.uniques this.orders 5 refl add_reference_text (extracted_cells row) (terms_of None 0 3) 4 add_reference_reads (add_reference_accepts row row.body)
-    (source_of None (extracted_cells row) ∷ []) (extracted_cells row ∷ []) refl refl tt ((λ stored. rw (cast_null, cast_int (pos row.document), cast_text row.body) refl), tt) (λ id. refl, tt)
-    (λ trees small. (record { number = tt; right = λ id. record { typed = (add_reference_typed trees id row row.body).0; present = (add_reference_typed trees id row row.body).1; light = (int_light id, all_light (extracted_cells row) small.0); some = omega arith; few = omega arith } }, tt)) old new
+    inserted_adds this.name 8 this.columns this.key this.primary this.uniques this.orders 5 refl
+    add_reference_text (extracted_cells row) (terms_of None 0 3) 4 add_reference_reads
+    (add_reference_accepts row row.body)
+    (source_of None (extracted_cells row) ∷ []) (extracted_cells row ∷ []) refl refl tt
+    ((λ stored. rw (cast_null, cast_int (pos row.document), cast_text row.body) refl), tt)
+    (λ id. refl, tt)
+    (λ trees small. (
+      record {
+        number = tt;
+        right = λ id. record {
+          typed = (add_reference_typed trees id row row.body).0;
+          present = (add_reference_typed trees id row row.body).1;
+          light = (int_light id, all_light (extracted_cells row) small.0);
+          some = omega arith;
+          few = omega arith;
+        };
+      },
+      tt,
+    )) old new
 
 -- ---- conclusion
 
@@ -206,9 +347,23 @@ add_conclusion_reads = record { is = refl; plain = (refl, refl); fits = (refl, r
 pub conclusion_added : (row : ConclusionRow) → IsAdded add_conclusion_text 10 (conclusion_cells row)
 conclusion_added row old new =
     let this = d.conclusion_table in
-    inserted_adds this.name 10 this.columns this.key this.primary this.uniques this.orders 6 refl add_conclusion_text (conclusion_cells row) (terms_of None 0 3) 4 add_conclusion_reads refl
-    (source_of None (conclusion_cells row) ∷ []) (conclusion_cells row ∷ []) refl refl tt ((λ stored. rw (cast_null, cast_int (pos row.document)) refl), tt) (λ id. refl, tt)
-    (λ trees small. (record { number = tt; right = λ id. record { typed = refl; present = refl; light = (int_light id, all_light (conclusion_cells row) small.0); some = omega arith; few = omega arith } }, tt)) old new
+    inserted_adds this.name 10 this.columns this.key this.primary this.uniques this.orders 6 refl
+    add_conclusion_text (conclusion_cells row) (terms_of None 0 3) 4 add_conclusion_reads refl
+    (source_of None (conclusion_cells row) ∷ []) (conclusion_cells row ∷ []) refl refl tt
+    ((λ stored. rw (cast_null, cast_int (pos row.document)) refl), tt) (λ id. refl, tt)
+    (λ trees small. (
+      record {
+        number = tt;
+        right = λ id. record {
+          typed = refl;
+          present = refl;
+          light = (int_light id, all_light (conclusion_cells row) small.0);
+          some = omega arith;
+          few = omega arith;
+        };
+      },
+      tt,
+    )) old new
 
 -- ---- adoption
 
@@ -222,9 +377,23 @@ add_adoption_reads = record { is = refl; plain = (refl, refl); fits = (refl, ref
 pub adoption_added : (row : AdoptionRow) → IsAdded add_adoption_text 12 (adoption_cells row)
 adoption_added row old new =
     let this = d.adoption_table in
-    inserted_adds this.name 12 this.columns this.key this.primary this.uniques this.orders 7 refl add_adoption_text (adoption_cells row) (terms_of None 0 3) 4 add_adoption_reads refl
-    (source_of None (adoption_cells row) ∷ []) (adoption_cells row ∷ []) refl refl tt ((λ stored. rw (cast_null, cast_int (pos row.document)) refl), tt) (λ id. refl, tt)
-    (λ trees small. (record { number = tt; right = λ id. record { typed = refl; present = refl; light = (int_light id, all_light (adoption_cells row) small.0); some = omega arith; few = omega arith } }, tt)) old new
+    inserted_adds this.name 12 this.columns this.key this.primary this.uniques this.orders 7 refl
+    add_adoption_text (adoption_cells row) (terms_of None 0 3) 4 add_adoption_reads refl
+    (source_of None (adoption_cells row) ∷ []) (adoption_cells row ∷ []) refl refl tt
+    ((λ stored. rw (cast_null, cast_int (pos row.document)) refl), tt) (λ id. refl, tt)
+    (λ trees small. (
+      record {
+        number = tt;
+        right = λ id. record {
+          typed = refl;
+          present = refl;
+          light = (int_light id, all_light (adoption_cells row) small.0);
+          some = omega arith;
+          few = omega arith;
+        };
+      },
+      tt,
+    )) old new
 
 -- ---- releases
 
@@ -238,9 +407,24 @@ add_release_reads = record { is = refl; plain = (refl, refl); fits = (refl, refl
 pub release_added : (row : ReleaseRow) → IsAdded add_release_text 14 (release_cells row)
 release_added row old new =
     let this = d.releases_table in
-    inserted_adds this.name 14 this.columns this.key this.primary this.uniques this.orders 8 refl add_release_text (release_cells row) (terms_of None 0 5) 6 add_release_reads refl
-    (source_of None (release_cells row) ∷ []) (release_cells row ∷ []) refl refl tt ((λ stored. rw (cast_null, cast_int (pos row.place), cast_int (pos row.revision)) refl), tt) (λ id. refl, tt)
-    (λ trees small. (record { number = tt; right = λ id. record { typed = refl; present = refl; light = (int_light id, all_light (release_cells row) small.0); some = omega arith; few = omega arith } }, tt)) old new
+    inserted_adds this.name 14 this.columns this.key this.primary this.uniques this.orders 8 refl
+    add_release_text (release_cells row) (terms_of None 0 5) 6 add_release_reads refl
+    (source_of None (release_cells row) ∷ []) (release_cells row ∷ []) refl refl tt
+    ((λ stored. rw (cast_null, cast_int (pos row.place), cast_int (pos row.revision)) refl), tt)
+    (λ id. refl, tt)
+    (λ trees small. (
+      record {
+        number = tt;
+        right = λ id. record {
+          typed = refl;
+          present = refl;
+          light = (int_light id, all_light (release_cells row) small.0);
+          some = omega arith;
+          few = omega arith;
+        };
+      },
+      tt,
+    )) old new
 
 -- ---- attached
 
@@ -254,9 +438,23 @@ add_attached_reads = record { is = refl; plain = (refl, refl); fits = (refl, ref
 pub attached_added : (row : AttachedRow) → IsAdded add_attached_text 17 (attached_cells row)
 attached_added row old new =
     let this = d.attached_table in
-    inserted_adds this.name 17 this.columns this.key this.primary this.uniques this.orders 9 refl add_attached_text (attached_cells row) (terms_of None 0 2) 3 add_attached_reads refl
-    (source_of None (attached_cells row) ∷ []) (attached_cells row ∷ []) refl refl tt ((λ stored. rw (cast_null, cast_int (pos row.document)) refl), tt) (λ id. refl, tt)
-    (λ trees small. (record { number = tt; right = λ id. record { typed = refl; present = refl; light = (int_light id, all_light (attached_cells row) small.0); some = omega arith; few = omega arith } }, tt)) old new
+    inserted_adds this.name 17 this.columns this.key this.primary this.uniques this.orders 9 refl
+    add_attached_text (attached_cells row) (terms_of None 0 2) 3 add_attached_reads refl
+    (source_of None (attached_cells row) ∷ []) (attached_cells row ∷ []) refl refl tt
+    ((λ stored. rw (cast_null, cast_int (pos row.document)) refl), tt) (λ id. refl, tt)
+    (λ trees small. (
+      record {
+        number = tt;
+        right = λ id. record {
+          typed = refl;
+          present = refl;
+          light = (int_light id, all_light (attached_cells row) small.0);
+          some = omega arith;
+          few = omega arith;
+        };
+      },
+      tt,
+    )) old new
 
 -- ---- choice
 
@@ -270,9 +468,23 @@ add_choice_reads = record { is = refl; plain = (refl, refl); fits = (refl, refl)
 pub choice_added : (row : ChoiceRow) → IsAdded add_choice_text 19 (choice_cells row)
 choice_added row old new =
     let this = d.choice_table in
-    inserted_adds this.name 19 this.columns this.key this.primary this.uniques this.orders 10 refl add_choice_text (choice_cells row) (terms_of None 0 4) 5 add_choice_reads refl
-    (source_of None (choice_cells row) ∷ []) (choice_cells row ∷ []) refl refl tt ((λ stored. rw (cast_null, cast_int (pos row.document)) refl), tt) (λ id. refl, tt)
-    (λ trees small. (record { number = tt; right = λ id. record { typed = refl; present = refl; light = (int_light id, all_light (choice_cells row) small.0); some = omega arith; few = omega arith } }, tt)) old new
+    inserted_adds this.name 19 this.columns this.key this.primary this.uniques this.orders 10 refl
+    add_choice_text (choice_cells row) (terms_of None 0 4) 5 add_choice_reads refl
+    (source_of None (choice_cells row) ∷ []) (choice_cells row ∷ []) refl refl tt
+    ((λ stored. rw (cast_null, cast_int (pos row.document)) refl), tt) (λ id. refl, tt)
+    (λ trees small. (
+      record {
+        number = tt;
+        right = λ id. record {
+          typed = refl;
+          present = refl;
+          light = (int_light id, all_light (choice_cells row) small.0);
+          some = omega arith;
+          few = omega arith;
+        };
+      },
+      tt,
+    )) old new
 
 -- ---- frozen
 
@@ -286,14 +498,29 @@ add_frozen_reads = record { is = refl; plain = (refl, refl); fits = (refl, refl)
 pub frozen_added : (row : FrozenRow) → IsAdded add_frozen_text 21 (frozen_cells row)
 frozen_added row old new =
     let this = d.frozen_table in
-    inserted_adds this.name 21 this.columns this.key this.primary this.uniques this.orders 11 refl add_frozen_text (frozen_cells row) (terms_of None 0 5) 6 add_frozen_reads refl
-    (source_of None (frozen_cells row) ∷ []) (frozen_cells row ∷ []) refl refl tt ((λ stored. rw (cast_null, cast_int (pos row.document)) refl), tt) (λ id. refl, tt)
-    (λ trees small. (record { number = tt; right = λ id. record { typed = refl; present = refl; light = (int_light id, all_light (frozen_cells row) small.0); some = omega arith; few = omega arith } }, tt)) old new
+    inserted_adds this.name 21 this.columns this.key this.primary this.uniques this.orders 11 refl
+    add_frozen_text (frozen_cells row) (terms_of None 0 5) 6 add_frozen_reads refl
+    (source_of None (frozen_cells row) ∷ []) (frozen_cells row ∷ []) refl refl tt
+    ((λ stored. rw (cast_null, cast_int (pos row.document)) refl), tt) (λ id. refl, tt)
+    (λ trees small. (
+      record {
+        number = tt;
+        right = λ id. record {
+          typed = refl;
+          present = refl;
+          light = (int_light id, all_light (frozen_cells row) small.0);
+          some = omega arith;
+          few = omega arith;
+        };
+      },
+      tt,
+    )) old new
 
 -- ---- eight frozen terms
 
 abbrev pub add_eight_frozen_text : List ℕ
-add_eight_frozen_text = codes "INSERT INTO frozen VALUES (?, ?, ?, ?, ?), (?, ?, ?, ?, ?), (?, ?, ?, ?, ?), (?, ?, ?, ?, ?), (?, ?, ?, ?, ?), (?, ?, ?, ?, ?), (?, ?, ?, ?, ?), (?, ?, ?, ?, ?)"
+add_eight_frozen_text = codes
+    "INSERT INTO frozen VALUES (?, ?, ?, ?, ?), (?, ?, ?, ?, ?), (?, ?, ?, ?, ?), (?, ?, ?, ?, ?), (?, ?, ?, ?, ?), (?, ?, ?, ?, ?), (?, ?, ?, ?, ?), (?, ?, ?, ?, ?)"
 
 add_eight_frozen_reads : Reads add_eight_frozen_text 40 (Insert 11 (Values (eight_terms None 5) 6))
 unfolding understood everything
@@ -302,34 +529,74 @@ add_eight_frozen_reads = record { is = refl; plain = (refl, refl); fits = (refl,
 abbrev frozen_terms_sources : List FrozenRow → List Row
 frozen_terms_sources = map (λ row. source_of None (frozen_cells row))
 
-frozen_terms_given : (rows : List FrozenRow) → length rows ≡ 8 → value_rows (flat_map frozen_cells rows) 6 (length (eight_terms None 5) / 6) (eight_terms None 5) ≡ frozen_terms_sources rows
-frozen_terms_given = eight (λ rows. value_rows (flat_map frozen_cells rows) 6 (length (eight_terms None 5) / 6) (eight_terms None 5) ≡ frozen_terms_sources rows) (λ a b c d e f g h. refl)
+frozen_terms_given : (rows : List FrozenRow) → length rows ≡ 8
+    → value_rows (flat_map frozen_cells rows) 6 (length (eight_terms None 5) / 6)
+    (eight_terms None 5) ≡ frozen_terms_sources rows
+frozen_terms_given = eight (λ rows. value_rows (flat_map frozen_cells rows) 6
+    (length (eight_terms None 5) / 6) (eight_terms None 5) ≡ frozen_terms_sources rows)
+    (λ a b c d e f g h. refl)
 
-frozen_terms_make : (rows : List FrozenRow) → let this = d.frozen_table in Make this.name 21 this.columns this.key this.primary this.uniques this.orders (frozen_terms_sources rows) (map frozen_cells rows)
+frozen_terms_make : (rows : List FrozenRow) → let this = d.frozen_table in
+    Make this.name 21 this.columns this.key this.primary this.uniques this.orders
+    (frozen_terms_sources rows) (map frozen_cells rows)
 frozen_terms_make [] = tt
-frozen_terms_make (row ∷ rows) = ((λ stored. rw (cast_null, cast_int (pos row.document)) refl), frozen_terms_make rows)
+frozen_terms_make (row ∷ rows) = (
+  (λ stored. rw (cast_null, cast_int (pos row.document)) refl),
+  frozen_terms_make rows,
+)
 
-frozen_terms_shown : (rows : List FrozenRow) → let this = d.frozen_table in AreShown this.name 21 this.columns this.key this.primary this.uniques this.orders (map frozen_cells rows)
+frozen_terms_shown : (rows : List FrozenRow) → let this = d.frozen_table in
+    AreShown this.name 21 this.columns this.key this.primary this.uniques this.orders
+    (map frozen_cells rows)
 frozen_terms_shown [] = tt
 frozen_terms_shown (row ∷ rows) = ((λ id. refl), frozen_terms_shown rows)
 
-frozen_terms_suit : (trees : Trees) (rows : List FrozenRow) → AllByRecursion (AllByRecursion IsSmall) (map frozen_cells rows) → let this = d.frozen_table in AllByRecursion (Suits this.name 21 this.columns this.key this.primary this.uniques this.orders trees) (map frozen_cells rows)
+frozen_terms_suit : (trees : Trees) (rows : List FrozenRow)
+    → AllByRecursion (AllByRecursion IsSmall) (map frozen_cells rows) → let this = d.frozen_table in
+    AllByRecursion (Suits this.name 21 this.columns this.key this.primary this.uniques this.orders
+    trees) (map frozen_cells rows)
 frozen_terms_suit trees [] small = tt
-frozen_terms_suit trees (row ∷ rows) small = (record { number = tt; right = λ id. record { typed = refl; present = refl; light = (int_light id, all_light (frozen_cells row) small.0); some = omega arith; few = omega arith } }, frozen_terms_suit trees rows small.1)
+frozen_terms_suit trees (row ∷ rows) small = (
+  record {
+    number = tt;
+    right = λ id. record {
+      typed = refl;
+      present = refl;
+      light = (int_light id, all_light (frozen_cells row) small.0);
+      some = omega arith;
+      few = omega arith;
+    };
+  },
+  frozen_terms_suit trees rows small.1,
+)
 
-frozen_terms_accepted : (rows : List FrozenRow) → length rows ≡ 8 → accepts_terms (eight_terms None 5) (flat_map frozen_cells rows) ≡ true
-frozen_terms_accepted = eight (λ rows. accepts_terms (eight_terms None 5) (flat_map frozen_cells rows) ≡ true) (λ a b c d e f g h. refl)
+frozen_terms_accepted : (rows : List FrozenRow) → length rows ≡ 8
+    → accepts_terms (eight_terms None 5) (flat_map frozen_cells rows) ≡ true
+frozen_terms_accepted = eight
+    (λ rows. accepts_terms (eight_terms None 5) (flat_map frozen_cells rows) ≡ true)
+    (λ a b c d e f g h. refl)
 
-frozen_terms_count : (rows : List FrozenRow) → length rows ≡ 8 → length (flat_map frozen_cells rows) ≡ 40
-frozen_terms_count = eight (λ rows. length (flat_map frozen_cells rows) ≡ 40) (λ a b c d e f g h. refl)
+frozen_terms_count : (rows : List FrozenRow) → length rows ≡ 8
+    → length (flat_map frozen_cells rows) ≡ 40
+frozen_terms_count = eight (λ rows. length (flat_map frozen_cells rows) ≡ 40)
+    (λ a b c d e f g h. refl)
 
-pub frozen_terms_added : (rows : List FrozenRow) → length rows ≡ 8 → AreAdded add_eight_frozen_text (flat_map frozen_cells rows) 21 (map frozen_cells rows) (length rows)
+pub frozen_terms_added : (rows : List FrozenRow) → length rows ≡ 8
+    → AreAdded add_eight_frozen_text (flat_map frozen_cells rows) 21 (map frozen_cells rows)
+    (length rows)
 frozen_terms_added rows is old new r ran into survives =
     let this = d.frozen_table in
-    let reads = subst (λ n. Reads add_eight_frozen_text n (Insert 11 (Values (eight_terms None 5) 6))) (sym (frozen_terms_count rows is)) add_eight_frozen_reads in
-    let it = inserted_adds this.name 21 this.columns this.key this.primary this.uniques this.orders 11 refl add_eight_frozen_text (flat_map frozen_cells rows) (eight_terms None 5) 6 reads (frozen_terms_accepted rows is)
-    (frozen_terms_sources rows) (map frozen_cells rows) (frozen_terms_given rows is) refl tt (frozen_terms_make rows) (frozen_terms_shown rows) (λ trees small. frozen_terms_suit trees rows small) old new r ran into survives in
-    subst (λ n. Adds (with_rows 21 (map frozen_cells rows)) n old new r) (length-map rows frozen_cells) it
+    let reads = subst (λ n. Reads add_eight_frozen_text n
+    (Insert 11 (Values (eight_terms None 5) 6))) (sym (frozen_terms_count rows is))
+    add_eight_frozen_reads in
+    let it = inserted_adds this.name 21 this.columns this.key this.primary this.uniques this.orders
+    11 refl add_eight_frozen_text (flat_map frozen_cells rows) (eight_terms None 5) 6 reads
+    (frozen_terms_accepted rows is)
+    (frozen_terms_sources rows) (map frozen_cells rows) (frozen_terms_given rows is) refl tt
+    (frozen_terms_make rows) (frozen_terms_shown rows)
+    (λ trees small. frozen_terms_suit trees rows small) old new r ran into survives in
+    subst (λ n. Adds (with_rows 21 (map frozen_cells rows)) n old new r)
+    (length-map rows frozen_cells) it
 
 -- ---- duty
 
@@ -343,50 +610,110 @@ add_duty_reads = record { is = refl; plain = (refl, refl); fits = (refl, refl) }
 pub duty_added : (row : DutyRow) → IsAdded add_duty_text 23 (duty_cells row)
 duty_added row old new =
     let this = d.duty_table in
-    inserted_adds this.name 23 this.columns this.key this.primary this.uniques this.orders 12 refl add_duty_text (duty_cells row) (terms_of (Some 0) 0 8) 9 add_duty_reads refl
-    (source_of (Some 0) (duty_cells row) ∷ []) (duty_cells row ∷ []) refl refl (refl, λ r. refl) ((λ stored. rw (cast_null, cast_int (pos row.number), cast_int (pos row.document)) refl), tt) (λ id. refl, tt)
-    (λ trees small. (record { number = (row.number, _, refl, small.0.0); right = λ id. record { typed = refl; present = refl; light = ((all_light (duty_cells row) small.0).0, (null_light, (all_light (duty_cells row) small.0).1)); some = omega arith; few = omega arith } }, tt)) old new
+    inserted_adds this.name 23 this.columns this.key this.primary this.uniques this.orders 12 refl
+    add_duty_text (duty_cells row) (terms_of (Some 0) 0 8) 9 add_duty_reads refl
+    (source_of (Some 0) (duty_cells row) ∷ []) (duty_cells row ∷ []) refl refl (refl, λ r. refl)
+    ((λ stored. rw (cast_null, cast_int (pos row.number), cast_int (pos row.document)) refl), tt)
+    (λ id. refl, tt)
+    (λ trees small. (
+      record {
+        number = (row.number, _, refl, small.0.0);
+        right = λ id. record {
+          typed = refl;
+          present = refl;
+          light = (
+            (all_light (duty_cells row) small.0).0,
+            (null_light, (all_light (duty_cells row) small.0).1),
+          );
+          some = omega arith;
+          few = omega arith;
+        };
+      },
+      tt,
+    )) old new
 
 -- ---- eight duties
 
 abbrev pub add_eight_duties_text : List ℕ
-add_eight_duties_text = codes "INSERT INTO duty VALUES (?, ?, ?, ?, ?, ?, ?, ?), (?, ?, ?, ?, ?, ?, ?, ?), (?, ?, ?, ?, ?, ?, ?, ?), (?, ?, ?, ?, ?, ?, ?, ?), (?, ?, ?, ?, ?, ?, ?, ?), (?, ?, ?, ?, ?, ?, ?, ?), (?, ?, ?, ?, ?, ?, ?, ?), (?, ?, ?, ?, ?, ?, ?, ?)"
+add_eight_duties_text = codes
+    "INSERT INTO duty VALUES (?, ?, ?, ?, ?, ?, ?, ?), (?, ?, ?, ?, ?, ?, ?, ?), (?, ?, ?, ?, ?, ?, ?, ?), (?, ?, ?, ?, ?, ?, ?, ?), (?, ?, ?, ?, ?, ?, ?, ?), (?, ?, ?, ?, ?, ?, ?, ?), (?, ?, ?, ?, ?, ?, ?, ?), (?, ?, ?, ?, ?, ?, ?, ?)"
 
-add_eight_duties_reads : Reads add_eight_duties_text 64 (Insert 12 (Values (eight_terms (Some 0) 8) 9))
+add_eight_duties_reads : Reads add_eight_duties_text 64
+    (Insert 12 (Values (eight_terms (Some 0) 8) 9))
 unfolding understood everything
 add_eight_duties_reads = record { is = refl; plain = (refl, refl); fits = (refl, refl) }
 
 abbrev duties_sources : List DutyRow → List Row
 duties_sources = map (λ row. source_of (Some 0) (duty_cells row))
 
-duties_given : (rows : List DutyRow) → length rows ≡ 8 → value_rows (flat_map duty_cells rows) 9 (length (eight_terms (Some 0) 8) / 9) (eight_terms (Some 0) 8) ≡ duties_sources rows
-duties_given = eight (λ rows. value_rows (flat_map duty_cells rows) 9 (length (eight_terms (Some 0) 8) / 9) (eight_terms (Some 0) 8) ≡ duties_sources rows) (λ a b c d e f g h. refl)
+duties_given : (rows : List DutyRow) → length rows ≡ 8
+    → value_rows (flat_map duty_cells rows) 9 (length (eight_terms (Some 0) 8) / 9)
+    (eight_terms (Some 0) 8) ≡ duties_sources rows
+duties_given = eight (λ rows. value_rows (flat_map duty_cells rows) 9
+    (length (eight_terms (Some 0) 8) / 9) (eight_terms (Some 0) 8) ≡ duties_sources rows)
+    (λ a b c d e f g h. refl)
 
-duties_make : (rows : List DutyRow) → let this = d.duty_table in Make this.name 23 this.columns this.key this.primary this.uniques this.orders (duties_sources rows) (map duty_cells rows)
+duties_make : (rows : List DutyRow) → let this = d.duty_table in
+    Make this.name 23 this.columns this.key this.primary this.uniques this.orders
+    (duties_sources rows) (map duty_cells rows)
 duties_make [] = tt
-duties_make (row ∷ rows) = ((λ stored. rw (cast_null, cast_int (pos row.number), cast_int (pos row.document)) refl), duties_make rows)
+duties_make (row ∷ rows) = (
+  (λ stored. rw (cast_null, cast_int (pos row.number), cast_int (pos row.document)) refl),
+  duties_make rows,
+)
 
-duties_shown : (rows : List DutyRow) → let this = d.duty_table in AreShown this.name 23 this.columns this.key this.primary this.uniques this.orders (map duty_cells rows)
+duties_shown : (rows : List DutyRow) → let this = d.duty_table in
+    AreShown this.name 23 this.columns this.key this.primary this.uniques this.orders
+    (map duty_cells rows)
 duties_shown [] = tt
 duties_shown (row ∷ rows) = ((λ id. refl), duties_shown rows)
 
-pub duties_suit : (trees : Trees) (rows : List DutyRow) → AllByRecursion (AllByRecursion IsSmall) (map duty_cells rows) → let this = d.duty_table in AllByRecursion (Suits this.name 23 this.columns this.key this.primary this.uniques this.orders trees) (map duty_cells rows)
+pub duties_suit : (trees : Trees) (rows : List DutyRow)
+    → AllByRecursion (AllByRecursion IsSmall) (map duty_cells rows) → let this = d.duty_table in
+    AllByRecursion (Suits this.name 23 this.columns this.key this.primary this.uniques this.orders
+    trees) (map duty_cells rows)
 duties_suit trees [] small = tt
-duties_suit trees (row ∷ rows) small = (record { number = (row.number, _, refl, small.0.0); right = λ id. record { typed = refl; present = refl; light = ((all_light (duty_cells row) small.0).0, (null_light, (all_light (duty_cells row) small.0).1)); some = omega arith; few = omega arith } }, duties_suit trees rows small.1)
+duties_suit trees (row ∷ rows) small = (
+  record {
+    number = (row.number, _, refl, small.0.0);
+    right = λ id. record {
+      typed = refl;
+      present = refl;
+      light = (
+        (all_light (duty_cells row) small.0).0,
+        (null_light, (all_light (duty_cells row) small.0).1),
+      );
+      some = omega arith;
+      few = omega arith;
+    };
+  },
+  duties_suit trees rows small.1,
+)
 
-duties_accepted : (rows : List DutyRow) → length rows ≡ 8 → accepts_terms (eight_terms (Some 0) 8) (flat_map duty_cells rows) ≡ true
-duties_accepted = eight (λ rows. accepts_terms (eight_terms (Some 0) 8) (flat_map duty_cells rows) ≡ true) (λ a b c d e f g h. refl)
+duties_accepted : (rows : List DutyRow) → length rows ≡ 8
+    → accepts_terms (eight_terms (Some 0) 8) (flat_map duty_cells rows) ≡ true
+duties_accepted = eight (λ rows. accepts_terms (eight_terms (Some 0) 8) (flat_map duty_cells rows)
+    ≡ true) (λ a b c d e f g h. refl)
 
 duties_count : (rows : List DutyRow) → length rows ≡ 8 → length (flat_map duty_cells rows) ≡ 64
 duties_count = eight (λ rows. length (flat_map duty_cells rows) ≡ 64) (λ a b c d e f g h. refl)
 
-pub duties_added : (rows : List DutyRow) → length rows ≡ 8 → AreAdded add_eight_duties_text (flat_map duty_cells rows) 23 (map duty_cells rows) (length rows)
+pub duties_added : (rows : List DutyRow) → length rows ≡ 8
+    → AreAdded add_eight_duties_text (flat_map duty_cells rows) 23 (map duty_cells rows)
+    (length rows)
 duties_added rows is old new r ran into survives =
     let this = d.duty_table in
-    let reads = subst (λ n. Reads add_eight_duties_text n (Insert 12 (Values (eight_terms (Some 0) 8) 9))) (sym (duties_count rows is)) add_eight_duties_reads in
-    let it = inserted_adds this.name 23 this.columns this.key this.primary this.uniques this.orders 12 refl add_eight_duties_text (flat_map duty_cells rows) (eight_terms (Some 0) 8) 9 reads (duties_accepted rows is)
-    (duties_sources rows) (map duty_cells rows) (duties_given rows is) refl (refl, λ r. refl) (duties_make rows) (duties_shown rows) (λ trees small. duties_suit trees rows small) old new r ran into survives in
-    subst (λ n. Adds (with_rows 23 (map duty_cells rows)) n old new r) (length-map rows duty_cells) it
+    let reads = subst (λ n. Reads add_eight_duties_text n
+    (Insert 12 (Values (eight_terms (Some 0) 8) 9))) (sym (duties_count rows is))
+    add_eight_duties_reads in
+    let it = inserted_adds this.name 23 this.columns this.key this.primary this.uniques this.orders
+    12 refl add_eight_duties_text (flat_map duty_cells rows) (eight_terms (Some 0) 8) 9 reads
+    (duties_accepted rows is)
+    (duties_sources rows) (map duty_cells rows) (duties_given rows is) refl (refl, λ r. refl)
+    (duties_make rows) (duties_shown rows) (λ trees small. duties_suit trees rows small) old new r
+    ran into survives in
+    subst (λ n. Adds (with_rows 23 (map duty_cells rows)) n old new r) (length-map rows duty_cells)
+    it
 
 -- ---- change
 
@@ -400,50 +727,104 @@ add_change_reads = record { is = refl; plain = (refl, refl); fits = (refl, refl)
 pub change_added : (row : ChangeRow) → IsAdded add_change_text 25 (change_cells row)
 change_added row old new =
     let this = d.change_table in
-    inserted_adds this.name 25 this.columns this.key this.primary this.uniques this.orders 13 refl add_change_text (change_cells row) (terms_of None 0 5) 6 add_change_reads refl
-    (source_of None (change_cells row) ∷ []) (change_cells row ∷ []) refl refl tt ((λ stored. rw (cast_null, cast_int (pos row.duty), cast_int (pos row.step)) refl), tt) (λ id. refl, tt)
-    (λ trees small. (record { number = tt; right = λ id. record { typed = refl; present = refl; light = (int_light id, all_light (change_cells row) small.0); some = omega arith; few = omega arith } }, tt)) old new
+    inserted_adds this.name 25 this.columns this.key this.primary this.uniques this.orders 13 refl
+    add_change_text (change_cells row) (terms_of None 0 5) 6 add_change_reads refl
+    (source_of None (change_cells row) ∷ []) (change_cells row ∷ []) refl refl tt
+    ((λ stored. rw (cast_null, cast_int (pos row.duty), cast_int (pos row.step)) refl), tt)
+    (λ id. refl, tt)
+    (λ trees small. (
+      record {
+        number = tt;
+        right = λ id. record {
+          typed = refl;
+          present = refl;
+          light = (int_light id, all_light (change_cells row) small.0);
+          some = omega arith;
+          few = omega arith;
+        };
+      },
+      tt,
+    )) old new
 
 -- ---- eight changes
 
 abbrev pub add_eight_changes_text : List ℕ
-add_eight_changes_text = codes "INSERT INTO change VALUES (?, ?, ?, ?, ?), (?, ?, ?, ?, ?), (?, ?, ?, ?, ?), (?, ?, ?, ?, ?), (?, ?, ?, ?, ?), (?, ?, ?, ?, ?), (?, ?, ?, ?, ?), (?, ?, ?, ?, ?)"
+add_eight_changes_text = codes
+    "INSERT INTO change VALUES (?, ?, ?, ?, ?), (?, ?, ?, ?, ?), (?, ?, ?, ?, ?), (?, ?, ?, ?, ?), (?, ?, ?, ?, ?), (?, ?, ?, ?, ?), (?, ?, ?, ?, ?), (?, ?, ?, ?, ?)"
 
-add_eight_changes_reads : Reads add_eight_changes_text 40 (Insert 13 (Values (eight_terms None 5) 6))
+add_eight_changes_reads : Reads add_eight_changes_text 40
+    (Insert 13 (Values (eight_terms None 5) 6))
 unfolding understood everything
 add_eight_changes_reads = record { is = refl; plain = (refl, refl); fits = (refl, refl) }
 
 abbrev changes_sources : List ChangeRow → List Row
 changes_sources = map (λ row. source_of None (change_cells row))
 
-changes_given : (rows : List ChangeRow) → length rows ≡ 8 → value_rows (flat_map change_cells rows) 6 (length (eight_terms None 5) / 6) (eight_terms None 5) ≡ changes_sources rows
-changes_given = eight (λ rows. value_rows (flat_map change_cells rows) 6 (length (eight_terms None 5) / 6) (eight_terms None 5) ≡ changes_sources rows) (λ a b c d e f g h. refl)
+changes_given : (rows : List ChangeRow) → length rows ≡ 8
+    → value_rows (flat_map change_cells rows) 6 (length (eight_terms None 5) / 6)
+    (eight_terms None 5) ≡ changes_sources rows
+changes_given = eight (λ rows. value_rows (flat_map change_cells rows) 6
+    (length (eight_terms None 5) / 6) (eight_terms None 5) ≡ changes_sources rows)
+    (λ a b c d e f g h. refl)
 
-changes_make : (rows : List ChangeRow) → let this = d.change_table in Make this.name 25 this.columns this.key this.primary this.uniques this.orders (changes_sources rows) (map change_cells rows)
+changes_make : (rows : List ChangeRow) → let this = d.change_table in
+    Make this.name 25 this.columns this.key this.primary this.uniques this.orders
+    (changes_sources rows) (map change_cells rows)
 changes_make [] = tt
-changes_make (row ∷ rows) = ((λ stored. rw (cast_null, cast_int (pos row.duty), cast_int (pos row.step)) refl), changes_make rows)
+changes_make (row ∷ rows) = (
+  (λ stored. rw (cast_null, cast_int (pos row.duty), cast_int (pos row.step)) refl),
+  changes_make rows,
+)
 
-changes_shown : (rows : List ChangeRow) → let this = d.change_table in AreShown this.name 25 this.columns this.key this.primary this.uniques this.orders (map change_cells rows)
+changes_shown : (rows : List ChangeRow) → let this = d.change_table in
+    AreShown this.name 25 this.columns this.key this.primary this.uniques this.orders
+    (map change_cells rows)
 changes_shown [] = tt
 changes_shown (row ∷ rows) = ((λ id. refl), changes_shown rows)
 
-changes_suit : (trees : Trees) (rows : List ChangeRow) → AllByRecursion (AllByRecursion IsSmall) (map change_cells rows) → let this = d.change_table in AllByRecursion (Suits this.name 25 this.columns this.key this.primary this.uniques this.orders trees) (map change_cells rows)
+changes_suit : (trees : Trees) (rows : List ChangeRow)
+    → AllByRecursion (AllByRecursion IsSmall) (map change_cells rows) → let this = d.change_table in
+    AllByRecursion (Suits this.name 25 this.columns this.key this.primary this.uniques this.orders
+    trees) (map change_cells rows)
 changes_suit trees [] small = tt
-changes_suit trees (row ∷ rows) small = (record { number = tt; right = λ id. record { typed = refl; present = refl; light = (int_light id, all_light (change_cells row) small.0); some = omega arith; few = omega arith } }, changes_suit trees rows small.1)
+changes_suit trees (row ∷ rows) small = (
+  record {
+    number = tt;
+    right = λ id. record {
+      typed = refl;
+      present = refl;
+      light = (int_light id, all_light (change_cells row) small.0);
+      some = omega arith;
+      few = omega arith;
+    };
+  },
+  changes_suit trees rows small.1,
+)
 
-changes_accepted : (rows : List ChangeRow) → length rows ≡ 8 → accepts_terms (eight_terms None 5) (flat_map change_cells rows) ≡ true
-changes_accepted = eight (λ rows. accepts_terms (eight_terms None 5) (flat_map change_cells rows) ≡ true) (λ a b c d e f g h. refl)
+changes_accepted : (rows : List ChangeRow) → length rows ≡ 8
+    → accepts_terms (eight_terms None 5) (flat_map change_cells rows) ≡ true
+changes_accepted = eight (λ rows. accepts_terms (eight_terms None 5) (flat_map change_cells rows)
+    ≡ true) (λ a b c d e f g h. refl)
 
 changes_count : (rows : List ChangeRow) → length rows ≡ 8 → length (flat_map change_cells rows) ≡ 40
 changes_count = eight (λ rows. length (flat_map change_cells rows) ≡ 40) (λ a b c d e f g h. refl)
 
-pub changes_added : (rows : List ChangeRow) → length rows ≡ 8 → AreAdded add_eight_changes_text (flat_map change_cells rows) 25 (map change_cells rows) (length rows)
+pub changes_added : (rows : List ChangeRow) → length rows ≡ 8
+    → AreAdded add_eight_changes_text (flat_map change_cells rows) 25 (map change_cells rows)
+    (length rows)
 changes_added rows is old new r ran into survives =
     let this = d.change_table in
-    let reads = subst (λ n. Reads add_eight_changes_text n (Insert 13 (Values (eight_terms None 5) 6))) (sym (changes_count rows is)) add_eight_changes_reads in
-    let it = inserted_adds this.name 25 this.columns this.key this.primary this.uniques this.orders 13 refl add_eight_changes_text (flat_map change_cells rows) (eight_terms None 5) 6 reads (changes_accepted rows is)
-    (changes_sources rows) (map change_cells rows) (changes_given rows is) refl tt (changes_make rows) (changes_shown rows) (λ trees small. changes_suit trees rows small) old new r ran into survives in
-    subst (λ n. Adds (with_rows 25 (map change_cells rows)) n old new r) (length-map rows change_cells) it
+    let reads = subst (λ n. Reads add_eight_changes_text n
+    (Insert 13 (Values (eight_terms None 5) 6))) (sym (changes_count rows is))
+    add_eight_changes_reads in
+    let it = inserted_adds this.name 25 this.columns this.key this.primary this.uniques this.orders
+    13 refl add_eight_changes_text (flat_map change_cells rows) (eight_terms None 5) 6 reads
+    (changes_accepted rows is)
+    (changes_sources rows) (map change_cells rows) (changes_given rows is) refl tt
+    (changes_make rows) (changes_shown rows) (λ trees small. changes_suit trees rows small) old new
+    r ran into survives in
+    subst (λ n. Adds (with_rows 25 (map change_cells rows)) n old new r)
+    (length-map rows change_cells) it
 
 -- ---- waiver
 
@@ -454,17 +835,46 @@ add_waiver_reads : Reads add_waiver_text 3 (Insert 15 (Values (terms_of None 0 3
 unfolding understood everything
 add_waiver_reads = record { is = refl; plain = (refl, refl); fits = (refl, refl) }
 
-add_waiver_accepts : (row : ChangeRow) (a : Option (List ℕ)) → a ≢ None → accepts_terms (terms_of None 0 3) (number row.duty ∷ number row.step ∷ text_or_null a ∷ []) ≡ true
+add_waiver_accepts : (row : ChangeRow) (a : Option (List ℕ)) → a ≢ None
+    → accepts_terms (terms_of None 0 3) (number row.duty ∷ number row.step ∷ text_or_null a ∷ [])
+    ≡ true
 add_waiver_accepts row (Some s) some = refl
 add_waiver_accepts row None some = absurd (some refl)
 
-add_waiver_typed : (trees : Trees) (id : ℤ) (row : ChangeRow) (a : Option (List ℕ)) → a ≢ None → (passes Datatype d.desk_schema trees d.waiver_table (Int id ∷ number row.duty ∷ number row.step ∷ text_or_null a ∷ []) ≡ true) × (passes NotNull d.desk_schema trees d.waiver_table (Int id ∷ number row.duty ∷ number row.step ∷ text_or_null a ∷ []) ≡ true)
+add_waiver_typed : (trees : Trees) (id : ℤ) (row : ChangeRow) (a : Option (List ℕ)) → a ≢ None
+    → (passes Datatype d.desk_schema trees d.waiver_table
+    (Int id ∷ number row.duty ∷ number row.step ∷ text_or_null a ∷ []) ≡ true)
+    × (passes NotNull d.desk_schema trees d.waiver_table
+    (Int id ∷ number row.duty ∷ number row.step ∷ text_or_null a ∷ []) ≡ true)
 add_waiver_typed trees id row (Some s) some = (refl, refl)
 add_waiver_typed trees id row None some = absurd (some refl)
 
-pub waiver_added : (row : ChangeRow) (some : row.last_day ≢ None) → IsAdded add_waiver_text 28 (waiver_cells row)
+pub waiver_added : (row : ChangeRow) (some : row.last_day ≢ None)
+    → IsAdded add_waiver_text 28 (waiver_cells row)
 waiver_added row some old new =
     let this = d.waiver_table in
-    inserted_adds this.name 28 this.columns this.key this.primary this.uniques this.orders 15 refl add_waiver_text (waiver_cells row) (terms_of None 0 3) 4 add_waiver_reads (add_waiver_accepts row row.last_day some)
-    (source_of None (waiver_cells row) ∷ []) (waiver_cells row ∷ []) refl refl tt ((λ stored. rw (cast_null, cast_int (pos row.duty), cast_int (pos row.step), cast_text row.last_day) refl), tt) (λ id. refl, tt)
-    (λ trees small. (record { number = tt; right = λ id. record { typed = (add_waiver_typed trees id row row.last_day some).0; present = (add_waiver_typed trees id row row.last_day some).1; light = (int_light id, all_light (waiver_cells row) small.0); some = omega arith; few = omega arith } }, tt)) old new
+    inserted_adds this.name 28 this.columns this.key this.primary this.uniques this.orders 15 refl
+    add_waiver_text (waiver_cells row) (terms_of None 0 3) 4 add_waiver_reads
+    (add_waiver_accepts row row.last_day some)
+    (source_of None (waiver_cells row) ∷ []) (waiver_cells row ∷ []) refl refl tt (
+      (λ stored. rw (
+        cast_null,
+        cast_int (pos row.duty),
+        cast_int (pos row.step),
+        cast_text row.last_day,
+      ) refl),
+      tt,
+    ) (λ id. refl, tt)
+    (λ trees small. (
+      record {
+        number = tt;
+        right = λ id. record {
+          typed = (add_waiver_typed trees id row row.last_day some).0;
+          present = (add_waiver_typed trees id row row.last_day some).1;
+          light = (int_light id, all_light (waiver_cells row) small.0);
+          some = omega arith;
+          few = omega arith;
+        };
+      },
+      tt,
+    )) old new

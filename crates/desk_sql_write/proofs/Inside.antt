@@ -7,15 +7,22 @@ use Rattle.sqlite_trees.specs.Tree.{Trees}
 use Rattle.sqlite.proofs.StateLemmas.{survives_then}
 
 moved : (old new : State) → IsUnchanged old new ⊎ IsRolledBack old new → KeepsCommit old new
-moved old new (inl same) = record { was_open = λ is. same.0.was_open; committed = λ is. same.0.committed_is }
+moved old new (inl same) = record {
+  was_open = λ is. same.0.was_open;
+  committed = λ is. same.0.committed_is;
+}
 moved old new (inr back) = record { was_open = back.was_open; committed = λ is. (back.undone is).1 }
 
-pub lost : (sql : List ℕ) (params : Row) (old new : State) (e : Error) → ExecutesInside 0 sql params old new (Err e) → KeepsCommit old new
+pub lost : (sql : List ℕ) (params : Row) (old new : State) (e : Error)
+    → ExecutesInside 0 sql params old new (Err e) → KeepsCommit old new
 lost sql params old new e (inl h) = moved old new h.1
 lost sql params old new e (inr h) = moved old new (inl h.2)
 
-pub clean_before : (a b : State) (P : Trees → Type 0) → Survives a b P → HasCleanDisk b → HasCleanDisk a
+pub clean_before : (a b : State) (P : Trees → Type 0) → Survives a b P → HasCleanDisk b
+    → HasCleanDisk a
 clean_before a b P s clean = omega (arith, s.clean)
 
-pub survives_both : (a b c : State) → Survives a b (λ _. ⊥) → Survives b c (λ _. ⊥) → Survives a c (λ _. ⊥)
-survives_both a b c first next = survives_then a b c _ _ (λ _. ⊥) (λ _ db none. none) (λ _ db none. none) first next
+pub survives_both : (a b c : State) → Survives a b (λ _. ⊥) → Survives b c (λ _. ⊥)
+    → Survives a c (λ _. ⊥)
+survives_both a b c first next = survives_then a b c _ _ (λ _. ⊥) (λ _ db none. none)
+    (λ _ db none. none) first next

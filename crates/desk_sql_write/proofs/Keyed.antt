@@ -1,5 +1,6 @@
 -- If each unique key appears once among the rows that tables show, it does so in the tables.
-use Rattle.std.proofs.Common.{◌≡◌, ◌∙◌, inl, inr, ℕ, ◌≤◌, Bool, true, false, not, cond, List, [], ◌∷◌, filter, length, slice_get, Some, refl, sym, ap, subst, arith}
+use Rattle.std.proofs.Common.{◌≡◌, ◌∙◌, inl, inr, ℕ, ◌≤◌, Bool, true, false, not, cond, List, []}
+use Rattle.std.proofs.Common.{◌∷◌, filter, length, slice_get, Some, refl, sym, ap, subst, arith}
 use Rattle.std.specs.Prelude.{◌&&◌, ◌==◌}
 use Rattle.std.specs.List.{AllByRecursion}
 use Rattle.std.proofs.lemmas.Bool.{and_parts, cases_Bool}
@@ -39,40 +40,140 @@ record Guards (i : Index) : Type 0 where
   of : i.table ≡ table.tree
   places : List ℕ
   among : Has (table.primary ∷ table.uniques) places
-  same : (a b : Row) → agree i.order i.columns a i.columns b ≡ agree plain (in_cells places) (cells table a) (in_cells places) (cells table b)
+  same : (a b : Row) → agree i.order i.columns a i.columns b
+      ≡ agree plain (in_cells places) (cells table a) (in_cells places) (cells table b)
 
-by_place : (place : ℕ) (t : Table) → slice_get desk_schema.tables place ≡ Some t → Has desk_schema.tables t
+by_place : (place : ℕ) (t : Table) → slice_get desk_schema.tables place ≡ Some t
+    → Has desk_schema.tables t
 by_place place t is = has_got desk_schema.tables place t is
 
 all_guarded : AllByRecursion Guards desk_schema.indexes
 all_guarded = (
-  record { table = d.rule_table; listed = by_place 2 d.rule_table refl; of = refl; places = 1 ∷ 2 ∷ 3 ∷ []; among = inl refl; same = λ a b. refl },
+  record {
+    table = d.rule_table;
+    listed = by_place 2 d.rule_table refl;
+    of = refl;
+    places = 1 ∷ 2 ∷ 3 ∷ [];
+    among = inl refl;
+    same = λ a b. refl;
+  },
   (
-    record { table = d.document_table; listed = by_place 3 d.document_table refl; of = refl; places = 2 ∷ []; among = inr (inl refl); same = λ a b. refl },
+    record {
+      table = d.document_table;
+      listed = by_place 3 d.document_table refl;
+      of = refl;
+      places = 2 ∷ [];
+      among = inr (inl refl);
+      same = λ a b. refl;
+    },
     (
-      record { table = d.package_table; listed = by_place 4 d.package_table refl; of = refl; places = 1 ∷ 2 ∷ []; among = inl refl; same = λ a b. refl },
+      record {
+        table = d.package_table;
+        listed = by_place 4 d.package_table refl;
+        of = refl;
+        places = 1 ∷ 2 ∷ [];
+        among = inl refl;
+        same = λ a b. refl;
+      },
       (
-        record { table = d.extracted_table; listed = by_place 5 d.extracted_table refl; of = refl; places = 1 ∷ 2 ∷ []; among = inl refl; same = λ a b. refl },
+        record {
+          table = d.extracted_table;
+          listed = by_place 5 d.extracted_table refl;
+          of = refl;
+          places = 1 ∷ 2 ∷ [];
+          among = inl refl;
+          same = λ a b. refl;
+        },
         (
-          record { table = d.conclusion_table; listed = by_place 6 d.conclusion_table refl; of = refl; places = 1 ∷ 2 ∷ []; among = inl refl; same = λ a b. refl },
+          record {
+            table = d.conclusion_table;
+            listed = by_place 6 d.conclusion_table refl;
+            of = refl;
+            places = 1 ∷ 2 ∷ [];
+            among = inl refl;
+            same = λ a b. refl;
+          },
           (
-            record { table = d.adoption_table; listed = by_place 7 d.adoption_table refl; of = refl; places = 1 ∷ 2 ∷ []; among = inl refl; same = λ a b. refl },
+            record {
+              table = d.adoption_table;
+              listed = by_place 7 d.adoption_table refl;
+              of = refl;
+              places = 1 ∷ 2 ∷ [];
+              among = inl refl;
+              same = λ a b. refl;
+            },
             (
-              record { table = d.releases_table; listed = by_place 8 d.releases_table refl; of = refl; places = 2 ∷ []; among = inr (inl refl); same = λ a b. refl },
+              record {
+                table = d.releases_table;
+                listed = by_place 8 d.releases_table refl;
+                of = refl;
+                places = 2 ∷ [];
+                among = inr (inl refl);
+                same = λ a b. refl;
+              },
               (
-                record { table = d.releases_table; listed = by_place 8 d.releases_table refl; of = refl; places = 1 ∷ []; among = inl refl; same = λ a b. refl },
+                record {
+                  table = d.releases_table;
+                  listed = by_place 8 d.releases_table refl;
+                  of = refl;
+                  places = 1 ∷ [];
+                  among = inl refl;
+                  same = λ a b. refl;
+                },
                 (
-                  record { table = d.attached_table; listed = by_place 9 d.attached_table refl; of = refl; places = 1 ∷ 2 ∷ []; among = inl refl; same = λ a b. refl },
+                  record {
+                    table = d.attached_table;
+                    listed = by_place 9 d.attached_table refl;
+                    of = refl;
+                    places = 1 ∷ 2 ∷ [];
+                    among = inl refl;
+                    same = λ a b. refl;
+                  },
                   (
-                    record { table = d.choice_table; listed = by_place 10 d.choice_table refl; of = refl; places = 1 ∷ 2 ∷ 3 ∷ 4 ∷ []; among = inl refl; same = λ a b. refl },
+                    record {
+                      table = d.choice_table;
+                      listed = by_place 10 d.choice_table refl;
+                      of = refl;
+                      places = 1 ∷ 2 ∷ 3 ∷ 4 ∷ [];
+                      among = inl refl;
+                      same = λ a b. refl;
+                    },
                     (
-                      record { table = d.frozen_table; listed = by_place 11 d.frozen_table refl; of = refl; places = 1 ∷ 2 ∷ 3 ∷ 4 ∷ []; among = inl refl; same = λ a b. refl },
+                      record {
+                        table = d.frozen_table;
+                        listed = by_place 11 d.frozen_table refl;
+                        of = refl;
+                        places = 1 ∷ 2 ∷ 3 ∷ 4 ∷ [];
+                        among = inl refl;
+                        same = λ a b. refl;
+                      },
                       (
-                        record { table = d.duty_table; listed = by_place 12 d.duty_table refl; of = refl; places = 2 ∷ 3 ∷ 4 ∷ 5 ∷ 6 ∷ []; among = inr (inl refl); same = λ a b. refl },
+                        record {
+                          table = d.duty_table;
+                          listed = by_place 12 d.duty_table refl;
+                          of = refl;
+                          places = 2 ∷ 3 ∷ 4 ∷ 5 ∷ 6 ∷ [];
+                          among = inr (inl refl);
+                          same = λ a b. refl;
+                        },
                         (
-                          record { table = d.change_table; listed = by_place 13 d.change_table refl; of = refl; places = 1 ∷ 2 ∷ []; among = inl refl; same = λ a b. refl },
+                          record {
+                            table = d.change_table;
+                            listed = by_place 13 d.change_table refl;
+                            of = refl;
+                            places = 1 ∷ 2 ∷ [];
+                            among = inl refl;
+                            same = λ a b. refl;
+                          },
                           (
-                            record { table = d.waiver_table; listed = by_place 15 d.waiver_table refl; of = refl; places = 1 ∷ 2 ∷ []; among = inl refl; same = λ a b. refl },
+                            record {
+                              table = d.waiver_table;
+                              listed = by_place 15 d.waiver_table refl;
+                              of = refl;
+                              places = 1 ∷ 2 ∷ [];
+                              among = inl refl;
+                              same = λ a b. refl;
+                            },
                             tt,
                           ),
                         ),
@@ -94,12 +195,16 @@ some_there [] x there = absurd there
 some_there (y ∷ xs) x there = omega arith
 
 -- two different rows that pass
-pub two_pass : {X : Type 0} (p : X → Bool) (xs : List X) (a b : X) → Has xs a → Has xs b → p a ≡ true → p b ≡ true → (a ≡ b → ⊥) → 2 ≤ length (filter p xs)
+pub two_pass : {X : Type 0} (p : X → Bool) (xs : List X) (a b : X) → Has xs a → Has xs b
+    → p a ≡ true → p b ≡ true → (a ≡ b → ⊥) → 2 ≤ length (filter p xs)
 two_pass p [] a b here there one two other = absurd here
 two_pass p (x ∷ xs) a b (inl here) (inl there) one two other = absurd (other (here ∙ sym there))
-two_pass p (x ∷ xs) a b (inl here) (inr there) one two other = rw (← here, one) (omega (arith, some_there _ b (has_kept p xs b there two)))
-two_pass p (x ∷ xs) a b (inr here) (inl there) one two other = rw (← there, two) (omega (arith, some_there _ a (has_kept p xs a here one)))
-two_pass p (x ∷ xs) a b (inr here) (inr there) one two other = go (two_pass p xs a b here there one two other) (p x)
+two_pass p (x ∷ xs) a b (inl here) (inr there) one two other = rw (← here, one)
+    (omega (arith, some_there _ b (has_kept p xs b there two)))
+two_pass p (x ∷ xs) a b (inr here) (inl there) one two other = rw (← there, two)
+    (omega (arith, some_there _ a (has_kept p xs a here one)))
+two_pass p (x ∷ xs) a b (inr here) (inr there) one two other = go
+    (two_pass p xs a b here there one two other) (p x)
   where
     go : 2 ≤ length (filter p xs) → (c : Bool) → 2 ≤ length (cond c (x ∷ filter p xs) (filter p xs))
     go more true = omega (arith, more)
@@ -112,34 +217,53 @@ differ_itself v whole differs =
     let no = rw (tied_itself value_cmp_total (Int (id_in v))) at it in cc
 
 -- as many of the rows that tables show pass as of those that are stored
-pub passing : (t : Table) (rows stored : List Row) → AreStored t rows stored → (p : Row → Bool) → length (filter (λ r. p (cells t r)) stored) ≡ length (filter p rows)
+pub passing : (t : Table) (rows stored : List Row) → AreStored t rows stored → (p : Row → Bool)
+    → length (filter (λ r. p (cells t r)) stored) ≡ length (filter p rows)
 passing t rows stored are p =
-    sym (length-map (filter (λ r. p (cells t r)) stored) (cells t)) ∙ ap length (sym (filter-map p (cells t) stored)) ∙ length_permutation _ _ (IsPermutation-filter p _ _ are.same)
+    sym (length-map (filter (λ r. p (cells t r)) stored) (cells t))
+    ∙ ap length (sym (filter-map p (cells t) stored))
+    ∙ length_permutation _ _ (IsPermutation-filter p _ _ are.same)
 
-module _ (rows : ℕ → List Row) (trees : Trees) (are : AllStored desk_schema rows trees) (keys : HaveKeys rows) where
-  never_clashes : (t : Table) (row : Row) (i : Index) → Has desk_schema.tables t → Has (trees t.tree) row → Has desk_schema.indexes i → (guards i t && clashes i.order i.columns (trees t.tree) row) ≡ true → ⊥
+module _ (rows : ℕ → List Row) (trees : Trees) (are : AllStored desk_schema rows trees)
+    (keys : HaveKeys rows) where
+  never_clashes : (t : Table) (row : Row) (i : Index) → Has desk_schema.tables t
+      → Has (trees t.tree) row → Has desk_schema.indexes i
+      → (guards i t && clashes i.order i.columns (trees t.tree) row) ≡ true → ⊥
   never_clashes t row i listed there has clash =
       let parts = and_parts (guards i t) (clashes i.order i.columns (trees t.tree) row) clash in
-      let mine : i.table ≡ t.tree = let it = (and_parts i.is_unique (i.table == t.tree) parts.0).1 in grind (arith, nat_tests) in
+      let mine : i.table ≡ t.tree = let it =
+      (and_parts i.is_unique (i.table == t.tree) parts.0).1 in grind (arith, nat_tests) in
       let k = all_has Guards desk_schema.indexes i all_guarded has in
-      let same : t ≡ k.table = same_table desk_schema.tables t k.table apart listed k.listed (sym mine ∙ k.of) in
-      let stored = all_has (λ t. AreStored t (rows t.tree) (trees t.tree)) desk_schema.tables t are listed in
+      let same : t ≡ k.table = same_table desk_schema.tables t k.table apart listed k.listed
+      (sym mine ∙ k.of) in
+      let stored = all_has (λ t. AreStored t (rows t.tree) (trees t.tree)) desk_schema.tables t are
+      listed in
       let once = all_has (StandsOnce (rows t.tree)) (t.primary ∷ t.uniques) k.places
-      (all_has (λ t. AllByRecursion (StandsOnce (rows t.tree)) (t.primary ∷ t.uniques)) desk_schema.tables t keys listed) (subst (λ (t : Table). Has (t.primary ∷ t.uniques) k.places) (sym same) k.among) in
+      (all_has (λ t. AllByRecursion (StandsOnce (rows t.tree)) (t.primary ∷ t.uniques))
+      desk_schema.tables t keys listed)
+      (subst (λ (t : Table). Has (t.primary ∷ t.uniques) k.places) (sym same) k.among) in
       let at = in_cells k.places in
-      let agrees = subst (λ (t : Table). (a b : Row) → agree i.order i.columns a i.columns b ≡ agree plain at (cells t a) at (cells t b)) (sym same) k.same in
+      let agrees = subst (λ (t : Table). (a b : Row)
+      → agree i.order i.columns a i.columns b ≡ agree plain at (cells t a) at (cells t b))
+      (sym same) k.same in
       let p = λ (x : Row). agree plain at x at (cells t row) in
-      let other = some_has (λ other. agree i.order i.columns other i.columns row && differ (rowid other) (rowid row)) (trees t.tree) parts.1 in
-      let both = and_parts (agree i.order i.columns other.0 i.columns row) (differ (rowid other.0) (rowid row)) other.2 in
+      let other = some_has (λ other. agree i.order i.columns other i.columns row
+      && differ (rowid other) (rowid row)) (trees t.tree) parts.1 in
+      let both = and_parts (agree i.order i.columns other.0 i.columns row)
+      (differ (rowid other.0) (rowid row)) other.2 in
       let whole = all_has (λ r. is_int (rowid r) ≡ true) (trees t.tree) row stored.keyed there in
-      let two = two_pass (λ r. p (cells t r)) (trees t.tree) other.0 row other.1 there (sym (agrees other.0 row) ∙ both.0)
-      (sym (agrees row row) ∙ agree_chain i.order i.columns i.columns i.columns row other.0 row (agree_back i.order i.columns i.columns other.0 row both.0) both.0)
-      (λ one. differ_itself (rowid row) whole (subst (λ (r : Row). differ (rowid r) (rowid row) ≡ true) one both.1)) in
+      let two = two_pass (λ r. p (cells t r)) (trees t.tree) other.0 row other.1 there
+      (sym (agrees other.0 row) ∙ both.0)
+      (sym (agrees row row) ∙ agree_chain i.order i.columns i.columns i.columns row other.0 row
+      (agree_back i.order i.columns i.columns other.0 row both.0) both.0)
+      (λ one. differ_itself (rowid row) whole
+      (subst (λ (r : Row). differ (rowid r) (rowid row) ≡ true) one both.1)) in
       omega (arith, two, passing t (rows t.tree) (trees t.tree) stored p, once (cells t row))
 
   pub unique_kept : Keeps Unique desk_schema trees
   unique_kept = keeps_from Unique desk_schema trees (λ t row listed there.
-      test_from (λ i. not (guards i t && clashes i.order i.columns (trees t.tree) row)) desk_schema.indexes
+      test_from (λ i. not (guards i t && clashes i.order i.columns (trees t.tree) row))
+      desk_schema.indexes
       (λ i has. elim (cases_Bool (guards i t && clashes i.order i.columns (trees t.tree) row)) [
         | inl clash ↦ absurd (never_clashes t row i listed there has clash)
         | inr free ↦ ap not free

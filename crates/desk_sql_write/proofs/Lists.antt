@@ -4,13 +4,16 @@ use Rattle.std.specs.Prelude.{Some, None, find, not}
 use Rattle.std.proofs.lemmas.Grind.{flat_map-append}
 use Rattle.desk_model.specs.declared.row.ChangeRow.{ChangeRow}
 use Rattle.desk_sql_layout.specs.Cells.{is_waiver}
-use Rattle.std.proofs.Common.{◌≡◌, Bool, true, false, cond, drop, filter, flat_map, ℕ, zero, suc, ◌<◌, ◌≤◌, List, [], ◌∷◌, ◌++◌, take, length, get_or, refl, sym, ap, arith, add-one, ◌∙◌, ◌+◌}
+use Rattle.std.proofs.Common.{◌≡◌, Bool, true, false, cond, drop, filter, flat_map, ℕ, zero, suc}
+use Rattle.std.proofs.Common.{◌<◌, ◌≤◌, List, [], ◌∷◌, ◌++◌, take, length, get_or, refl, sym, ap}
+use Rattle.std.proofs.Common.{arith, add-one, ◌∙◌, ◌+◌}
 
 pub append_nil : {X : Type 0} (xs : List X) → xs ++ [] ≡ xs
 append_nil [] = refl
 append_nil (x ∷ xs) = ap (λ l. x ∷ l) (append_nil xs)
 
-pub take_more : {X : Type 0} (rows : List X) (i : ℕ) (d : X) → i < length rows → take i rows ++ get_or rows i d ∷ [] ≡ take (suc i) rows
+pub take_more : {X : Type 0} (rows : List X) (i : ℕ) (d : X) → i < length rows
+    → take i rows ++ get_or rows i d ∷ [] ≡ take (suc i) rows
 take_more [] i d low = absurd (omega arith)
 take_more (x ∷ rows) zero d low = refl
 take_more (x ∷ rows) (suc i) d low = ap (λ l. x ∷ l) (take_more rows i d (omega arith))
@@ -30,55 +33,79 @@ append_more [] ys y = refl
 append_more (x ∷ xs) ys y = ap (λ l. x ∷ l) (append_more xs ys y)
 
 -- after others, the front and the next item are the longer front
-pub front_more : {X : Type 0} (xs rows : List X) (i : ℕ) (d x : X) → x ≡ get_or rows i d → i < length rows → (xs ++ take i rows) ++ x ∷ [] ≡ xs ++ take (i + 1) rows
-front_more xs rows i d x is low = append_more xs (take i rows) x ∙ ap (λ y. xs ++ (take i rows ++ y ∷ [])) is ∙ ap (λ l. xs ++ l) (take_more rows i d low) ∙ ap (λ n. xs ++ take n rows) (sym (add-one i))
+pub front_more : {X : Type 0} (xs rows : List X) (i : ℕ) (d x : X) → x ≡ get_or rows i d
+    → i < length rows → (xs ++ take i rows) ++ x ∷ [] ≡ xs ++ take (i + 1) rows
+front_more xs rows i d x is low = append_more xs (take i rows) x
+    ∙ ap (λ y. xs ++ (take i rows ++ y ∷ [])) is ∙ ap (λ l. xs ++ l) (take_more rows i d low)
+    ∙ ap (λ n. xs ++ take n rows) (sym (add-one i))
 
-drop_next : {X : Type 0} (rows : List X) (n : ℕ) (d : X) → n < length rows → drop n rows ≡ get_or rows n d ∷ drop (suc n) rows
+drop_next : {X : Type 0} (rows : List X) (n : ℕ) (d : X) → n < length rows
+    → drop n rows ≡ get_or rows n d ∷ drop (suc n) rows
 drop_next [] n d low = absurd (omega arith)
 drop_next (x ∷ rows) zero d low = refl
 drop_next (x ∷ rows) (suc n) d low = drop_next rows n d (omega arith)
 
-drop_less : {X : Type 0} (rows : List X) (n : ℕ) (d : X) → n < length rows → drop n rows ≡ get_or rows n d ∷ drop (n + 1) rows
-drop_less rows n d low = drop_next rows n d low ∙ ap (λ m. get_or rows n d ∷ drop m rows) (sym (add-one n))
+drop_less : {X : Type 0} (rows : List X) (n : ℕ) (d : X) → n < length rows
+    → drop n rows ≡ get_or rows n d ∷ drop (n + 1) rows
+drop_less rows n d low = drop_next rows n d low
+    ∙ ap (λ m. get_or rows n d ∷ drop m rows) (sym (add-one n))
 
 -- the rows of two lists that pass a test
-pub filter_both : {X : Type 0} (p : X → Bool) (xs ys : List X) → filter p (xs ++ ys) ≡ filter p xs ++ filter p ys
+pub filter_both : {X : Type 0} (p : X → Bool) (xs ys : List X)
+    → filter p (xs ++ ys) ≡ filter p xs ++ filter p ys
 filter_both p [] ys = refl
 filter_both p (x ∷ xs) ys = go (filter_both p xs ys) (p x)
   where
-    go : filter p (xs ++ ys) ≡ filter p xs ++ filter p ys → (b : Bool) → cond b (x ∷ filter p (xs ++ ys)) (filter p (xs ++ ys)) ≡ cond b (x ∷ filter p xs) (filter p xs) ++ filter p ys
+    go : filter p (xs ++ ys) ≡ filter p xs ++ filter p ys → (b : Bool)
+        → cond b (x ∷ filter p (xs ++ ys)) (filter p (xs ++ ys))
+        ≡ cond b (x ∷ filter p xs) (filter p xs) ++ filter p ys
     go more true = ap (λ l. x ∷ l) more
     go more false = more
 
 -- one more text after others that are joined
-pub join_more : (x : List ℕ) (xs : List (List ℕ)) (y : List ℕ) → join_with_byte 32 (x ∷ (xs ++ y ∷ [])) ≡ join_with_byte 32 (x ∷ xs) ++ (32 ∷ y)
+pub join_more : (x : List ℕ) (xs : List (List ℕ)) (y : List ℕ)
+    → join_with_byte 32 (x ∷ (xs ++ y ∷ [])) ≡ join_with_byte 32 (x ∷ xs) ++ (32 ∷ y)
 join_more x [] y = refl
-join_more x (z ∷ zs) y = ap (λ l. x ++ 32 ∷ l) (join_more z zs y) ∙ sym (behind x (join_with_byte 32 (z ∷ zs)) y)
+join_more x (z ∷ zs) y = ap (λ l. x ++ 32 ∷ l) (join_more z zs y)
+    ∙ sym (behind x (join_with_byte 32 (z ∷ zs)) y)
   where
     behind : (a b y : List ℕ) → (a ++ 32 ∷ b) ++ (32 ∷ y) ≡ a ++ 32 ∷ (b ++ (32 ∷ y))
     behind [] b y = refl
     behind (c ∷ a) b y = ap (λ l. c ∷ l) (behind a b y)
 
 -- after others, those of the front that pass, and the next one if it does
-pub filter_more : {X : Type 0} (p : X → Bool) (xs rows : List X) (i : ℕ) (d x : X) → x ≡ get_or rows i d → i < length rows → (xs ++ filter p (take i rows)) ++ filter p (x ∷ []) ≡ xs ++ filter p (take (i + 1) rows)
+pub filter_more : {X : Type 0} (p : X → Bool) (xs rows : List X) (i : ℕ) (d x : X)
+    → x ≡ get_or rows i d → i < length rows
+    → (xs ++ filter p (take i rows)) ++ filter p (x ∷ []) ≡ xs ++ filter p (take (i + 1) rows)
 filter_more p xs rows i d x is low =
-    append_all xs (filter p (take i rows)) (filter p (x ∷ [])) ∙ ap (λ l. xs ++ l) (sym (filter_both p (take i rows) (x ∷ [])) ∙ ap (filter p) (front_more [] rows i d x is low))
+    append_all xs (filter p (take i rows)) (filter p (x ∷ []))
+    ∙ ap (λ l. xs ++ l) (sym (filter_both p (take i rows) (x ∷ []))
+    ∙ ap (filter p) (front_more [] rows i d x is low))
 
-pub joined_on : (codes rest : List (List ℕ)) (first code : List ℕ) (i : ℕ) (old blank new : List ℕ) → codes ≡ first ∷ rest → i < length rest → code ≡ get_or rest i code
-    → old ≡ join_with_byte 32 (take (i + 1) codes) → blank ≡ old ++ 32 ∷ [] → new ≡ blank ++ code → new ≡ join_with_byte 32 (take (i + 1 + 1) codes)
+pub joined_on : (codes rest : List (List ℕ)) (first code : List ℕ) (i : ℕ) (old blank new : List ℕ)
+    → codes ≡ first ∷ rest → i < length rest → code ≡ get_or rest i code
+    → old ≡ join_with_byte 32 (take (i + 1) codes) → blank ≡ old ++ 32 ∷ [] → new ≡ blank ++ code
+    → new ≡ join_with_byte 32 (take (i + 1 + 1) codes)
 joined_on codes rest first code i old blank new whole low is so then last =
-    last ∙ ap (λ l. l ++ code) (then ∙ ap (λ l. l ++ 32 ∷ []) (so ∙ ap (join_with_byte 32) (front i))) ∙ append_all (join_with_byte 32 (first ∷ take i rest)) (32 ∷ []) code
-    ∙ sym (join_more first (take i rest) code) ∙ ap (λ l. join_with_byte 32 (first ∷ l)) (front_more [] rest i code code is low) ∙ ap (join_with_byte 32) (sym (front (i + 1)))
+    last ∙ ap (λ l. l ++ code) (then
+    ∙ ap (λ l. l ++ 32 ∷ []) (so ∙ ap (join_with_byte 32) (front i)))
+    ∙ append_all (join_with_byte 32 (first ∷ take i rest)) (32 ∷ []) code
+    ∙ sym (join_more first (take i rest) code)
+    ∙ ap (λ l. join_with_byte 32 (first ∷ l)) (front_more [] rest i code code is low)
+    ∙ ap (join_with_byte 32) (sym (front (i + 1)))
   where
     front : (n : ℕ) → take (n + 1) codes ≡ first ∷ take n rest
     front n = ap (take (n + 1)) whole ∙ ap (λ m. take m (first ∷ rest)) (add-one n)
 
-pub waiver_kept : (row : ChangeRow) (day : List ℕ) → row.last_day ≡ Some day → filter is_waiver (row ∷ []) ≡ row ∷ []
+pub waiver_kept : (row : ChangeRow) (day : List ℕ) → row.last_day ≡ Some day
+    → filter is_waiver (row ∷ []) ≡ row ∷ []
 waiver_kept row day is = rw is refl
 
 -- the rows are those that were added and those that are left, of which more were added
-pub more_added : {X : Type 0} (rows added left more rest : List X) → rows ≡ added ++ left → left ≡ more ++ rest → rows ≡ (added ++ more) ++ rest
-more_added rows added left more rest was is = was ∙ ap (λ l. added ++ l) is ∙ sym (append_all added more rest)
+pub more_added : {X : Type 0} (rows added left more rest : List X) → rows ≡ added ++ left
+    → left ≡ more ++ rest → rows ≡ (added ++ more) ++ rest
+more_added rows added left more rest was is = was ∙ ap (λ l. added ++ l) is
+    ∙ sym (append_all added more rest)
 
 pub take_and_drop : {X : Type 0} (n : ℕ) (xs : List X) → xs ≡ take n xs ++ drop n xs
 take_and_drop zero [] = refl
@@ -87,7 +114,9 @@ take_and_drop (suc n) [] = refl
 take_and_drop (suc n) (x ∷ xs) = ap (λ l. x ∷ l) (take_and_drop n xs)
 
 -- what is true of any eight items is true of a list of eight
-pub eight : {X : Type 0} (P : List X → Type 0) → ((a b c d e f g h : X) → P (a ∷ b ∷ c ∷ d ∷ e ∷ f ∷ g ∷ h ∷ [])) → (rows : List X) → length rows ≡ 8 → P rows
+pub eight : {X : Type 0} (P : List X → Type 0)
+    → ((a b c d e f g h : X) → P (a ∷ b ∷ c ∷ d ∷ e ∷ f ∷ g ∷ h ∷ [])) → (rows : List X)
+    → length rows ≡ 8 → P rows
 eight P holds (a ∷ b ∷ c ∷ d ∷ e ∷ f ∷ g ∷ h ∷ []) is = holds a b c d e f g h
 eight P holds (a ∷ b ∷ c ∷ d ∷ e ∷ f ∷ g ∷ h ∷ i ∷ rows) is = absurd (omega arith)
 eight P holds (a ∷ b ∷ c ∷ d ∷ e ∷ f ∷ g ∷ []) is = absurd (omega arith)
@@ -100,18 +129,24 @@ eight P holds (a ∷ []) is = absurd (omega arith)
 eight P holds [] is = absurd (omega arith)
 
 -- what is made of the front of a list and of the next item
-pub flat_more : {X V : Type 0} (f : X → List V) (rows : List X) (i : ℕ) (d x : X) → x ≡ get_or rows i d → i < length rows → flat_map f (take i rows) ++ flat_map f (x ∷ []) ≡ flat_map f (take (i + 1) rows)
-flat_more f rows i d x is low = sym (flat_map-append f (take i rows) (x ∷ [])) ∙ ap (flat_map f) (front_more [] rows i d x is low)
+pub flat_more : {X V : Type 0} (f : X → List V) (rows : List X) (i : ℕ) (d x : X)
+    → x ≡ get_or rows i d → i < length rows
+    → flat_map f (take i rows) ++ flat_map f (x ∷ []) ≡ flat_map f (take (i + 1) rows)
+flat_more f rows i d x is low = sym (flat_map-append f (take i rows) (x ∷ []))
+    ∙ ap (flat_map f) (front_more [] rows i d x is low)
 
-pub cut_at : {X : Type 0} (rows : List X) (n : ℕ) (d x : X) → x ≡ get_or rows n d → n < length rows → rows ≡ take n rows ++ x ∷ drop (n + 1) rows
-cut_at rows n d x is low = take_and_drop n rows ∙ ap (λ l. take n rows ++ l) (drop_less rows n d low ∙ ap (λ y. y ∷ drop (n + 1) rows) (sym is))
+pub cut_at : {X : Type 0} (rows : List X) (n : ℕ) (d x : X) → x ≡ get_or rows n d → n < length rows
+    → rows ≡ take n rows ++ x ∷ drop (n + 1) rows
+cut_at rows n d x is low = take_and_drop n rows
+    ∙ ap (λ l. take n rows ++ l) (drop_less rows n d low ∙ ap (λ y. y ∷ drop (n + 1) rows) (sym is))
 
 pub none_left : {X : Type 0} (xs : List X) → length xs ≡ 0 → xs ≡ []
 none_left [] is = refl
 none_left (x ∷ xs) is = absurd (omega (arith, is))
 
 -- nothing is left out if nothing is found
-pub none_out : {A : Type 0} (at : A → Bool) (xs : List A) → find at xs ≡ None → filter (λ y. not (at y)) xs ≡ xs
+pub none_out : {A : Type 0} (at : A → Bool) (xs : List A) → find at xs ≡ None
+    → filter (λ y. not (at y)) xs ≡ xs
 none_out at [] none = refl
 none_out {A} at (x ∷ xs) none = go (none_out at xs) (at x) none
   where

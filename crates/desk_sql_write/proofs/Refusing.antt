@@ -1,5 +1,7 @@
 -- A statement is refused only for its rows, and an INSERT for none that the tables can hold.
-use Rattle.std.proofs.Common.{◌≡◌, ◌≢◌, ◌∙◌, inl, inr, ℕ, zero, suc, Bool, true, false, not, cond, List, [], ◌∷◌, ◌++◌, length, slice_get, flat_map, Option, Some, None, Err, refl, sym, ap, subst, arith, append-nil, length-append}
+use Rattle.std.proofs.Common.{◌≡◌, ◌≢◌, ◌∙◌, inl, inr, ℕ, zero, suc, Bool, true, false, not, cond}
+use Rattle.std.proofs.Common.{List, [], ◌∷◌, ◌++◌, length, slice_get, flat_map, Option, Some, None}
+use Rattle.std.proofs.Common.{Err, refl, sym, ap, subst, arith, append-nil, length-append}
 use Rattle.std.specs.Prelude.{nat_lt, ◌||◌, ◌==◌, ◌/◌}
 use Rattle.std.specs.List.{AllByRecursion, filter_map, list_all}
 use Rattle.std.specs.List.Sorted.{IsPermutation}
@@ -10,7 +12,9 @@ use Rattle.sqlite_trees.specs.Tree.{Trees, rowid, with_tree}
 use Rattle.sqlite_sql.specs.Term.{Term}
 use Rattle.sqlite_schema.specs.declared.schema.Among.{Among}
 use Rattle.sqlite_schema.specs.declared.schema.Column.{Column}
-use Rattle.sqlite_schema.specs.declared.schema.Constraint.TheVariants.{Datatype, NotNull, Check, PrimaryKey, Unique, ForeignKey}
+use Rattle.sqlite_schema.specs.declared.schema.Constraint.TheVariants.{Datatype, NotNull, Check}
+use Rattle.sqlite_schema.specs.declared.schema.Constraint.TheVariants.{PrimaryKey, Unique}
+use Rattle.sqlite_schema.specs.declared.schema.Constraint.TheVariants.{ForeignKey}
 use Rattle.sqlite_schema.specs.declared.schema.Keys.{Keys}
 use Rattle.sqlite_schema.specs.declared.schema.Keys.TheVariants.{Enforced}
 use Rattle.sqlite_schema.specs.declared.schema.Table.{Table}
@@ -46,18 +50,28 @@ use Rattle.desk_sql_write.proofs.Storable.{never_oversized}
 
 -- ---- foreign keys, of which there are none
 
-pub no_works : (keys : Keys) (depth tree : ℕ) (olds news : List Row) → works desk_schema keys depth tree olds news ≡ []
+pub no_works : (keys : Keys) (depth tree : ℕ) (olds news : List Row)
+    → works desk_schema keys depth tree olds news ≡ []
 no_works keys depth tree olds news = each desk_schema.tables alone
   where
-    each : (tables : List Table) → AllByRecursion (λ t. t.references ≡ []) tables → flat_map (λ child. filter_map (work_for desk_schema keys depth tree olds news child) child.references) tables ≡ []
+    each : (tables : List Table) → AllByRecursion (λ t. t.references ≡ []) tables
+        → flat_map (λ child. filter_map (work_for desk_schema keys depth tree olds news child)
+        child.references) tables ≡ []
     each [] h = refl
     each (t ∷ tables) h = rw h.0 (each tables h.1)
 
 refers : (among : Among) (trees : Trees) → Refers among desk_schema trees
-refers among trees = all_from (λ t. AllByRecursion (λ row. list_all (λ ref. not (is_among among ref) || has_parent desk_schema.tables trees row ref) t.references ≡ true) (trees t.tree)) desk_schema.tables
-    (λ t there. all_from (λ row. list_all (λ ref. not (is_among among ref) || has_parent desk_schema.tables trees row ref) t.references ≡ true) (trees t.tree) (λ row has. rw (all_has (λ t. t.references ≡ []) desk_schema.tables t alone there) refl))
+refers among trees = all_from
+    (λ t. AllByRecursion (λ row. list_all
+    (λ ref. not (is_among among ref) || has_parent desk_schema.tables trees row ref) t.references
+    ≡ true) (trees t.tree)) desk_schema.tables
+    (λ t there. all_from (λ row. list_all
+    (λ ref. not (is_among among ref) || has_parent desk_schema.tables trees row ref) t.references
+    ≡ true) (trees t.tree) (λ row has.
+    rw (all_has (λ t. t.references ≡ []) desk_schema.tables t alone there) refl))
 
-pub fits_none : (table : Table) → table.references ≡ [] → (adds removes : Bool) → references_fit desk_schema table adds removes ≡ true
+pub fits_none : (table : Table) → table.references ≡ [] → (adds removes : Bool)
+    → references_fit desk_schema table adds removes ≡ true
 fits_none table none true true = rw none refl
 fits_none table none true false = rw none refl
 fits_none table none false true = refl
@@ -69,33 +83,48 @@ pub record IsFree (trees : Trees) (edit : Edit) : Type 0 where
   pub allowed : (why : Refusal) → IsRefused desk_schema Enforced trees edit why → ⊥
   pub stored : (row : Row) → Has edit.news row → IsOversized desk_schema edit.table row → ⊥
 
-pub never_stops : (trees : Trees) (edit : Edit) (stop : Option Error) → IsFree trees edit → Edited desk_schema Enforced trees edit (Err stop) → ⊥
+pub never_stops : (trees : Trees) (edit : Edit) (stop : Option Error) → IsFree trees edit
+    → Edited desk_schema Enforced trees edit (Err stop) → ⊥
 never_stops trees edit stop free (why, inl refused, told) = free.allowed refused.0 refused.1
 never_stops trees edit stop free (why, inr (inl big), told) = free.stored big.0 big.1 big.2
-never_stops trees edit stop free (why, inr (inr went), told) = settles went.2.0 (rw (no_works Enforced 0 edit.table.tree (taken_by trees edit) edit.news) at went.2.1)
+never_stops trees edit stop free (why, inr (inr went), told) = settles went.2.0
+    (rw (no_works Enforced 0 edit.table.tree (taken_by trees edit) edit.news) at went.2.1)
   where
-    settles : (n : ℕ) → Rattle.sqlite_rules.specs.Action.Leads desk_schema Enforced n went.0 [] (Err why) → ⊥
+    settles : (n : ℕ) → Rattle.sqlite_rules.specs.Action.Leads desk_schema Enforced n went.0 []
+        (Err why) → ⊥
     settles zero h = let e = h.1 in cc
     settles (suc n) h = omega (arith, ap length h.2, length-append h.0 (h.1 ∷ []))
 
 -- what follows the rows of a statement with no RETURNING
-pub never_concludes : (task : Task) (mode : Mode) (w : Written) (stop : Option Error) → task.schema ≡ desk_schema → Concludes task mode None w (Err stop) → ⊥
-never_concludes task mode w stop is (inl (s, tested, told)) = tested.0 (subst (λ s. Refers (due mode) s w.trees) (sym is) (refers (due mode) w.trees))
+pub never_concludes : (task : Task) (mode : Mode) (w : Written) (stop : Option Error)
+    → task.schema ≡ desk_schema → Concludes task mode None w (Err stop) → ⊥
+never_concludes task mode w stop is (inl (s, tested, told)) = tested.0
+    (subst (λ s. Refers (due mode) s w.trees) (sym is) (refers (due mode) w.trees))
 never_concludes task mode w stop is (inr (d, tested, inl (s, e, told))) = absurd (let no = e in cc)
-never_concludes task mode w stop is (inr (d, tested, inr (shown, e, gives))) = absurd (let no = gives in cc)
+never_concludes task mode w stop is (inr (d, tested, inr (shown, e, gives))) = absurd (let no =
+    gives in cc)
 
 -- ---- the other tables are as they were
 
-pub stored_with : (rows after : ℕ → List Row) (trees : Trees) (this : Table) (es : List Row) → Has desk_schema.tables this → AllStored desk_schema rows trees
-    → AllByRecursion (λ t. t.tree ≢ this.tree → after t.tree ≡ rows t.tree) desk_schema.tables → AreStored this (after this.tree) es → AllStored desk_schema after (with_tree trees this.tree es)
+pub stored_with : (rows after : ℕ → List Row) (trees : Trees) (this : Table) (es : List Row)
+    → Has desk_schema.tables this → AllStored desk_schema rows trees
+    → AllByRecursion (λ t. t.tree ≢ this.tree → after t.tree ≡ rows t.tree) desk_schema.tables
+    → AreStored this (after this.tree) es
+    → AllStored desk_schema after (with_tree trees this.tree es)
 stored_with rows after trees this es listed were same here =
     all_stored_after desk_schema rows after trees (with_tree trees this.tree es) this.tree were
-    (all_from (λ t. t.tree ≢ this.tree → with_tree trees this.tree es t.tree ≡ trees t.tree) desk_schema.tables (λ t there other. elsewhere (t.tree == this.tree) refl other)) same
-    (all_from (λ t. t.tree ≡ this.tree → AreStored t (after t.tree) (with_tree trees this.tree es t.tree)) desk_schema.tables (λ t there is.
+    (all_from (λ t. t.tree ≢ this.tree → with_tree trees this.tree es t.tree ≡ trees t.tree)
+    desk_schema.tables (λ t there other. elsewhere (t.tree == this.tree) refl other)) same
+    (all_from (λ t. t.tree ≡ this.tree
+    → AreStored t (after t.tree) (with_tree trees this.tree es t.tree)) desk_schema.tables
+    (λ t there is.
     let one = same_table desk_schema.tables t this apart there listed is in
-    subst (λ (u : Table). AreStored u (after u.tree) (with_tree trees this.tree es u.tree)) (sym one) (subst (AreStored this (after this.tree)) (sym (here_is (this.tree == this.tree) refl)) here)))
+    subst (λ (u : Table). AreStored u (after u.tree) (with_tree trees this.tree es u.tree))
+    (sym one) (subst (AreStored this (after this.tree))
+    (sym (here_is (this.tree == this.tree) refl)) here)))
   where
-    elsewhere : {t : ℕ} (b : Bool) → (t == this.tree) ≡ b → t ≢ this.tree → cond b es (trees t) ≡ trees t
+    elsewhere : {t : ℕ} (b : Bool) → (t == this.tree) ≡ b → t ≢ this.tree
+        → cond b es (trees t) ≡ trees t
     elsewhere true is other = absurd (other (grind (arith, nat_tests)))
     elsewhere false is other = refl
 
@@ -105,18 +134,31 @@ stored_with rows after trees this es listed were same here =
 
 -- ---- INSERT
 
-no_source : (limit : Option ℕ) (db : Database) (params : Row) (terms : List Term) (width : ℕ) (stop : Option Error) → limit ≡ None → accepts_terms terms params ≡ true → Sourced limit db params (Values terms width) (Err stop) → ⊥
+no_source : (limit : Option ℕ) (db : Database) (params : Row) (terms : List Term) (width : ℕ)
+    (stop : Option Error) → limit ≡ None → accepts_terms terms params ≡ true
+    → Sourced limit db params (Values terms width) (Err stop) → ⊥
 no_source limit db params terms width None none accepts refused = refused
-no_source limit db params terms width (Some e) none accepts (inl typed) = absurd (let no = rw accepts at typed.1 in cc)
-no_source limit db params terms width (Some e) none accepts (inr limited) = absurd (let no = rw none at limited.1 in cc)
+no_source limit db params terms width (Some e) none accepts (inl typed) = absurd (let no =
+    rw accepts at typed.1 in cc)
+no_source limit db params terms width (Some e) none accepts (inr limited) = absurd (let no =
+    rw none at limited.1 in cc)
 
-module _ (name : List ℕ) (tree : ℕ) (columns : List Column) (key : Option ℕ) (primary : List ℕ) (uniques : List (List ℕ)) (orders : List Order) where
+module _ (name : List ℕ) (tree : ℕ) (columns : List Column) (key : Option ℕ) (primary : List ℕ)
+    (uniques : List (List ℕ)) (orders : List Order) where
   abbrev this : Table
   this = table_of name tree columns key primary uniques orders
 
-  insert_free : (after : ℕ → List Row) (trees : Trees) (shown sources wanted : List Row) → table_reals this ≡ 0 → ArePut name tree columns key primary uniques orders trees (trees tree) shown sources wanted
-      → AllStored desk_schema after (with_tree trees tree (edited trees (edit_of trees this [] Chosen 0 sources))) → HaveKeys after → IsFree trees (edit_of trees this [] Chosen 0 sources)
-  insert_free after trees shown sources wanted none put stored keys = record { allowed = allowed; stored = λ row has. let it = all_has Right news row put.right has in never_oversized this row none it.light it.some it.few }
+  insert_free : (after : ℕ → List Row) (trees : Trees) (shown sources wanted : List Row)
+      → table_reals this ≡ 0 → ArePut name tree columns key primary uniques orders trees
+      (trees tree) shown sources wanted
+      → AllStored desk_schema after
+      (with_tree trees tree (edited trees (edit_of trees this [] Chosen 0 sources)))
+      → HaveKeys after → IsFree trees (edit_of trees this [] Chosen 0 sources)
+  insert_free after trees shown sources wanted none put stored keys = record {
+    allowed = allowed;
+    stored = λ row has. let it = all_has Right news row put.right has in
+        never_oversized this row none it.light it.some it.few;
+  }
     where
       Right : Row → Type 0
       Right = IsRight name tree columns key primary uniques orders trees
@@ -124,59 +166,123 @@ module _ (name : List ℕ) (tree : ℕ) (columns : List Column) (key : Option �
       news : List Row
       news = (edit_of trees this [] Chosen 0 sources).news
 
-      allowed : (why : Refusal) → IsRefused desk_schema Enforced trees (edit_of trees this [] Chosen 0 sources) why → ⊥
-      allowed (Violates Datatype) refused = contrary (list_all (passes Datatype desk_schema trees this) news) (test_from (passes Datatype desk_schema trees this) news (λ r h. (all_has Right news r put.right h).typed)) refused
-      allowed (Violates NotNull) refused = contrary (list_all (passes NotNull desk_schema trees this) news) (test_from (passes NotNull desk_schema trees this) news (λ r h. (all_has Right news r put.right h).present)) refused
-      allowed (Violates Check) refused = contrary (list_all (passes Check desk_schema trees this) news) (test_from (passes Check desk_schema trees this) news (λ r h. refl)) refused
+      allowed : (why : Refusal) → IsRefused desk_schema Enforced trees
+          (edit_of trees this [] Chosen 0 sources) why → ⊥
+      allowed (Violates Datatype) refused = contrary
+          (list_all (passes Datatype desk_schema trees this) news)
+          (test_from (passes Datatype desk_schema trees this) news
+          (λ r h. (all_has Right news r put.right h).typed)) refused
+      allowed (Violates NotNull) refused = contrary
+          (list_all (passes NotNull desk_schema trees this) news)
+          (test_from (passes NotNull desk_schema trees this) news
+          (λ r h. (all_has Right news r put.right h).present)) refused
+      allowed (Violates Check) refused = contrary
+          (list_all (passes Check desk_schema trees this) news)
+          (test_from (passes Check desk_schema trees this) news (λ r h. refl)) refused
       allowed (Violates PrimaryKey) refused = absurd (let no = sym refused ∙ put.fresh in cc)
-      allowed (Violates Unique) refused = refused (unique_kept after (with_tree trees tree (edited trees (edit_of trees this [] Chosen 0 sources))) stored keys)
+      allowed (Violates Unique) refused = refused
+          (unique_kept after (with_tree trees tree
+          (edited trees (edit_of trees this [] Chosen 0 sources))) stored keys)
       allowed (Violates ForeignKey) refused = refused
       allowed Mismatch refused = absurd (let no = sym refused ∙ put.keyed in cc)
       allowed NoRowid refused = absurd (let no = sym refused ∙ put.fits in cc)
-      allowed BadReference refused = absurd (let no = sym refused ∙ fits_none this refl (nat_lt 0 (length news)) false in cc)
+      allowed BadReference refused = absurd (let no = sym refused
+          ∙ fits_none this refl (nat_lt 0 (length news)) false in cc)
       allowed TooDeep refused = refused
 
-  module _ (limit : Option ℕ) (none : limit ≡ None) (keys : Keys) (params : Row) (db : Trees) (terms : List Term) (width : ℕ) (accepts : accepts_terms terms params ≡ true)
-      (free : IsFree db (edit_of db this [] Chosen 0 (value_rows params width (length terms / width) terms))) where
+  module _ (limit : Option ℕ) (none : limit ≡ None) (keys : Keys) (params : Row) (db : Trees)
+      (terms : List Term) (width : ℕ) (accepts : accepts_terms terms params ≡ true)
+      (free : IsFree db (edit_of db this [] Chosen 0
+      (value_rows params width (length terms / width) terms))) where
     abbrev task : Task
-    task = record { limit = limit; keys = Enforced; schema = desk_schema; table = this; params = params }
+    task = record {
+      limit = limit;
+      keys = Enforced;
+      schema = desk_schema;
+      table = this;
+      params = params;
+    }
 
     never_inserts : (stop : Option Error) → Inserts task (Values terms width) db (Err stop) → ⊥
-    never_inserts stop (inl (s, sourced, told)) = no_source limit (record { schema = desk_schema; trees = db }) (params ++ []) terms width s none (rw append-nil accepts) sourced
+    never_inserts stop (inl (s, sourced, told)) = no_source limit
+        (record { schema = desk_schema; trees = db }) (params ++ []) terms width s none
+        (rw append-nil accepts) sourced
     never_inserts stop (inr (rows, sourced, inl (s, e, told))) = absurd (let no = e in cc)
     never_inserts stop (inr (rows, sourced, inr (counter, c, inl (s, stopped, told)))) =
-        let given : value_rows params width (length terms / width) terms ≡ rows = sym (sourced.1 ∙ rw append-nil refl) in
-        never_stops db (edit_of db this [] Chosen 0 rows) s (subst (λ rows. IsFree db (edit_of db this [] Chosen 0 rows)) given free) stopped
-    never_inserts stop (inr (rows, sourced, inr (counter, c, inr (mid, e, inl (s, counts, told))))) = absurd (let no = counts in cc)
-    never_inserts stop (inr (rows, sourced, inr (counter, c, inr (mid, e, inr (next, counts, gives))))) = absurd (let no = gives in cc)
+        let given : value_rows params width (length terms / width) terms ≡ rows =
+        sym (sourced.1 ∙ rw append-nil refl) in
+        never_stops db (edit_of db this [] Chosen 0 rows) s
+        (subst (λ rows. IsFree db (edit_of db this [] Chosen 0 rows)) given free) stopped
+    never_inserts stop (inr (
+      rows,
+      sourced,
+      inr (counter, c, inr (mid, e, inl (s, counts, told))),
+    )) = absurd (let no = counts in cc)
+    never_inserts stop (inr (
+      rows,
+      sourced,
+      inr (counter, c, inr (mid, e, inr (next, counts, gives))),
+    )) = absurd (let no = gives in cc)
 
-  module _ (place : ℕ) (listed : slice_get desk_schema.tables place ≡ Some this) (s : State) (has : s.now.schema ≡ desk_schema) (none : s.step_limit ≡ None) (params : Row) (text : List ℕ)
-      (terms : List Term) (width : ℕ) (accepts : accepts_terms terms params ≡ true) (free : IsFree s.now.trees (edit_of s.now.trees this [] Chosen 0 (value_rows params width (length terms / width) terms))) where
-    pub never_refused : (stop : Option Error) → Does s.step_limit (mode_of s) params s.now text None (Insert place (Values terms width)) (Err stop) → ⊥
+  module _ (place : ℕ) (listed : slice_get desk_schema.tables place ≡ Some this) (s : State)
+      (has : s.now.schema ≡ desk_schema) (none : s.step_limit ≡ None) (params : Row) (text : List ℕ)
+      (terms : List Term) (width : ℕ) (accepts : accepts_terms terms params ≡ true)
+      (free : IsFree s.now.trees (edit_of s.now.trees this [] Chosen 0
+      (value_rows params width (length terms / width) terms))) where
+    pub never_refused : (stop : Option Error)
+        → Does s.step_limit (mode_of s) params s.now text None (Insert place (Values terms width))
+        (Err stop) → ⊥
     never_refused stop did = go (rw (has, listed) at did)
       where
         doing : Task
-        doing = record { limit = s.step_limit; keys = Enforced; schema = desk_schema; table = this; params = params }
+        doing = record {
+          limit = s.step_limit;
+          keys = Enforced;
+          schema = desk_schema;
+          table = this;
+          params = params;
+        }
 
-        go : Then (Inserts doing (Values terms width) s.now.trees) (Concludes doing (mode_of s) None) (Err stop) → ⊥
-        go (inl (st, inserts, told)) = never_inserts s.step_limit none Enforced params s.now.trees terms width accepts free st inserts
+        go : Then (Inserts doing (Values terms width) s.now.trees)
+            (Concludes doing (mode_of s) None) (Err stop) → ⊥
+        go (inl (st, inserts, told)) = never_inserts s.step_limit none Enforced params s.now.trees
+            terms width accepts free st inserts
         go (inr (w, inserts, concludes)) = never_concludes doing (mode_of s) w stop refl concludes
 
   -- ---- an INSERT of rows that the tables can hold
 
-  module _ (place : ℕ) (listed : slice_get desk_schema.tables place ≡ Some this) (rows after : ℕ → List Row) (same : AllByRecursion (λ t. t.tree ≢ tree → after t.tree ≡ rows t.tree) desk_schema.tables)
-      (s : State) (has : HasRows rows s.now) (none : s.step_limit ≡ None) (params : Row) (text : List ℕ) (terms : List Term) (width : ℕ) (accepts : accepts_terms terms params ≡ true)
-      (sources wanted : List Row) (source : value_rows params width (length terms / width) terms ≡ sources) (reals : table_reals this ≡ 0) (first : IsFirst name tree columns key primary uniques orders key)
-      (make : Make name tree columns key primary uniques orders sources wanted) (shows : AreShown name tree columns key primary uniques orders wanted) (suits : AllByRecursion (Suits name tree columns key primary uniques orders s.now.trees) wanted)
-      (perm : IsPermutation (after tree) (wanted ++ rows tree)) (keys : HaveKeys after) (room : HasRoom (length wanted) s.now.trees) where
-    pub never_inserted : (stop : Option Error) → Does s.step_limit (mode_of s) params s.now text None (Insert place (Values terms width)) (Err stop) → ⊥
+  module _ (place : ℕ) (listed : slice_get desk_schema.tables place ≡ Some this)
+      (rows after : ℕ → List Row) (same : AllByRecursion
+      (λ t. t.tree ≢ tree → after t.tree ≡ rows t.tree) desk_schema.tables)
+      (s : State) (has : HasRows rows s.now) (none : s.step_limit ≡ None) (params : Row)
+      (text : List ℕ) (terms : List Term) (width : ℕ) (accepts : accepts_terms terms params ≡ true)
+      (sources wanted : List Row) (source : value_rows params width (length terms / width) terms
+      ≡ sources) (reals : table_reals this ≡ 0)
+      (first : IsFirst name tree columns key primary uniques orders key)
+      (make : Make name tree columns key primary uniques orders sources wanted)
+      (shows : AreShown name tree columns key primary uniques orders wanted)
+      (suits : AllByRecursion (Suits name tree columns key primary uniques orders s.now.trees)
+      wanted)
+      (perm : IsPermutation (after tree) (wanted ++ rows tree)) (keys : HaveKeys after)
+      (room : HasRoom (length wanted) s.now.trees) where
+    pub never_inserted : (stop : Option Error)
+        → Does s.step_limit (mode_of s) params s.now text None (Insert place (Values terms width))
+        (Err stop) → ⊥
     never_inserted =
         let trees = s.now.trees in
         let there = has_got desk_schema.tables place this listed in
-        let mine = all_has (λ t. AreStored t (rows t.tree) (trees t.tree)) desk_schema.tables this has.stored there in
-        let once = (all_has (λ t. AllByRecursion (StandsOnce (after t.tree)) (t.primary ∷ t.uniques)) desk_schema.tables this keys there).0 in
-        let put = puts name tree columns key primary uniques orders trees first sources wanted (rows tree) (trees tree) mine make shows suits (once_permuted (after tree) (wanted ++ rows tree) primary perm once)
-        (omega (arith, room.few)) (all_has (λ t. t.key ≡ None → AllByRecursion (λ r. LeavesRoom (length wanted) (rowid r)) (trees t.tree)) desk_schema.tables this room.room there) in
-        let stored = stored_with rows after trees this _ there has.stored same (stored_as this (wanted ++ rows tree) (after tree) _ perm put.are) in
+        let mine = all_has (λ t. AreStored t (rows t.tree) (trees t.tree)) desk_schema.tables this
+        has.stored there in
+        let once = (all_has (λ t. AllByRecursion (StandsOnce (after t.tree))
+        (t.primary ∷ t.uniques)) desk_schema.tables this keys there).0 in
+        let put = puts name tree columns key primary uniques orders trees first sources wanted
+        (rows tree) (trees tree) mine make shows suits
+        (once_permuted (after tree) (wanted ++ rows tree) primary perm once)
+        (omega (arith, room.few)) (all_has
+        (λ t. t.key ≡ None → AllByRecursion (λ r. LeavesRoom (length wanted) (rowid r))
+        (trees t.tree)) desk_schema.tables this room.room there) in
+        let stored = stored_with rows after trees this _ there has.stored same
+        (stored_as this (wanted ++ rows tree) (after tree) _ perm put.are) in
         let free = insert_free after trees (rows tree) sources wanted reals put stored keys in
-        never_refused place listed s has.declared none params text terms width accepts (subst (λ rows. IsFree trees (edit_of trees this [] Chosen 0 rows)) (sym source) free)
+        never_refused place listed s has.declared none params text terms width accepts
+        (subst (λ rows. IsFree trees (edit_of trees this [] Chosen 0 rows)) (sym source) free)

@@ -18,39 +18,52 @@ one_numbered n m = grind (arith, nat_tests)
 
 pub sets_one : (row : ChangeRow) → Sets (row ∷ []) row.duty row.duty (state_after row.word)
 sets_one row [] = refl
-sets_one row (d ∷ ds) = λ i. (if one_numbered row.duty d.number i then with_duty_state (state_after row.word) d else d) ∷ sets_one row ds i
+sets_one row (d ∷ ds) = λ i. (if one_numbered row.duty d.number i
+    then with_duty_state (state_after row.word) d else d) ∷ sets_one row ds i
 
 -- One more at the front of a run
 
-more_numbered : (n last m : ℕ) → n + 1 ≤ last → (nat_le n m && nat_le m last) ≡ ((m == n) || (nat_le (n + 1) m && nat_le m last))
+more_numbered : (n last m : ℕ) → n + 1 ≤ last
+    → (nat_le n m && nat_le m last) ≡ ((m == n) || (nat_le (n + 1) m && nat_le m last))
 more_numbered n last m low = grind (arith, nat_tests)
 
-twice : {X : Type 0} (w : X → X) (d : X) (b c : Bool) → ((x : X) → w (w x) ≡ w x) → c ≡ (b || true) → (if b then w (w d) else w d) ≡ (if c then w d else d)
+twice : {X : Type 0} (w : X → X) (d : X) (b c : Bool) → ((x : X) → w (w x) ≡ w x) → c ≡ (b || true)
+    → (if b then w (w d) else w d) ≡ (if c then w d else d)
 twice w d true c same is = same d ∙ sym (ap (λ c. if c then w d else d) is)
 twice w d false c same is = sym (ap (λ c. if c then w d else d) is)
 
-once : {X : Type 0} (w : X → X) (d : X) (b c : Bool) → c ≡ (b || false) → (if b then w d else d) ≡ (if c then w d else d)
+once : {X : Type 0} (w : X → X) (d : X) (b c : Bool) → c ≡ (b || false)
+    → (if b then w d else d) ≡ (if c then w d else d)
 once w d true c is = sym (ap (λ c. if c then w d else d) is)
 once w d false c is = sym (ap (λ c. if c then w d else d) is)
 
 set_again : (n : ℕ) (to : DutyState) (d : DutyRow) (a c : Bool) → c ≡ ((d.number == n) || a)
-    → (let e : DutyRow = if a then with_duty_state to d else d in if is_duty n e then with_duty_state to e else e) ≡ (if c then with_duty_state to d else d)
+    → (let e : DutyRow = if a then with_duty_state to d else d in
+    if is_duty n e then with_duty_state to e else e) ≡ (if c then with_duty_state to d else d)
 set_again n to d true c is = twice (with_duty_state to) d (d.number == n) c (λ x. refl) is
 set_again n to d false c is = once (with_duty_state to) d (d.number == n) c is
 
 set_next : (n last : ℕ) (to : DutyState) → n + 1 ≤ last → (duties : List DutyRow)
-    → updated (is_duty n) (with_duty_state to) (updated (is_numbered (n + 1) last) (with_duty_state to) duties) ≡ updated (is_numbered n last) (with_duty_state to) duties
+    → updated (is_duty n) (with_duty_state to)
+    (updated (is_numbered (n + 1) last) (with_duty_state to) duties)
+    ≡ updated (is_numbered n last) (with_duty_state to) duties
 set_next n last to low [] = refl
-set_next n last to low (d ∷ ds) = λ i. set_again n to d (is_numbered (n + 1) last d) (is_numbered n last d) (more_numbered n last d.number low) i ∷ set_next n last to low ds i
+set_next n last to low (d ∷ ds) = λ i. set_again n to d (is_numbered (n + 1) last d)
+    (is_numbered n last d) (more_numbered n last d.number low) i ∷ set_next n last to low ds i
 
-pub sets_next : (row : ChangeRow) (run : List ChangeRow) (first last : ℕ) (to : DutyState) → row.duty + 1 ≡ first → first ≤ last → state_after row.word ≡ to → Sets run first last to → Sets (row ∷ run) row.duty last to
+pub sets_next : (row : ChangeRow) (run : List ChangeRow) (first last : ℕ) (to : DutyState)
+    → row.duty + 1 ≡ first → first ≤ last → state_after row.word ≡ to → Sets run first last to
+    → Sets (row ∷ run) row.duty last to
 sets_next row run first last to next low leaves sets duties =
     (λ i. updated (is_duty row.duty) (with_duty_state (leaves i)) (sets duties i))
-    ∙ ap (λ k. updated (is_duty row.duty) (with_duty_state to) (updated (is_numbered k last) (with_duty_state to) duties)) (sym next)
+    ∙ ap (λ k. updated (is_duty row.duty) (with_duty_state to)
+    (updated (is_numbered k last) (with_duty_state to) duties)) (sym next)
     ∙ set_next row.duty last to (omega arith) duties
 
 -- Changes before others
 
-pub moved_both : (xs ys : List ChangeRow) (duties : List DutyRow) → moved_by (xs ++ ys) duties ≡ moved_by xs (moved_by ys duties)
+pub moved_both : (xs ys : List ChangeRow) (duties : List DutyRow)
+    → moved_by (xs ++ ys) duties ≡ moved_by xs (moved_by ys duties)
 moved_both [] ys duties = refl
-moved_both (x ∷ xs) ys duties = ap (updated (is_duty x.duty) (with_duty_state (state_after x.word))) (moved_both xs ys duties)
+moved_both (x ∷ xs) ys duties = ap (updated (is_duty x.duty) (with_duty_state (state_after x.word)))
+    (moved_both xs ys duties)

@@ -1,5 +1,6 @@
 -- The tables can hold duties whose states are set if they could hold them before.
-use Rattle.std.proofs.Common.{◌≡◌, ◌≢◌, inl, ℕ, ◌^◌, ◌<◌, ◌≤◌, Bool, true, false, cond, List, [], ◌∷◌, filter, map, length, refl, sym, subst, arith}
+use Rattle.std.proofs.Common.{◌≡◌, ◌≢◌, inl, ℕ, ◌^◌, ◌<◌, ◌≤◌, Bool, true, false, cond, List, []}
+use Rattle.std.proofs.Common.{◌∷◌, filter, map, length, refl, sym, subst, arith}
 use Rattle.std.specs.Prelude.{◌==◌}
 use Rattle.std.specs.List.{AllByRecursion}
 use Rattle.std.proofs.lemmas.Bool.Decides.{nat_tests}
@@ -33,7 +34,10 @@ state_small duty.Met = omega arith
 state_small duty.Waived = omega arith
 state_small duty.Withdrawn = omega arith
 
-set_small : (n : ℕ) (s : DutyState) (duties : List DutyRow) → AllByRecursion (AllByRecursion IsSmall) (map duty_cells duties) → AllByRecursion (AllByRecursion IsSmall) (map duty_cells (updated (is_duty n) (with_duty_state s) duties))
+set_small : (n : ℕ) (s : DutyState) (duties : List DutyRow)
+    → AllByRecursion (AllByRecursion IsSmall) (map duty_cells duties)
+    → AllByRecursion (AllByRecursion IsSmall)
+    (map duty_cells (updated (is_duty n) (with_duty_state s) duties))
 set_small n s [] small = tt
 set_small n s (d ∷ duties) small = (go (is_duty n d), set_small n s duties small.1)
   where
@@ -41,13 +45,20 @@ set_small n s (d ∷ duties) small = (go (is_duty n d), set_small n s duties sma
     go true = (small.0.0, (small.0.1.0, (small.0.1.1.0, (small.0.1.1.1.0, (small.0.1.1.1.1.0, (small.0.1.1.1.1.1.0, (small.0.1.1.1.1.1.1.0, (state_small s, tt))))))))
     go false = small.0
 
-set_once : (n : ℕ) (s : DutyState) (h : Row → Bool) → ((d : DutyRow) → h (duty_cells (with_duty_state s d)) ≡ h (duty_cells d)) → (duties : List DutyRow)
-    → length (filter h (map duty_cells (updated (is_duty n) (with_duty_state s) duties))) ≡ length (filter h (map duty_cells duties))
+set_once : (n : ℕ) (s : DutyState) (h : Row → Bool)
+    → ((d : DutyRow) → h (duty_cells (with_duty_state s d)) ≡ h (duty_cells d))
+    → (duties : List DutyRow)
+    → length (filter h (map duty_cells (updated (is_duty n) (with_duty_state s) duties)))
+    ≡ length (filter h (map duty_cells duties))
 set_once n s h same [] = refl
-set_once n s h same (d ∷ duties) = go (set_once n s h same duties) (h (duty_cells d)) refl (is_duty n d)
+set_once n s h same (d ∷ duties) = go (set_once n s h same duties) (h (duty_cells d)) refl
+    (is_duty n d)
   where
-    go : length (filter h (map duty_cells (updated (is_duty n) (with_duty_state s) duties))) ≡ length (filter h (map duty_cells duties)) → (c : Bool) → h (duty_cells d) ≡ c → (b : Bool)
-        → length (filter h (duty_cells (cond b (with_duty_state s d) d) ∷ map duty_cells (updated (is_duty n) (with_duty_state s) duties))) ≡ length (filter h (duty_cells d ∷ map duty_cells duties))
+    go : length (filter h (map duty_cells (updated (is_duty n) (with_duty_state s) duties)))
+        ≡ length (filter h (map duty_cells duties)) → (c : Bool) → h (duty_cells d) ≡ c → (b : Bool)
+        → length (filter h (duty_cells (cond b (with_duty_state s d) d)
+        ∷ map duty_cells (updated (is_duty n) (with_duty_state s) duties)))
+        ≡ length (filter h (duty_cells d ∷ map duty_cells duties))
     go more true is true = rw (same d, is) (omega (arith, more))
     go more false is true = rw (same d, is) more
     go more true is false = rw is (omega (arith, more))
@@ -59,49 +70,92 @@ set_all n s t = record t { duty = updated (is_duty n) (with_duty_state s) t.duty
 listed : Has desk_schema.tables duty_table
 listed = has_got desk_schema.tables 12 duty_table refl
 
-elsewhere : (n : ℕ) (s : DutyState) (it : Tables) → AllByRecursion (λ t. t.tree ≢ 23 → rows_of (set_all n s it) t.tree ≡ rows_of it t.tree) desk_schema.tables
+elsewhere : (n : ℕ) (s : DutyState) (it : Tables)
+    → AllByRecursion (λ t. t.tree ≢ 23 → rows_of (set_all n s it) t.tree ≡ rows_of it t.tree)
+    desk_schema.tables
 elsewhere n s it = (λ n. refl, (λ n. refl, (λ n. refl, (λ n. refl, (λ n. refl, (λ n. refl, (λ n. refl, (λ n. refl, (λ n. refl, (λ n. refl, (λ n. refl, (λ n. refl, (λ n. absurd (n refl), (λ n. refl, (λ n. refl, (λ n. refl, tt))))))))))))))))
 
-pub set_stand : (n : ℕ) (s : DutyState) (it : Tables) → CanStand (rows_of it) → CanStand (rows_of (set_all n s it))
+pub set_stand : (n : ℕ) (s : DutyState) (it : Tables) → CanStand (rows_of it)
+    → CanStand (rows_of (set_all n s it))
 set_stand n s it can = record {
-  small = all_from (λ t. AllByRecursion (AllByRecursion IsSmall) (rows_of (set_all n s it) t.tree)) desk_schema.tables (λ t there. small t there (t.tree == 23) refl);
-  keys = all_from (λ t. AllByRecursion (StandsOnce (rows_of (set_all n s it) t.tree)) (t.primary ∷ t.uniques)) desk_schema.tables (λ t there. keys t there (t.tree == 23) refl);
+  small = all_from (λ t. AllByRecursion (AllByRecursion IsSmall) (rows_of (set_all n s it) t.tree))
+      desk_schema.tables (λ t there. small t there (t.tree == 23) refl);
+  keys = all_from (λ t. AllByRecursion (StandsOnce (rows_of (set_all n s it) t.tree))
+      (t.primary ∷ t.uniques)) desk_schema.tables (λ t there. keys t there (t.tree == 23) refl);
 }
   where
     one : (t : Table) → Has desk_schema.tables t → (t.tree == 23) ≡ true → t ≡ duty_table
-    one t there is = same_table desk_schema.tables t duty_table apart there listed (grind (arith, nat_tests))
+    one t there is = same_table desk_schema.tables t duty_table apart there listed
+        (grind (arith, nat_tests))
 
-    kept : (t : Table) → Has desk_schema.tables t → (t.tree == 23) ≡ false → rows_of (set_all n s it) t.tree ≡ rows_of it t.tree
-    kept t there is = all_has (λ t. t.tree ≢ 23 → rows_of (set_all n s it) t.tree ≡ rows_of it t.tree) desk_schema.tables t (elsewhere n s it) there (λ e. grind (arith, nat_tests))
+    kept : (t : Table) → Has desk_schema.tables t → (t.tree == 23) ≡ false
+        → rows_of (set_all n s it) t.tree ≡ rows_of it t.tree
+    kept t there is = all_has (λ t. t.tree ≢ 23
+        → rows_of (set_all n s it) t.tree ≡ rows_of it t.tree) desk_schema.tables t
+        (elsewhere n s it) there (λ e. grind (arith, nat_tests))
 
-    small : (t : Table) → Has desk_schema.tables t → (b : Bool) → (t.tree == 23) ≡ b → AllByRecursion (AllByRecursion IsSmall) (rows_of (set_all n s it) t.tree)
+    small : (t : Table) → Has desk_schema.tables t → (b : Bool) → (t.tree == 23) ≡ b
+        → AllByRecursion (AllByRecursion IsSmall) (rows_of (set_all n s it) t.tree)
     small t there true is =
-        subst (λ (u : Table). AllByRecursion (AllByRecursion IsSmall) (rows_of (set_all n s it) u.tree)) (sym (one t there is))
-        (set_small n s it.duty (all_has (λ t. AllByRecursion (AllByRecursion IsSmall) (rows_of it t.tree)) desk_schema.tables duty_table can.small listed))
-    small t there false is = subst (AllByRecursion (AllByRecursion IsSmall)) (sym (kept t there is)) (all_has (λ t. AllByRecursion (AllByRecursion IsSmall) (rows_of it t.tree)) desk_schema.tables t can.small there)
+        subst (λ (u : Table). AllByRecursion (AllByRecursion IsSmall)
+        (rows_of (set_all n s it) u.tree)) (sym (one t there is))
+        (set_small n s it.duty (all_has
+        (λ t. AllByRecursion (AllByRecursion IsSmall) (rows_of it t.tree)) desk_schema.tables
+        duty_table can.small listed))
+    small t there false is = subst (AllByRecursion (AllByRecursion IsSmall)) (sym (kept t there is))
+        (all_has (λ t. AllByRecursion (AllByRecursion IsSmall) (rows_of it t.tree))
+        desk_schema.tables t can.small there)
 
-    mine : AllByRecursion (StandsOnce (map duty_cells it.duty)) (duty_table.primary ∷ duty_table.uniques)
-    mine = all_has (λ t. AllByRecursion (StandsOnce (rows_of it t.tree)) (t.primary ∷ t.uniques)) desk_schema.tables duty_table can.keys listed
+    mine : AllByRecursion (StandsOnce (map duty_cells it.duty))
+        (duty_table.primary ∷ duty_table.uniques)
+    mine = all_has (λ t. AllByRecursion (StandsOnce (rows_of it t.tree)) (t.primary ∷ t.uniques))
+        desk_schema.tables duty_table can.keys listed
 
     numbers : StandsOnce (map duty_cells (updated (is_duty n) (with_duty_state s) it.duty)) (0 ∷ [])
-    numbers key = omega (arith, mine.0 key, set_once n s (λ row. agree plain (in_cells (0 ∷ [])) row (in_cells (0 ∷ [])) key) (λ d. refl) it.duty)
+    numbers key = omega (
+      arith,
+      mine.0 key,
+      set_once n s (λ row. agree plain (in_cells (0 ∷ [])) row (in_cells (0 ∷ [])) key) (λ d. refl)
+          it.duty,
+    )
 
-    places : StandsOnce (map duty_cells (updated (is_duty n) (with_duty_state s) it.duty)) (2 ∷ 3 ∷ 4 ∷ 5 ∷ 6 ∷ [])
-    places key = omega (arith, mine.1.0 key, set_once n s (λ row. agree plain (in_cells (2 ∷ 3 ∷ 4 ∷ 5 ∷ 6 ∷ [])) row (in_cells (2 ∷ 3 ∷ 4 ∷ 5 ∷ 6 ∷ [])) key) (λ d. refl) it.duty)
+    places : StandsOnce (map duty_cells (updated (is_duty n) (with_duty_state s) it.duty))
+        (2 ∷ 3 ∷ 4 ∷ 5 ∷ 6 ∷ [])
+    places key = omega (
+      arith,
+      mine.1.0 key,
+      set_once n s (λ row. agree plain (in_cells (2 ∷ 3 ∷ 4 ∷ 5 ∷ 6 ∷ [])) row
+          (in_cells (2 ∷ 3 ∷ 4 ∷ 5 ∷ 6 ∷ [])) key) (λ d. refl) it.duty,
+    )
 
-    keys : (t : Table) → Has desk_schema.tables t → (b : Bool) → (t.tree == 23) ≡ b → AllByRecursion (StandsOnce (rows_of (set_all n s it) t.tree)) (t.primary ∷ t.uniques)
-    keys t there true is = subst (λ (u : Table). AllByRecursion (StandsOnce (rows_of (set_all n s it) u.tree)) (u.primary ∷ u.uniques)) (sym (one t there is)) (numbers, (places, tt))
-    keys t there false is = subst (λ rows. AllByRecursion (StandsOnce rows) (t.primary ∷ t.uniques)) (sym (kept t there is)) (all_has (λ t. AllByRecursion (StandsOnce (rows_of it t.tree)) (t.primary ∷ t.uniques)) desk_schema.tables t can.keys there)
+    keys : (t : Table) → Has desk_schema.tables t → (b : Bool) → (t.tree == 23) ≡ b
+        → AllByRecursion (StandsOnce (rows_of (set_all n s it) t.tree)) (t.primary ∷ t.uniques)
+    keys t there true is = subst (λ (u : Table). AllByRecursion
+        (StandsOnce (rows_of (set_all n s it) u.tree)) (u.primary ∷ u.uniques))
+        (sym (one t there is)) (
+          numbers,
+          (places, tt),
+        )
+    keys t there false is = subst (λ rows. AllByRecursion (StandsOnce rows) (t.primary ∷ t.uniques))
+        (sym (kept t there is)) (all_has
+        (λ t. AllByRecursion (StandsOnce (rows_of it t.tree)) (t.primary ∷ t.uniques))
+        desk_schema.tables t can.keys there)
 
-pub moved_stand : (changes : List ChangeRow) (it : Tables) → CanStand (rows_of it) → CanStand (rows_of (record it { duty = moved_by changes it.duty }))
+pub moved_stand : (changes : List ChangeRow) (it : Tables) → CanStand (rows_of it)
+    → CanStand (rows_of (record it { duty = moved_by changes it.duty }))
 moved_stand [] it can = can
-moved_stand (c ∷ changes) it can = set_stand c.duty (state_after c.word) (record it { duty = moved_by changes it.duty }) (moved_stand changes it can)
+moved_stand (c ∷ changes) it can = set_stand c.duty (state_after c.word)
+    (record it { duty = moved_by changes it.duty }) (moved_stand changes it can)
 
 -- ---- a release whose revision is no number of 32 bits
 
-pub last_small : (rows : ℕ → List Row) (row : ReleaseRow) → CanStand (with_rows releases_table.tree (release_cells row ∷ []) rows) → row.revision < 2 ^ 32
+pub last_small : (rows : ℕ → List Row) (row : ReleaseRow)
+    → CanStand (with_rows releases_table.tree (release_cells row ∷ []) rows) → row.revision < 2 ^ 32
 last_small rows row can =
     let now = with_rows releases_table.tree (release_cells row ∷ []) rows in
-    let small = all_has (λ t. AllByRecursion (AllByRecursion IsSmall) (now t.tree)) desk_schema.tables releases_table can.small (has_got desk_schema.tables 8 releases_table refl) in
-    let last = all_has (AllByRecursion IsSmall) (now 14) (release_cells row) small (has_right (rows 14) (release_cells row ∷ []) (release_cells row) (inl refl)) in
+    let small = all_has (λ t. AllByRecursion (AllByRecursion IsSmall) (now t.tree))
+    desk_schema.tables releases_table can.small
+    (has_got desk_schema.tables 8 releases_table refl) in
+    let last = all_has (AllByRecursion IsSmall) (now 14) (release_cells row) small
+    (has_right (rows 14) (release_cells row ∷ []) (release_cells row) (inl refl)) in
     last.1.1.1.1.0

@@ -1,5 +1,7 @@
 -- A row of small cells can be stored, with its entries in the indexes.
-use Rattle.std.proofs.Common.{◌≡◌, inl, inr, ℕ, zero, suc, ℤ, pos, negsuc, ◌+◌, ◌^◌, ◌<◌, ◌≤◌, true, All, List, [], ◌∷◌, length, map, get_or, refl, sym, subst, arith, mul-le-mul_right}
+use Rattle.std.proofs.Common.{◌≡◌, inl, inr, ℕ, zero, suc, ℤ, pos, negsuc, ◌+◌, ◌^◌, ◌<◌, ◌≤◌, true}
+use Rattle.std.proofs.Common.{All, List, [], ◌∷◌, length, map, get_or, refl, sym, subst, arith}
+use Rattle.std.proofs.Common.{mul-le-mul_right}
 use Rattle.std.specs.Prelude.{nat_le}
 use Rattle.std.specs.List.{AllByRecursion, list_all}
 use Rattle.std.specs.Float.{NotNan}
@@ -53,14 +55,19 @@ column_light [] all (suc c) = null_light
 column_light (v ∷ row) all zero = all.0
 column_light (v ∷ row) all (suc c) = column_light row all.1 c
 
-storable : (entry : Row) → All IsLight entry → 0 < length entry → length entry ≤ 9 → IsStorable 0 entry
+storable : (entry : Row) → All IsLight entry → 0 < length entry → length entry ≤ 9
+    → IsStorable 0 entry
 storable entry all some few =
     let size = λ (v : Value). 18 + length (bytes v) in
     record {
       typed = λ c set. absurd (omega (arith, bit_at-zero c, set));
       columns = (some, omega (arith, few));
       numbers = λ i d low. (all i d low).0;
-      short = omega (arith, sum_by-le size (10 ^ 8 + 18) entry (λ i d low. (all i d low).1), mul-le-mul_right (10 ^ 8 + 18) few);
+      short = omega (
+        arith,
+        sum_by-le size (10 ^ 8 + 18) entry (λ i d low. (all i d low).1),
+        mul-le-mul_right (10 ^ 8 + 18) few,
+      );
     }
 
 pub no_reals : (places : List ℕ) → index_reals 0 places ≡ 0
@@ -70,12 +77,28 @@ no_reals (p ∷ places) = omega (arith, bit_at-zero p, no_reals places)
 narrow : list_all (λ i. nat_le (length i.columns) 8) desk_schema.indexes ≡ true
 narrow = refl
 
-pub never_oversized : (table : Table) (row : Row) → table_reals table ≡ 0 → AllByRecursion IsLight row → 1 < length row → length row ≤ 9 → ¬ IsOversized desk_schema table row
+pub never_oversized : (table : Table) (row : Row) → table_reals table ≡ 0
+    → AllByRecursion IsLight row → 1 < length row → length row ≤ 9
+    → ¬ IsOversized desk_schema table row
 never_oversized table row none light some few (inl big) =
-    big (subst (λ n. IsStorable n row) (sym none) (storable row (All-from_recursion IsLight row light) (omega (arith, some)) few), some)
+    big (
+      subst (λ n. IsStorable n row) (sym none)
+          (storable row (All-from_recursion IsLight row light) (omega (arith, some)) few),
+      some,
+    )
 never_oversized table row none light some few (inr (i, has, of, big)) =
-    let width : length i.columns ≤ 8 = let low = test_has (λ i. nat_le (length i.columns) 8) desk_schema.indexes i narrow has in grind (arith, nat_tests) in
+    let width : length i.columns ≤ 8 = let low =
+    test_has (λ i. nat_le (length i.columns) 8) desk_schema.indexes i narrow has in
+    grind (arith, nat_tests) in
     let entry = entry_of i.columns row in
-    let size : length entry ≡ length i.columns + 1 = omega (arith, length_push (map (column row) i.columns) (column row 0), length-map i.columns (column row)) in
-    let all : All IsLight entry = All-push IsLight _ _ (All-map IsLight (column row) i.columns (λ k d low. column_light row light (get_or i.columns k d))) (column_light row light 0) in
-    big (rw (none, no_reals i.columns) (storable entry all (omega (arith, size)) (omega (arith, size, width))))
+    let size : length entry ≡ length i.columns + 1 =
+    omega (
+      arith,
+      length_push (map (column row) i.columns) (column row 0),
+      length-map i.columns (column row),
+    ) in
+    let all : All IsLight entry =
+    All-push IsLight _ _ (All-map IsLight (column row) i.columns
+    (λ k d low. column_light row light (get_or i.columns k d))) (column_light row light 0) in
+    big (rw (none, no_reals i.columns)
+    (storable entry all (omega (arith, size)) (omega (arith, size, width))))

@@ -1,5 +1,8 @@
 -- An UPDATE fails only for a cause, if the tables can hold the rows after it.
-use Rattle.std.proofs.Common.{◌≡◌, ◌≢◌, ◌∙◌, inl, inr, ℕ, ℤ, suc, ◌+◌, ◌≤◌, Bool, true, false, not, List, [], ◌∷◌, ◌++◌, filter, map, drop, length, length-append, slice_get, Option, Some, None, IfErr, Ok, Err, Result, refl, sym, ap, subst, subst₂, arith}
+use Rattle.std.proofs.Common.{◌≡◌, ◌≢◌, ◌∙◌, inl, inr, ℕ, ℤ, suc, ◌+◌, ◌≤◌, Bool, true, false, not}
+use Rattle.std.proofs.Common.{List, [], ◌∷◌, ◌++◌, filter, map, drop, length, length-append}
+use Rattle.std.proofs.Common.{slice_get, Option, Some, None, IfErr, Ok, Err, Result, refl, sym, ap}
+use Rattle.std.proofs.Common.{subst, subst₂, arith}
 use Rattle.std.specs.Prelude.{nat_lt, if◌then◌else◌}
 use Rattle.std.specs.List.{AllByRecursion, list_all}
 use Rattle.std.specs.Ordering.{is_eq}
@@ -9,7 +12,9 @@ use Rattle.std.specs.List.Sorted.{IsPermutation}
 use Rattle.std.proofs.lemmas.Bool.{and_from, cases_Bool}
 use Rattle.std.proofs.lemmas.Cmp.{alike_right, tied_itself}
 use Rattle.sqlite_value.proofs.OrderLemmas.{value_cmp_total}
-use Rattle.std.proofs.lemmas.List.Sorted.{IsPermutation-sym, IsPermutation-map, IsPermutation-middle, IsPermutation-trans, IsPermutation-append_right, length_permutation}
+use Rattle.std.proofs.lemmas.List.Sorted.{IsPermutation-sym, IsPermutation-map}
+use Rattle.std.proofs.lemmas.List.Sorted.{IsPermutation-middle, IsPermutation-trans}
+use Rattle.std.proofs.lemmas.List.Sorted.{IsPermutation-append_right, length_permutation}
 use Rattle.sqlite_value.specs.declared.keys.Order.{Order}
 use Rattle.sqlite_value.specs.declared.value.Value.TheVariants.{Null, Int}
 use Rattle.sqlite_value.specs.Order.{Row, value_cmp}
@@ -20,7 +25,9 @@ use Rattle.sqlite_sql.specs.Ops.{fits_i64}
 use Rattle.sqlite_sql.specs.Query.{Output, output}
 use Rattle.sqlite_sql.specs.Term.{Term, col, eval_all}
 use Rattle.sqlite_schema.specs.declared.schema.Column.{Column}
-use Rattle.sqlite_schema.specs.declared.schema.Constraint.TheVariants.{Datatype, NotNull, Check, PrimaryKey, Unique, ForeignKey}
+use Rattle.sqlite_schema.specs.declared.schema.Constraint.TheVariants.{Datatype, NotNull, Check}
+use Rattle.sqlite_schema.specs.declared.schema.Constraint.TheVariants.{PrimaryKey, Unique}
+use Rattle.sqlite_schema.specs.declared.schema.Constraint.TheVariants.{ForeignKey}
 use Rattle.sqlite_schema.specs.declared.schema.Keys.TheVariants.{Enforced}
 use Rattle.sqlite_schema.specs.declared.schema.Table.{Table}
 use Rattle.sqlite_schema.specs.declared.program.Program.{Program}
@@ -35,7 +42,8 @@ use Rattle.sqlite_rules.specs.Calls.{ids_of}
 use Rattle.sqlite_rules.specs.Cast.{cast_row}
 use Rattle.sqlite_rules.specs.Edit.{Edit, id_in, edit_of, is_taken, are_fresh, put_all, without_all, IsRefused}
 use Rattle.sqlite_rules.specs.Lists.{Has}
-use Rattle.sqlite_rules.proofs.ListLemmas.{all_from, all_has, has_filtered, has_kept, has_got, has_right, some_has, test_from}
+use Rattle.sqlite_rules.proofs.ListLemmas.{all_from, all_has, has_filtered, has_kept, has_got}
+use Rattle.sqlite_rules.proofs.ListLemmas.{has_right, some_has, test_from}
 use Rattle.sqlite_rules.proofs.PlaceLemmas.{given}
 use Rattle.sqlite_rules.proofs.ProbeLemmas.{has_mapped, mapped_has}
 use Rattle.sqlite_rules.proofs.TableLemmas.{int_is, put_all_has, taken_is}
@@ -76,16 +84,21 @@ equal_is Less h = absurd (cc)
 equal_is Equal h = refl
 equal_is Greater h = absurd (cc)
 
-below_other : (id : ℤ) (a b : Row) → value_cmp (rowid a) (rowid b) ≡ Less → has_rowid id a ≡ true → has_rowid id b ≡ true → ⊥
+below_other : (id : ℤ) (a b : Row) → value_cmp (rowid a) (rowid b) ≡ Less → has_rowid id a ≡ true
+    → has_rowid id b ≡ true → ⊥
 below_other id a b less here there =
-    let no = alike_right value_cmp_total (rowid b) (Int id) (rowid a) (equal_is _ there) ∙ equal_is _ here in
+    let no = alike_right value_cmp_total (rowid b) (Int id) (rowid a) (equal_is _ there)
+    ∙ equal_is _ here in
     absurd (let e = sym less ∙ no in cc)
 
-no_more : (id : ℤ) (r : Row) (rows : List Row) → AllByRecursion (λ x. value_cmp (rowid r) (rowid x) ≡ Less) rows → has_rowid id r ≡ true → filter (has_rowid id) rows ≡ []
+no_more : (id : ℤ) (r : Row) (rows : List Row)
+    → AllByRecursion (λ x. value_cmp (rowid r) (rowid x) ≡ Less) rows → has_rowid id r ≡ true
+    → filter (has_rowid id) rows ≡ []
 no_more id r [] less here = refl
 no_more id r (x ∷ rows) less here = go (no_more id r rows less.1 here) (has_rowid id x) refl
   where
-    go : filter (has_rowid id) rows ≡ [] → (b : Bool) → has_rowid id x ≡ b → filter (has_rowid id) (x ∷ rows) ≡ []
+    go : filter (has_rowid id) rows ≡ [] → (b : Bool) → has_rowid id x ≡ b
+        → filter (has_rowid id) (x ∷ rows) ≡ []
     go none true is = absurd (below_other id r x less.0 here is)
     go none false is = rw is none
 
@@ -93,14 +106,17 @@ once_rowid : (id : ℤ) (rows : List Row) → IsTable rows → length (filter (h
 once_rowid id [] up = omega arith
 once_rowid id (r ∷ rows) up = go (once_rowid id rows up.1) (has_rowid id r) refl
   where
-    go : length (filter (has_rowid id) rows) ≤ 1 → (b : Bool) → has_rowid id r ≡ b → length (filter (has_rowid id) (r ∷ rows)) ≤ 1
+    go : length (filter (has_rowid id) rows) ≤ 1 → (b : Bool) → has_rowid id r ≡ b
+        → length (filter (has_rowid id) (r ∷ rows)) ≤ 1
     go once true is = rw (is, no_more id r rows up.0 is) (omega arith)
     go once false is = rw is once
 
 itself : (r : Row) → is_int (rowid r) ≡ true → has_rowid (id_in (rowid r)) r ≡ true
-itself r whole = subst (λ v. is_eq (value_cmp v (Int (id_in (rowid r)))) ≡ true) (sym (int_is (rowid r) whole)) (ap is_eq (tied_itself value_cmp_total (Int (id_in (rowid r)))))
+itself r whole = subst (λ v. is_eq (value_cmp v (Int (id_in (rowid r)))) ≡ true)
+    (sym (int_is (rowid r) whole)) (ap is_eq (tied_itself value_cmp_total (Int (id_in (rowid r)))))
 
-fresh_by : (news left : List Row) → AllByRecursion (λ r. is_int (rowid r) ≡ true) news → ((id : ℤ) → length (filter (has_rowid id) (news ++ left)) ≤ 1) → are_fresh left news ≡ true
+fresh_by : (news left : List Row) → AllByRecursion (λ r. is_int (rowid r) ≡ true) news
+    → ((id : ℤ) → length (filter (has_rowid id) (news ++ left)) ≤ 1) → are_fresh left news ≡ true
 fresh_by [] left keyed once = refl
 fresh_by (n ∷ news) left keyed once =
     let id = id_in (rowid n) in
@@ -108,42 +124,66 @@ fresh_by (n ∷ news) left keyed once =
     let free : is_taken left n ≡ false = elim (cases_Bool (is_taken left n)) [
       | inl taken ↦
           let r = some_has (has_rowid id) left (sym (taken_is left n keyed.0) ∙ taken) in
-          let some = some_there (filter (has_rowid id) (news ++ left)) r.0 (has_kept (has_rowid id) (news ++ left) r.0 (has_right news left r.0 r.1) r.2) in
-          let both : length (filter (has_rowid id) (n ∷ news ++ left)) ≡ suc (length (filter (has_rowid id) (news ++ left))) = rw here refl in
+          let some = some_there (filter (has_rowid id) (news ++ left)) r.0
+          (has_kept (has_rowid id) (news ++ left) r.0 (has_right news left r.0 r.1) r.2) in
+          let both : length (filter (has_rowid id) (n ∷ news ++ left)) ≡ suc (length
+          (filter (has_rowid id) (news ++ left))) = rw here refl in
           absurd (omega (arith, once id, both, some))
       | inr free ↦ free
     ] in
     let same : IsPermutation (n ∷ news ++ left) (news ++ put_row n left) =
-    IsPermutation-trans _ _ _ (IsPermutation-sym _ _ (IsPermutation-middle news n left)) (IsPermutation-append_right news _ _ (put_fresh n left free)) in
-    and_from _ _ (ap not free) (fresh_by news (put_row n left) keyed.1 (λ i. omega (arith, once i, length_permutation _ _ (IsPermutation-filter (has_rowid i) _ _ same))))
+    IsPermutation-trans _ _ _ (IsPermutation-sym _ _ (IsPermutation-middle news n left))
+    (IsPermutation-append_right news _ _ (put_fresh n left free)) in
+    and_from _ _ (ap not free) (fresh_by news (put_row n left) keyed.1
+    (λ i. omega (
+      arith,
+      once i,
+      length_permutation _ _ (IsPermutation-filter (has_rowid i) _ _ same),
+    )))
 
-split_count : {X : Type 0} (h p : X → Bool) (xs : List X) → length (filter h (filter p xs)) + length (filter h (filter (λ x. not (p x)) xs)) ≡ length (filter h xs)
+split_count : {X : Type 0} (h p : X → Bool) (xs : List X)
+    → length (filter h (filter p xs)) + length (filter h (filter (λ x. not (p x)) xs))
+    ≡ length (filter h xs)
 split_count h p [] = refl
 split_count {X} h p (x ∷ xs) = go (split_count h p xs) (p x) (h x) refl refl
   where
-    go : length (filter h (filter p xs)) + length (filter h (filter (λ x. not (p x)) xs)) ≡ length (filter h xs) → (b c : Bool) → p x ≡ b → h x ≡ c
-        → length (filter h (filter p (x ∷ xs))) + length (filter h (filter (λ x. not (p x)) (x ∷ xs))) ≡ length (filter h (x ∷ xs))
+    go : length (filter h (filter p xs)) + length (filter h (filter (λ x. not (p x)) xs))
+        ≡ length (filter h xs) → (b c : Bool) → p x ≡ b → h x ≡ c
+        → length (filter h (filter p (x ∷ xs)))
+        + length (filter h (filter (λ x. not (p x)) (x ∷ xs))) ≡ length (filter h (x ∷ xs))
     go more true true is it = rw (is, it) (omega (arith, more))
     go more true false is it = rw (is, it) (omega (arith, more))
     go more false true is it = rw (is, it) (omega (arith, more))
     go more false false is it = rw (is, it) (omega (arith, more))
 
-mapped_count : (h : Row → Bool) (f : Row → Row) (rows : List Row) → AllByRecursion (λ r. h (f r) ≡ h r) rows → length (filter h (map f rows)) ≡ length (filter h rows)
+mapped_count : (h : Row → Bool) (f : Row → Row) (rows : List Row)
+    → AllByRecursion (λ r. h (f r) ≡ h r) rows
+    → length (filter h (map f rows)) ≡ length (filter h rows)
 mapped_count h f [] same = refl
 mapped_count h f (r ∷ rows) same = go (mapped_count h f rows same.1) (h r) refl
   where
-    go : length (filter h (map f rows)) ≡ length (filter h rows) → (b : Bool) → h r ≡ b → length (filter h (map f (r ∷ rows))) ≡ length (filter h (r ∷ rows))
+    go : length (filter h (map f rows)) ≡ length (filter h rows) → (b : Bool) → h r ≡ b
+        → length (filter h (map f (r ∷ rows))) ≡ length (filter h (r ∷ rows))
     go more true is = rw (same.0, is) (omega (arith, more))
     go more false is = rw (same.0, is) more
 
-module _ (name : List ℕ) (tree : ℕ) (columns : List Column) (key : Option ℕ) (primary : List ℕ) (uniques : List (List ℕ)) (orders : List Order) where
+module _ (name : List ℕ) (tree : ℕ) (columns : List Column) (key : Option ℕ) (primary : List ℕ)
+    (uniques : List (List ℕ)) (orders : List Order) where
   abbrev this : Table
   this = table_of name tree columns key primary uniques orders
 
-  module _ (place : ℕ) (listed : slice_get desk_schema.tables place ≡ Some this) (rows after : ℕ → List Row) (same : AllByRecursion (λ t. t.tree ≢ tree → after t.tree ≡ rows t.tree) desk_schema.tables)
-      (s : State) (has : HasRows rows s.now) (params : Row) (tests project : List Term) (q : Row → Bool) (u : Row → Row) (agree : (r : Row) → passes tests params r ≡ q (cells this r))
-      (form : (r : Row) → is_int (rowid r) ≡ true → cast_row this (eval_all project (env params r)) ≡ as_stored key (id_in (rowid r)) (u (cells this r)))
-      (acts : (r : Row) → cells this (cast_row this (eval_all project (env params r))) ≡ u (cells this r)) (stays : (r : Row) → is_int (rowid r) ≡ true → rowid (cast_row this (eval_all project (env params r))) ≡ rowid r)
+  module _ (place : ℕ) (listed : slice_get desk_schema.tables place ≡ Some this)
+      (rows after : ℕ → List Row) (same : AllByRecursion
+      (λ t. t.tree ≢ tree → after t.tree ≡ rows t.tree) desk_schema.tables)
+      (s : State) (has : HasRows rows s.now) (params : Row) (tests project : List Term)
+      (q : Row → Bool) (u : Row → Row)
+      (agree : (r : Row) → passes tests params r ≡ q (cells this r))
+      (form : (r : Row) → is_int (rowid r) ≡ true
+      → cast_row this (eval_all project (env params r))
+      ≡ as_stored key (id_in (rowid r)) (u (cells this r)))
+      (acts : (r : Row) → cells this (cast_row this (eval_all project (env params r)))
+      ≡ u (cells this r)) (stays : (r : Row) → is_int (rowid r) ≡ true
+      → rowid (cast_row this (eval_all project (env params r))) ≡ rowid r)
       (perm : IsPermutation (after tree) (changed_where q u (rows tree))) where
     abbrev program : Program
     program = record { lets = []; body = query_on tree tests (col 1 0 ∷ project) [] }
@@ -167,27 +207,39 @@ module _ (name : List ℕ) (tree : ℕ) (columns : List Column) (key : Option �
     there = has_got desk_schema.tables place this listed
 
     mine : AreStored this (rows tree) (s.now.trees tree)
-    mine = all_has (λ t. AreStored t (rows t.tree) (s.now.trees t.tree)) desk_schema.tables this has.stored there
+    mine = all_has (λ t. AreStored t (rows t.tree) (s.now.trees t.tree)) desk_schema.tables this
+        has.stored there
 
-    module _ (found : List Row) (answers : Answers (at desk_schema s.now.trees) program params found) where
-      shown : IsPermutation (map (λ r. rowid r ∷ eval_all project (env params r)) (filter p stored)) found
+    module _ (found : List Row) (answers : Answers (at desk_schema s.now.trees) program params
+        found) where
+      shown : IsPermutation (map (λ r. rowid r ∷ eval_all project (env params r)) (filter p stored))
+          found
       shown =
           let query = query_on tree tests (col 1 0 ∷ project) [] in
-          let sel = selected tree tests (col 1 0 ∷ project) [] s.now.trees params found (answers.answer Null) in
-          subst₂ (λ xs ys. IsPermutation xs ys) (map-map (λ (o : Output). o.1) (λ r. output query (env params r)) (filter p stored)) (sym sel.shown) (IsPermutation-map (λ (o : Output). o.1) _ _ sel.same)
+          let sel = selected tree tests (col 1 0 ∷ project) [] s.now.trees params found
+          (answers.answer Null) in
+          subst₂ (λ xs ys. IsPermutation xs ys)
+          (map-map (λ (o : Output). o.1) (λ r. output query (env params r)) (filter p stored))
+          (sym sel.shown) (IsPermutation-map (λ (o : Output). o.1) _ _ sel.same)
 
       left : without_all stored (ids_of found) ≡ kept
-      left = left_is p stored (ids_of found) mine.rising (ids_are p (λ r. rowid r ∷ eval_all project (env params r)) stored found (λ r. refl) mine.keyed shown)
+      left = left_is p stored (ids_of found) mine.rising
+          (ids_are p (λ r. rowid r ∷ eval_all project (env params r)) stored found (λ r. refl)
+          mine.keyed shown)
 
       news_are : (edit_of s.now.trees this (ids_of found) Given 1 found).news ≡ map cast found
       news_are = given (without_all stored (ids_of found)) (map cast found)
 
       made_of : IsPermutation (map f (filter p stored)) (map cast found)
-      made_of = subst (λ xs. IsPermutation xs (map cast found)) (map-map cast (λ r. rowid r ∷ eval_all project (env params r)) (filter p stored)) (IsPermutation-map cast _ _ shown)
+      made_of = subst (λ xs. IsPermutation xs (map cast found))
+          (map-map cast (λ r. rowid r ∷ eval_all project (env params r)) (filter p stored))
+          (IsPermutation-map cast _ _ shown)
 
       -- what is true of each new row
-      each_new : (P : Row → Type 0) → ((r : Row) → Has stored r → p r ≡ true → P (f r)) → AllByRecursion P (map cast found)
-      each_new P holds = all-permutation P _ _ made_of (all_from P (map f (filter p stored)) (λ x has_x.
+      each_new : (P : Row → Type 0) → ((r : Row) → Has stored r → p r ≡ true → P (f r))
+          → AllByRecursion P (map cast found)
+      each_new P holds = all-permutation P _ _ made_of
+          (all_from P (map f (filter p stored)) (λ x has_x.
           let r = has_mapped f (filter p stored) x has_x in
           let was = has_filtered p stored r.0 r.1 in
           subst P (sym r.2) (holds r.0 was.0 was.1)))
@@ -196,12 +248,16 @@ module _ (name : List ℕ) (tree : ℕ) (columns : List Column) (key : Option �
       whole_of r has_r = all_has (λ r. is_int (rowid r) ≡ true) stored r mine.keyed has_r
 
       keyed : AllByRecursion (λ r. is_int (rowid r) ≡ true) (map cast found)
-      keyed = each_new (λ r. is_int (rowid r) ≡ true) (λ r has_r yes_r. subst (λ v. is_int v ≡ true) (sym (stays r (whole_of r has_r))) (whole_of r has_r))
+      keyed = each_new (λ r. is_int (rowid r) ≡ true)
+          (λ r has_r yes_r. subst (λ v. is_int v ≡ true) (sym (stays r (whole_of r has_r)))
+          (whole_of r has_r))
 
       fresh : are_fresh kept (map cast found) ≡ true
       fresh = fresh_by (map cast found) kept keyed (λ id.
           let h = has_rowid id in
-          let same_rows = all_from (λ r. h (f r) ≡ h r) (filter p stored) (λ r has_r. let was = has_filtered p stored r has_r in ap (λ v. is_eq (value_cmp v (Int id))) (stays r (whole_of r was.0))) in
+          let same_rows = all_from (λ r. h (f r) ≡ h r) (filter p stored)
+          (λ r has_r. let was = has_filtered p stored r has_r in
+          ap (λ v. is_eq (value_cmp v (Int id))) (stays r (whole_of r was.0))) in
           omega (
             arith,
             ap length (filter_both h (map cast found) kept),
@@ -213,108 +269,211 @@ module _ (name : List ℕ) (tree : ℕ) (columns : List Column) (key : Option �
           ))
 
       are : AreStored this (after tree) (put_all kept (map cast found))
-      are = stored_as this _ (after tree) _ perm (stored_changed this (rows tree) stored mine p q f u (map cast found) agree acts made_of keyed fresh)
+      are = stored_as this _ (after tree) _ perm
+          (stored_changed this (rows tree) stored mine p q f u (map cast found) agree acts made_of
+          keyed fresh)
 
       cells_after : (r : Row) → Has stored r → p r ≡ true → Has (after tree) (u (cells this r))
       cells_after r has_r yes_r =
-          let in_rows = has_permuted (rows tree) (map (cells this) stored) (cells this r) mine.same (mapped_has (cells this) stored r has_r) in
-          let changed = mapped_has (λ x. if q x then u x else x) (rows tree) (cells this r) in_rows in
-          let is_u : (if q (cells this r) then u (cells this r) else cells this r) ≡ u (cells this r) = rw (sym (agree r) ∙ yes_r) refl in
-          has_permuted (after tree) (changed_where q u (rows tree)) (u (cells this r)) perm (subst (Has (changed_where q u (rows tree))) is_u changed)
+          let in_rows = has_permuted (rows tree) (map (cells this) stored) (cells this r) mine.same
+          (mapped_has (cells this) stored r has_r) in
+          let changed = mapped_has (λ x. if q x then u x else x) (rows tree) (cells this r)
+          in_rows in
+          let is_u : (if q (cells this r) then u (cells this r)
+          else cells this r) ≡ u (cells this r) = rw (sym (agree r) ∙ yes_r) refl in
+          has_permuted (after tree) (changed_where q u (rows tree)) (u (cells this r)) perm
+          (subst (Has (changed_where q u (rows tree))) is_u changed)
 
-      module _ (reals : table_reals this ≡ 0) (suits : AllByRecursion (Suits name tree columns key primary uniques orders s.now.trees) (after tree)) (keys : HaveKeys after) (room : HasRoom 0 s.now.trees) where
-        suited : (r : Row) → Has stored r → p r ≡ true → Suits name tree columns key primary uniques orders s.now.trees (u (cells this r))
-        suited r has_r yes_r = all_has (Suits name tree columns key primary uniques orders s.now.trees) (after tree) (u (cells this r)) suits (cells_after r has_r yes_r)
+      module _ (reals : table_reals this ≡ 0)
+          (suits : AllByRecursion (Suits name tree columns key primary uniques orders s.now.trees)
+          (after tree)) (keys : HaveKeys after) (room : HasRoom 0 s.now.trees) where
+        suited : (r : Row) → Has stored r → p r ≡ true
+            → Suits name tree columns key primary uniques orders s.now.trees (u (cells this r))
+        suited r has_r yes_r = all_has
+            (Suits name tree columns key primary uniques orders s.now.trees) (after tree)
+            (u (cells this r)) suits (cells_after r has_r yes_r)
 
         abbrev Right : Row → Type 0
         Right = IsRight name tree columns key primary uniques orders s.now.trees
 
         right : AllByRecursion Right (map cast found)
-        right = each_new Right (λ r has_r yes_r. subst Right (sym (form r (whole_of r has_r))) ((suited r has_r yes_r).right (id_in (rowid r))))
+        right = each_new Right (λ r has_r yes_r. subst Right (sym (form r (whole_of r has_r)))
+            ((suited r has_r yes_r).right (id_in (rowid r))))
 
         leaving : key ≡ None → (r : Row) → Has stored r → LeavesRoom 0 (Int (id_in (rowid r)))
         leaving none r has_r =
             subst (LeavesRoom 0) (int_is (rowid r) (whole_of r has_r))
-            (all_has (λ r. LeavesRoom 0 (rowid r)) stored r (all_has (λ t. t.key ≡ None → AllByRecursion (λ r. LeavesRoom 0 (rowid r)) (s.now.trees t.tree)) desk_schema.tables this room.room there none) has_r)
+            (all_has (λ r. LeavesRoom 0 (rowid r)) stored r
+            (all_has (λ t. t.key ≡ None → AllByRecursion (λ r. LeavesRoom 0 (rowid r))
+            (s.now.trees t.tree)) desk_schema.tables this room.room there none) has_r)
 
         fits : AllByRecursion (λ r. fits_i64 (id_in (rowid r)) ≡ true) (map cast found)
         fits = each_new (λ r. fits_i64 (id_in (rowid r)) ≡ true) (λ r has_r yes_r.
             subst (λ r. fits_i64 (id_in (rowid r)) ≡ true) (sym (form r (whole_of r has_r)))
-            (fitting name tree columns key primary uniques orders 0 (id_in (rowid r)) (u (cells this r)) (λ none. leaving none r has_r) (suited r has_r yes_r).number))
+            (fitting name tree columns key primary uniques orders 0 (id_in (rowid r))
+            (u (cells this r)) (λ none. leaving none r has_r) (suited r has_r yes_r).number))
 
         abbrev edit : Edit
         edit = edit_of s.now.trees this (ids_of found) Given 1 found
 
-        passing_all : (c : Row → Bool) → AllByRecursion (λ r. c r ≡ true) (map cast found) → list_all c edit.news ≡ true
-        passing_all c all = subst (λ l. list_all c l ≡ true) (sym news_are) (test_from c (map cast found) (λ r has_r. all_has (λ r. c r ≡ true) (map cast found) r all has_r))
+        passing_all : (c : Row → Bool) → AllByRecursion (λ r. c r ≡ true) (map cast found)
+            → list_all c edit.news ≡ true
+        passing_all c all = subst (λ l. list_all c l ≡ true) (sym news_are)
+            (test_from c (map cast found)
+            (λ r has_r. all_has (λ r. c r ≡ true) (map cast found) r all has_r))
 
         free : IsFree s.now.trees edit
-        free = record { allowed = allowed; stored = λ row has_row. let it = all_has Right edit.news row (subst (AllByRecursion Right) (sym news_are) right) has_row in never_oversized this row reals it.light it.some it.few }
+        free = record {
+          allowed = allowed;
+          stored = λ row has_row. let it =
+              all_has Right edit.news row (subst (AllByRecursion Right) (sym news_are) right)
+              has_row in never_oversized this row reals it.light it.some it.few;
+        }
           where
-            rights : (Q : Row → Type 0) → ((r : Row) → Right r → Q r) → AllByRecursion Q (map cast found)
-            rights Q holds = all_from Q (map cast found) (λ r has_r. holds r (all_has Right (map cast found) r right has_r))
+            rights : (Q : Row → Type 0) → ((r : Row) → Right r → Q r)
+                → AllByRecursion Q (map cast found)
+            rights Q holds = all_from Q (map cast found)
+                (λ r has_r. holds r (all_has Right (map cast found) r right has_r))
 
             allowed : (why : Refusal) → IsRefused desk_schema Enforced s.now.trees edit why → ⊥
-            allowed (Violates Datatype) refused = absurd (let no = sym refused ∙ passing_all (table_passes Datatype desk_schema s.now.trees this) (rights (λ r. table_passes Datatype desk_schema s.now.trees this r ≡ true) (λ r it. it.typed)) in cc)
-            allowed (Violates NotNull) refused = absurd (let no = sym refused ∙ passing_all (table_passes NotNull desk_schema s.now.trees this) (rights (λ r. table_passes NotNull desk_schema s.now.trees this r ≡ true) (λ r it. it.present)) in cc)
-            allowed (Violates Check) refused = absurd (let no = sym refused ∙ passing_all (table_passes Check desk_schema s.now.trees this) (rights (λ r. table_passes Check desk_schema s.now.trees this r ≡ true) (λ r it. refl)) in cc)
-            allowed (Violates PrimaryKey) refused = absurd (let no = sym refused ∙ subst₂ (λ l n. are_fresh l n ≡ true) (sym left) (sym news_are) fresh in cc)
-            allowed (Violates Unique) refused = refused (subst₂ (λ l n. Keeps Unique desk_schema (with_tree s.now.trees tree (put_all l n))) (sym left) (sym news_are)
-                (unique_kept after (with_tree s.now.trees tree (put_all kept (map cast found))) (stored_with rows after s.now.trees this (put_all kept (map cast found)) there has.stored same are) keys))
+            allowed (Violates Datatype) refused = absurd (let no = sym refused
+                ∙ passing_all (table_passes Datatype desk_schema s.now.trees this)
+                (rights (λ r. table_passes Datatype desk_schema s.now.trees this r ≡ true)
+                (λ r it. it.typed)) in cc)
+            allowed (Violates NotNull) refused = absurd (let no = sym refused
+                ∙ passing_all (table_passes NotNull desk_schema s.now.trees this)
+                (rights (λ r. table_passes NotNull desk_schema s.now.trees this r ≡ true)
+                (λ r it. it.present)) in cc)
+            allowed (Violates Check) refused = absurd (let no = sym refused
+                ∙ passing_all (table_passes Check desk_schema s.now.trees this)
+                (rights (λ r. table_passes Check desk_schema s.now.trees this r ≡ true)
+                (λ r it. refl)) in cc)
+            allowed (Violates PrimaryKey) refused = absurd (let no = sym refused
+                ∙ subst₂ (λ l n. are_fresh l n ≡ true) (sym left) (sym news_are) fresh in cc)
+            allowed (Violates Unique) refused = refused
+                (subst₂ (λ l n. Keeps Unique desk_schema (with_tree s.now.trees tree (put_all l n)))
+                (sym left) (sym news_are)
+                (unique_kept after (with_tree s.now.trees tree (put_all kept (map cast found)))
+                (stored_with rows after s.now.trees this (put_all kept (map cast found)) there
+                has.stored same are) keys))
             allowed (Violates ForeignKey) refused = refused
-            allowed Mismatch refused = absurd (let no = sym refused ∙ passing_all (λ r. is_int (rowid r)) keyed in cc)
-            allowed NoRowid refused = absurd (let no = sym refused ∙ passing_all (λ r. fits_i64 (id_in (rowid r))) fits in cc)
-            allowed BadReference refused = absurd (let no = sym refused ∙ fits_none this refl (nat_lt 0 (length edit.news)) (nat_lt 0 (length edit.gone)) in cc)
+            allowed Mismatch refused = absurd (let no = sym refused
+                ∙ passing_all (λ r. is_int (rowid r)) keyed in cc)
+            allowed NoRowid refused = absurd (let no = sym refused
+                ∙ passing_all (λ r. fits_i64 (id_in (rowid r))) fits in cc)
+            allowed BadReference refused = absurd (let no = sym refused
+                ∙ fits_none this refl (nat_lt 0 (length edit.news)) (nat_lt 0 (length edit.gone)) in
+                cc)
             allowed TooDeep refused = refused
 
-      rooms_kept : (n : ℕ) → AllByRecursion (λ r. LeavesRoom n (rowid r)) stored → AllByRecursion (λ r. LeavesRoom n (rowid r)) (put_all (without_all stored (ids_of found)) (edit_of s.now.trees this (ids_of found) Given 1 found).news)
-      rooms_kept n all = subst₂ (λ l m. AllByRecursion (λ r. LeavesRoom n (rowid r)) (put_all l m)) (sym left) (sym news_are)
-          (all_from (λ r. LeavesRoom n (rowid r)) (put_all kept (map cast found)) (λ x has_x. elim (put_all_has (map cast found) kept x has_x) [
-            | inl new ↦ all_has (λ r. LeavesRoom n (rowid r)) (map cast found) x (each_new (λ r. LeavesRoom n (rowid r)) (λ r has_r yes_r. subst (LeavesRoom n) (sym (stays r (whole_of r has_r))) (all_has (λ r. LeavesRoom n (rowid r)) stored r all has_r))) new
-            | inr old ↦ all_has (λ r. LeavesRoom n (rowid r)) stored x all (has_filtered (λ r. not (p r)) stored x old).0
+      rooms_kept : (n : ℕ) → AllByRecursion (λ r. LeavesRoom n (rowid r)) stored
+          → AllByRecursion (λ r. LeavesRoom n (rowid r))
+          (put_all (without_all stored (ids_of found))
+          (edit_of s.now.trees this (ids_of found) Given 1 found).news)
+      rooms_kept n all = subst₂ (λ l m. AllByRecursion (λ r. LeavesRoom n (rowid r)) (put_all l m))
+          (sym left) (sym news_are)
+          (all_from (λ r. LeavesRoom n (rowid r)) (put_all kept (map cast found))
+          (λ x has_x. elim (put_all_has (map cast found) kept x has_x) [
+            | inl new ↦ all_has (λ r. LeavesRoom n (rowid r)) (map cast found) x
+                (each_new (λ r. LeavesRoom n (rowid r))
+                (λ r has_r yes_r. subst (LeavesRoom n) (sym (stays r (whole_of r has_r)))
+                (all_has (λ r. LeavesRoom n (rowid r)) stored r all has_r))) new
+            | inr old ↦ all_has (λ r. LeavesRoom n (rowid r)) stored x all
+                (has_filtered (λ r. not (p r)) stored x old).0
           ]))
 
-    never_updated : (none : s.step_limit ≡ None) (text : List ℕ) → accepts_program desk_schema [] (query_on tree tests (col 1 0 ∷ project) []) params ≡ true → table_reals this ≡ 0
-        → AllByRecursion (Suits name tree columns key primary uniques orders s.now.trees) (after tree) → HaveKeys after → HasRoom 0 s.now.trees
-        → (stop : Option Error) → Does s.step_limit (mode_of s) params s.now text None (Update place program) (Err stop) → ⊥
-    never_updated none text accepts reals suits keys room stop did = go (rw (has.declared, listed) at did)
+    never_updated : (none : s.step_limit ≡ None) (text : List ℕ)
+        → accepts_program desk_schema [] (query_on tree tests (col 1 0 ∷ project) []) params ≡ true
+        → table_reals this ≡ 0
+        → AllByRecursion (Suits name tree columns key primary uniques orders s.now.trees)
+        (after tree) → HaveKeys after → HasRoom 0 s.now.trees
+        → (stop : Option Error) → Does s.step_limit (mode_of s) params s.now text None
+        (Update place program) (Err stop) → ⊥
+    never_updated none text accepts reals suits keys room stop did = go
+        (rw (has.declared, listed) at did)
       where
         doing : Task
-        doing = record { limit = s.step_limit; keys = Enforced; schema = desk_schema; table = this; params = params }
+        doing = record {
+          limit = s.step_limit;
+          keys = Enforced;
+          schema = desk_schema;
+          table = this;
+          params = params;
+        }
 
         sets : (st : Option Error) → Updates doing program params s.now.trees (Err st) → ⊥
-        sets st (inl (e, queried, told)) = no_refusal s.now.trees tree tests (col 1 0 ∷ project) params s.step_limit e none accepts queried
-        sets st (inr (found, answers, inl (e, stopped, told))) = never_stops s.now.trees (edit_of s.now.trees this (ids_of found) Given 1 found) e (free found answers reals suits keys room) stopped
+        sets st (inl (e, queried, told)) = no_refusal s.now.trees tree tests (col 1 0 ∷ project)
+            params s.step_limit e none accepts queried
+        sets st (inr (found, answers, inl (e, stopped, told))) = never_stops s.now.trees
+            (edit_of s.now.trees this (ids_of found) Given 1 found) e
+            (free found answers reals suits keys room) stopped
         sets st (inr (found, answers, inr (next, edited, gives))) = absurd (let no = gives in cc)
 
-        go : Then (Updates doing program params s.now.trees) (Concludes doing (mode_of s) None) (Err stop) → ⊥
+        go : Then (Updates doing program params s.now.trees) (Concludes doing (mode_of s) None)
+            (Err stop) → ⊥
         go (inl (st, setting, told)) = sets st setting
         go (inr (w, setting, concludes)) = never_concludes doing (mode_of s) w stop refl concludes
 
-  module _ {A : Type 0} (rows : A → ℕ → List Row) (made : A → A) (place : ℕ) (listed : slice_get desk_schema.tables place ≡ Some this) (sql : List ℕ) (params : Row) (tests project : List Term) (q : Row → Bool) (u : Row → Row)
-      (reads : Reads sql (length params) (Update place (record { lets = []; body = query_on tree tests (col 1 0 ∷ project) [] }))) (accepts : accepts_program desk_schema [] (query_on tree tests (col 1 0 ∷ project) []) params ≡ true)
+  module _ {A : Type 0} (rows : A → ℕ → List Row) (made : A → A) (place : ℕ)
+      (listed : slice_get desk_schema.tables place ≡ Some this) (sql : List ℕ) (params : Row)
+      (tests project : List Term) (q : Row → Bool) (u : Row → Row)
+      (reads : Reads sql (length params)
+      (Update place (record { lets = []; body = query_on tree tests (col 1 0 ∷ project) [] })))
+      (accepts : accepts_program desk_schema [] (query_on tree tests (col 1 0 ∷ project) []) params
+      ≡ true)
       (reals : table_reals this ≡ 0) (agree : (r : Row) → passes tests params r ≡ q (cells this r))
-      (form : (r : Row) → is_int (rowid r) ≡ true → cast_row this (eval_all project (env params r)) ≡ as_stored key (id_in (rowid r)) (u (cells this r)))
-      (acts : (r : Row) → cells this (cast_row this (eval_all project (env params r))) ≡ u (cells this r)) (stays : (r : Row) → is_int (rowid r) ≡ true → rowid (cast_row this (eval_all project (env params r))) ≡ rowid r)
-      (same : (a : A) → AllByRecursion (λ t. t.tree ≢ tree → rows (made a) t.tree ≡ rows a t.tree) desk_schema.tables) (perm : (a : A) → IsPermutation (rows (made a) tree) (changed_where q u (rows a tree)))
-      (suits : (a : A) (trees : Trees) → AllByRecursion (AllByRecursion IsSmall) (rows (made a) tree) → AllByRecursion (Suits name tree columns key primary uniques orders trees) (rows (made a) tree)) (old new : State) where
-    uses : (count : ℕ) (a : A) → Executes sql params old new (Ok count) → HasRows (rows a) old.now → (n : ℕ) → HasRoom (n + 0) old.now.trees → HasRoom n new.now.trees
+      (form : (r : Row) → is_int (rowid r) ≡ true
+      → cast_row this (eval_all project (env params r))
+      ≡ as_stored key (id_in (rowid r)) (u (cells this r)))
+      (acts : (r : Row) → cells this (cast_row this (eval_all project (env params r)))
+      ≡ u (cells this r)) (stays : (r : Row) → is_int (rowid r) ≡ true
+      → rowid (cast_row this (eval_all project (env params r))) ≡ rowid r)
+      (same : (a : A) → AllByRecursion (λ t. t.tree ≢ tree → rows (made a) t.tree ≡ rows a t.tree)
+      desk_schema.tables) (perm : (a : A)
+      → IsPermutation (rows (made a) tree) (changed_where q u (rows a tree)))
+      (suits : (a : A) (trees : Trees)
+      → AllByRecursion (AllByRecursion IsSmall) (rows (made a) tree)
+      → AllByRecursion (Suits name tree columns key primary uniques orders trees)
+      (rows (made a) tree)) (old new : State) where
+    uses : (count : ℕ) (a : A) → Executes sql params old new (Ok count) → HasRows (rows a) old.now
+        → (n : ℕ) → HasRoom (n + 0) old.now.trees → HasRoom n new.now.trees
     uses count a executed has n room =
-        let program : Program = record { lets = []; body = query_on tree tests (col 1 0 ∷ project) [] } in
-        let w = runs_as sql params old new desk_schema has.declared (Update place program) reads.is reads.plain count executed in
-        let step = updates name tree columns key primary uniques orders desk_schema place listed alone old has.declared params (statement_of sql (understood desk_schema sql)) new.now w.tally program w.changed in
+        let program : Program = record {
+          lets = [];
+          body = query_on tree tests (col 1 0 ∷ project) [];
+        } in
+        let w = runs_as sql params old new desk_schema has.declared (Update place program) reads.is
+        reads.plain count executed in
+        let step = updates name tree columns key primary uniques orders desk_schema place listed
+        alone old has.declared params (statement_of sql (understood desk_schema sql)) new.now
+        w.tally program w.changed in
         let same_many : n + 0 ≡ n = omega arith in
-        rooms_after 0 n old.now.trees new.now.trees this (edit_of old.now.trees this (ids_of step.0) Given 1 step.0) refl (has_got desk_schema.tables place this listed) step.2.applies room (λ r low. omega (arith, low))
+        rooms_after 0 n old.now.trees new.now.trees this
+        (edit_of old.now.trees this (ids_of step.0) Given 1 step.0) refl
+        (has_got desk_schema.tables place this listed) step.2.applies room
+        (λ r low. omega (arith, low))
         (fewer_left n 0)
-        (λ none before. subst (AllByRecursion (λ r. LeavesRoom n (rowid r))) (sym step.2.applies.rows)
-        (rooms_kept place listed (rows a) (rows (made a)) (same a) old has params tests project q u agree form acts stays (perm a) step.0 step.1 n
-        (subst (λ m. AllByRecursion (λ r. LeavesRoom m (rowid r)) (old.now.trees tree)) same_many before)))
+        (λ none before. subst (AllByRecursion (λ r. LeavesRoom n (rowid r)))
+        (sym step.2.applies.rows)
+        (rooms_kept place listed (rows a) (rows (made a)) (same a) old has params tests project q u
+        agree form acts stays (perm a) step.0 step.1 n
+        (subst (λ m. AllByRecursion (λ r. LeavesRoom m (rowid r)) (old.now.trees tree)) same_many
+        before)))
 
-    pub updated_turns : (r : Result (Unit {0}) Fault) → Ran sql params old new r → IfErr r (RanInto sql params old new) → Survives old new (λ _. ⊥) → Turns rows (λ a. rows (made a)) 0 old new r
+    pub updated_turns : (r : Result (Unit {0}) Fault) → Ran sql params old new r
+        → IfErr r (RanInto sql params old new) → Survives old new (λ _. ⊥)
+        → Turns rows (λ a. rows (made a)) 0 old new r
     updated_turns = turns_by rows (λ a. rows (made a)) 0 sql params old new
-        (λ count a executed has. updated name tree columns key primary uniques orders place listed sql reads.plain params (rows a) (rows (made a)) (same a) old new count executed has tests project q u reads.is agree acts (perm a))
+        (λ count a executed has. updated name tree columns key primary uniques orders place listed
+        sql reads.plain params (rows a) (rows (made a)) (same a) old new count executed has tests
+        project q u reads.is agree acts (perm a))
         uses
         (λ opened unlimited a has before after room.
-        let small = all_has (λ t. AllByRecursion (AllByRecursion IsSmall) (rows (made a) t.tree)) desk_schema.tables this after.small (has_got desk_schema.tables place this listed) in
-        caused desk_schema sql params old new has.declared opened reads.plain reads.fits (Update place (record { lets = []; body = query_on tree tests (col 1 0 ∷ project) [] })) reads.is refl
-        (never_updated place listed (rows a) (rows (made a)) (same a) old has params tests project q u agree form acts stays (perm a) unlimited (statement_of sql (understood desk_schema sql)) accepts reals (suits a old.now.trees small) after.keys room))
+        let small = all_has (λ t. AllByRecursion (AllByRecursion IsSmall) (rows (made a) t.tree))
+        desk_schema.tables this after.small (has_got desk_schema.tables place this listed) in
+        caused desk_schema sql params old new has.declared opened reads.plain reads.fits
+        (Update place (record { lets = []; body = query_on tree tests (col 1 0 ∷ project) [] }))
+        reads.is refl
+        (never_updated place listed (rows a) (rows (made a)) (same a) old has params tests project q
+        u agree form acts stays (perm a) unlimited (statement_of sql (understood desk_schema sql))
+        accepts reals (suits a old.now.trees small) after.keys room))

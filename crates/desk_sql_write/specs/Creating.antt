@@ -64,12 +64,15 @@ pub record Founded (old new : State) : Type 0 where
 
 -- a stop leaves the tables of an empty desk
 abbrev pub LeavesTables : State → Trees → Type 0
-LeavesTables old trees = IsTrue old.is_open × (db : Database) × (IsBare no_schema old.now → Holds no_tables db) × (trees ≡ db.trees)
+LeavesTables old trees = IsTrue old.is_open × (db : Database)
+    × (IsBare no_schema old.now → Holds no_tables db) × (trees ≡ db.trees)
 
 -- in an empty database, creating the tables fails only for a cause
 pub record FoundFails (old new : State) (fault : Fault) : Type 0 where
-  pub cause : HasCleanDisk new → IsTrue old.in_transaction → IsTrue old.is_open → old.step_limit ≡ None → IsBare no_schema old.now → IsCaused old new fault
+  pub cause : HasCleanDisk new → IsTrue old.in_transaction → IsTrue old.is_open
+      → old.step_limit ≡ None → IsBare no_schema old.now → IsCaused old new fault
 
 -- the same, in a transaction for this alone
 pub record CreateFails (old new : State) (fault : Fault) : Type 0 where
-  pub cause : HasCleanDisk new → IsTrue old.is_open → old.step_limit ≡ None → IsBare no_schema old.now → IsCaused old new fault
+  pub cause : HasCleanDisk new → IsTrue old.is_open → old.step_limit ≡ None
+      → IsBare no_schema old.now → IsCaused old new fault

@@ -1,5 +1,6 @@
 -- What declaring tables one after another makes of a database.
-use Rattle.std.specs.Prelude.{◌≡◌, ℕ, ◌+◌, ◌*◌, ◌^◌, nat_lt, nat_le, true, false, not, List, [], ◌∷◌, map, length, codes, None, IsTrue, Result, Ok, Err}
+use Rattle.std.specs.Prelude.{◌≡◌, ℕ, ◌+◌, ◌*◌, ◌^◌, nat_lt, nat_le, true, false, not, List, []}
+use Rattle.std.specs.Prelude.{◌∷◌, map, length, codes, None, IsTrue, Result, Ok, Err}
 use Rattle.std.specs.List.{AllByRecursion, list_all}
 use Rattle.sqlite_value.specs.declared.value.Value.TheVariants.{Text}
 use Rattle.sqlite_schema.specs.Rules.{table_reals}
@@ -40,7 +41,8 @@ pub record IsTaken (text : List ℕ) (table : Table) (schema : Schema) : Type 0 
   pub named : list_all (λ byte. nat_lt byte 128) table.name ≡ true
   pub own : is_reserved table.name ≡ false
   pub unused : is_used schema table.name ≡ false
-  pub alone : list_all (λ i. not (is_used schema i.name)) (automatics table 0 0 table.uniques) ≡ true
+  pub alone : list_all (λ i. not (is_used schema i.name)) (automatics table 0 0 table.uniques)
+      ≡ true
   pub small : nat_lt (2 * length table.name + length text + 200) (10 ^ 9) ≡ true
   pub few : nat_lt (next_tree schema + length table.uniques) 65536 ≡ true
   pub plain : table_reals table ≡ 0
@@ -49,7 +51,8 @@ pub record IsTaken (text : List ℕ) (table : Table) (schema : Schema) : Type 0 
 
 abbrev pub AreDeclared : List (List ℕ × Table) → Schema → Type 0
 AreDeclared [] schema = Unit {0}
-AreDeclared (d ∷ ds) schema = Declares d.0 d.1 schema × (IsTaken d.0 d.1 schema × AreDeclared ds (created schema d.1))
+AreDeclared (d ∷ ds) schema = Declares d.0 d.1 schema
+    × (IsTaken d.0 d.1 schema × AreDeclared ds (created schema d.1))
 
 abbrev pub schema_after : Schema → List (List ℕ × Table) → Schema
 schema_after schema [] = schema
@@ -77,9 +80,12 @@ pub record Went (texts rest : List (List ℕ)) (old new : State) : Type 0 where
   pub left : (final : Schema) → Left texts final old.now → Left rest final new.now
 
 abbrev pub HasDeclared : List (List ℕ) → State → State → Result (Unit {0}) Fault → Type 0
-HasDeclared texts old new (Ok done) = HasCleanDisk new → IsTrue old.in_transaction → Went texts [] old new
-HasDeclared texts old new (Err fault) = HasCleanDisk new → IsTrue old.in_transaction → KeepsCommit old new
+HasDeclared texts old new (Ok done) = HasCleanDisk new → IsTrue old.in_transaction
+    → Went texts [] old new
+HasDeclared texts old new (Err fault) = HasCleanDisk new → IsTrue old.in_transaction
+    → KeepsCommit old new
 
 -- if the texts declare their tables, running them fails only for a cause
 pub record DeclareFails (texts : List (List ℕ)) (old new : State) (fault : Fault) : Type 0 where
-  pub cause : HasCleanDisk new → IsTrue old.in_transaction → IsTrue old.is_open → old.step_limit ≡ None → (final : Schema) → Left texts final old.now → IsCaused old new fault
+  pub cause : HasCleanDisk new → IsTrue old.in_transaction → IsTrue old.is_open
+      → old.step_limit ≡ None → (final : Schema) → Left texts final old.now → IsCaused old new fault

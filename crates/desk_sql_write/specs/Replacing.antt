@@ -1,4 +1,5 @@
--- What may be known of the tables before a change is written, so that nothing need be dropped first.
+-- What may be known of the tables before a change is written, so that nothing need be dropped
+-- first.
 use Rattle.std.specs.Prelude.{◌≡◌, ℕ, Bool, true, None, List}
 use Rattle.sqlite_value.specs.Order.{Row}
 use Rattle.desk_model.specs.Conclusions.{licence_for}
@@ -7,8 +8,8 @@ use Rattle.desk_model.specs.declared.command.Change.{Change}
 use Rattle.desk_model.specs.declared.command.Change.TheVariants as change
 use Rattle.desk_sql_layout.specs.Held.{rows_of}
 
--- The reference that a change adopts isn't adopted yet. Nothing is asked of any other change, since each
--- drops what it replaces.
+-- The reference that a change adopts isn't adopted yet. Nothing is asked of any other change, since
+-- each drops what it replaces.
 abbrev pub ReplacesNone : Change → Tables → Type 0
 ReplacesNone (change.Adopted row) t = licence_for t.adoption row.document row.reference ≡ None
 ReplacesNone _ t = Unit {0}

@@ -12,7 +12,8 @@ is_numbered first last row = nat_le first row.number && nat_le row.number last
 
 -- the changes set exactly the duties with these numbers, all to one state
 abbrev pub Sets : List ChangeRow → ℕ → ℕ → DutyState → Type 0
-Sets changes first last to = (duties : List DutyRow) → moved_by changes duties ≡ updated (is_numbered first last) (with_duty_state to) duties
+Sets changes first last to = (duties : List DutyRow)
+    → moved_by changes duties ≡ updated (is_numbered first last) (with_duty_state to) duties
 
 -- changes end with such a run, and these are the ones before it
 pub record IsRun (rows before : List ChangeRow) (first last : ℕ) (to : DutyState) : Type 0 where

@@ -15,42 +15,66 @@ use Rattle.desk_store.specs.declared.fault.AdoptFault.TheVariants as adopt
 -- ---- what was read
 
 -- a cause that needs one fact about the tables is one if they have another that implies it
-pub weaken_cause : (P Q : Tables → Type 0) (old new : State) (fault : Fault) → (HasCleanDisk new → IsTrue old.is_open → (t : Tables) → (seen_of old).holds t → AreWritten t → P t → Q t) → HasCauseIf Q old new fault → HasCauseIf P old new fault
-weaken_cause P Q old new fault so has = record { cause = λ clean opened unlimited t holds written is. has.cause clean opened unlimited t holds written (so clean opened t holds written is) }
+pub weaken_cause : (P Q : Tables → Type 0) (old new : State) (fault : Fault)
+    → (HasCleanDisk new → IsTrue old.is_open → (t : Tables) → (seen_of old).holds t → AreWritten t
+    → P t → Q t) → HasCauseIf Q old new fault → HasCauseIf P old new fault
+weaken_cause P Q old new fault so has = record {
+  cause = λ clean opened unlimited t holds written is. has.cause clean opened unlimited t holds
+      written (so clean opened t holds written is);
+}
 
 -- after another call
-pub later_cause : (Is : Tables → Type 0) (a b c : State) (fault : Fault) → HasStayed a b → IsSpared b c → HasCauseIf Is b c fault → HasCauseIf Is a c fault
+pub later_cause : (Is : Tables → Type 0) (a b c : State) (fault : Fault) → HasStayed a b
+    → IsSpared b c → HasCauseIf Is b c fault → HasCauseIf Is a c fault
 later_cause Is a b c fault stayed spared =
-    cause_after Is a b c (record { kept = kept a b stayed.0; stays = stayed.1 }) stayed.0.survives.limit (clean_before b c (λ _. ⊥) spared.survives) fault
+    cause_after Is a b c (record { kept = kept a b stayed.0; stays = stayed.1 })
+    stayed.0.survives.limit (clean_before b c (λ _. ⊥) spared.survives) fault
 
 -- ---- what isn't adopted
 
 -- a fault that was returned
-pub fault_adopts : (Given : Tables → Type 0) (old new : State) (fault : Fault) → HasCauseIf Given old new fault → AdoptFailsIf Given old new (adopt.Fault fault)
+pub fault_adopts : (Given : Tables → Type 0) (old new : State) (fault : Fault)
+    → HasCauseIf Given old new fault → AdoptFailsIf Given old new (adopt.Fault fault)
 fault_adopts Given old new fault has = record { cause = has.cause }
 
 -- what is never returned for such tables
-pub never_adopts : (Given : Tables → Type 0) (old new : State) (fault : AdoptFault) → (HasCleanDisk new → IsTrue old.is_open → (t : Tables) → (seen_of old).holds t → Given t → ⊥) → AdoptFailsIf Given old new fault
-never_adopts Given old new fault never = record { cause = λ clean opened unlimited t holds written is. absurd (never clean opened t holds is) }
+pub never_adopts : (Given : Tables → Type 0) (old new : State) (fault : AdoptFault)
+    → (HasCleanDisk new → IsTrue old.is_open → (t : Tables) → (seen_of old).holds t → Given t → ⊥)
+    → AdoptFailsIf Given old new fault
+never_adopts Given old new fault never = record {
+  cause = λ clean opened unlimited t holds written is. absurd (never clean opened t holds is);
+}
 
 -- one call after another
-module _ (Given : Tables → Type 0) (a b c : State) (stayed : HasStayed a b) (honest : HasCleanDisk c → HasCleanDisk b) where
+module _ (Given : Tables → Type 0) (a b c : State) (stayed : HasStayed a b)
+    (honest : HasCleanDisk c → HasCleanDisk b) where
   later : (fault : AdoptFault) → IsCausedFault b c fault → IsCausedFault a c fault
   later (adopt.Fault fault) (inl memory) = inl memory
-  later (adopt.Fault fault) (inr more) = inr (more.0, omega (arith, stayed.0.survives.counts, more.1))
+  later (adopt.Fault fault) (inr more) = inr (
+    more.0,
+    omega (arith, stayed.0.survives.counts, more.1),
+  )
   later adopt.NotADesk none = none
   later (adopt.BadVersion n) none = none
   later (adopt.Unsound f) none = none
 
-  pub adopts_after : (fault : AdoptFault) → AdoptFailsIf Given b c fault → AdoptFailsIf Given a c fault
+  pub adopts_after : (fault : AdoptFault) → AdoptFailsIf Given b c fault
+      → AdoptFailsIf Given a c fault
   adopts_after fault two = record {
     cause = λ clean opened unlimited t holds written is.
-        later fault (two.cause clean (stayed.1 (honest clean) opened) (stayed.0.survives.limit ∙ unlimited) t ((kept a b stayed.0).spared.holds t holds) written is);
+        later fault (two.cause clean (stayed.1 (honest clean) opened)
+        (stayed.0.survives.limit ∙ unlimited) t ((kept a b stayed.0).spared.holds t holds) written
+        is);
   }
 
-  pub err_adopts_after : {A : Type 0} (r : Result A AdoptFault) → IfErr r (AdoptFailsIf Given b c) → IfErr r (AdoptFailsIf Given a c)
+  pub err_adopts_after : {A : Type 0} (r : Result A AdoptFault) → IfErr r (AdoptFailsIf Given b c)
+      → IfErr r (AdoptFailsIf Given a c)
   err_adopts_after (Ok x) it = tt
   err_adopts_after (Err fault) it = adopts_after fault it
 
-pub any_adopts : (Given : Tables → Type 0) (old new : State) (fault : AdoptFault) → AdoptFailsIf (λ t. Unit {0}) old new fault → AdoptFailsIf Given old new fault
-any_adopts Given old new fault it = record { cause = λ clean opened unlimited t holds written is. it.cause clean opened unlimited t holds written tt }
+pub any_adopts : (Given : Tables → Type 0) (old new : State) (fault : AdoptFault)
+    → AdoptFailsIf (λ t. Unit {0}) old new fault → AdoptFailsIf Given old new fault
+any_adopts Given old new fault it = record {
+  cause = λ clean opened unlimited t holds written is.
+      it.cause clean opened unlimited t holds written tt;
+}

@@ -1,5 +1,6 @@
 -- The catalogue in force is the text of the last revision.
-use Rattle.std.proofs.Common.{◌≡◌, ◌<◌, ℕ, ◌+◌, Bool, true, false, List, [], ◌∷◌, ◌++◌, length, Option, None, refl, sym, ap, ◌∙◌, arith, find}
+use Rattle.std.proofs.Common.{◌≡◌, ◌<◌, ℕ, ◌+◌, Bool, true, false, List, [], ◌∷◌, ◌++◌, length}
+use Rattle.std.proofs.Common.{Option, None, refl, sym, ap, ◌∙◌, arith, find}
 use Rattle.std.specs.Prelude.{◌==◌}
 use Rattle.std.specs.Option.{option_map, option_and_then}
 use Rattle.std.specs.Result.{result_ok}
@@ -21,44 +22,56 @@ use Rattle.desk_store.specs.declared.counts.Counts.{Counts}
 abbrev row_of : ℕ → List ℕ → CatalogueRow
 row_of n text = record { revision = n; body = text }
 
-found_behind : (p : CatalogueRow → Bool) (xs : List CatalogueRow) (x : CatalogueRow) → find p xs ≡ None → find p (xs ++ x ∷ []) ≡ find p (x ∷ [])
+found_behind : (p : CatalogueRow → Bool) (xs : List CatalogueRow) (x : CatalogueRow)
+    → find p xs ≡ None → find p (xs ++ x ∷ []) ≡ find p (x ∷ [])
 found_behind p [] x none = refl
 found_behind p (y ∷ ys) x none = go (found_behind p ys x) (p y) refl
   where
-    go : (find p ys ≡ None → find p (ys ++ x ∷ []) ≡ find p (x ∷ [])) → (b : Bool) → p y ≡ b → find p (y ∷ ys ++ x ∷ []) ≡ find p (x ∷ [])
+    go : (find p ys ≡ None → find p (ys ++ x ∷ []) ≡ find p (x ∷ [])) → (b : Bool) → p y ≡ b
+        → find p (y ∷ ys ++ x ∷ []) ≡ find p (x ∷ [])
     go more true is = absurd (let e = rw is at none in cc)
     go more false is = rw is (more (rw is at none))
 
 -- no revision has a higher number than there are revisions
-none_higher : (h : List Command) (n : ℕ) → length (revisions h) < n → find (is_revision n) (revisions h) ≡ None
+none_higher : (h : List Command) (n : ℕ) → length (revisions h) < n
+    → find (is_revision n) (revisions h) ≡ None
 none_higher [] n more = refl
 none_higher (LoadCatalogue text ∷ h) n more =
     let last = row_of (length (revisions h) + 1) text in
-    let long : length (revisions h ++ last ∷ []) ≡ length (revisions h) + 1 = length-push (revisions h) last in
+    let long : length (revisions h ++ last ∷ []) ≡ length (revisions h) + 1 =
+    length-push (revisions h) last in
     let before : length (revisions h) < n = omega (arith, long) in
     let other : (length (revisions h) + 1 == n) ≡ false = grind (arith, nat_tests, long) in
     found_behind (is_revision n) (revisions h) last (none_higher h n before) ∙ rw other refl
 none_higher (_ ∷ h) n more = none_higher h n more
 
 -- the revision whose number is the number of revisions has the text that was loaded last
-last_body : (h : List Command) (n : ℕ) → length (revisions h) ≡ n → option_map (λ row. row.body) (find (is_revision n) (revisions h)) ≡ latest loaded h
+last_body : (h : List Command) (n : ℕ) → length (revisions h) ≡ n
+    → option_map (λ row. row.body) (find (is_revision n) (revisions h)) ≡ latest loaded h
 last_body [] n is = refl
 last_body (LoadCatalogue text ∷ h) n is =
     let last = row_of (length (revisions h) + 1) text in
-    let long : length (revisions h ++ last ∷ []) ≡ length (revisions h) + 1 = length-push (revisions h) last in
+    let long : length (revisions h ++ last ∷ []) ≡ length (revisions h) + 1 =
+    length-push (revisions h) last in
     let before : length (revisions h) < n = omega (arith, long) in
     let same : (length (revisions h) + 1 == n) ≡ true = grind (arith, nat_tests, long) in
-    ap (option_map (λ row. row.body)) (found_behind (is_revision n) (revisions h) last (none_higher h n before)) ∙ rw same refl
+    ap (option_map (λ row. row.body))
+    (found_behind (is_revision n) (revisions h) last (none_higher h n before)) ∙ rw same refl
 last_body (_ ∷ h) n is = last_body h n is
 
 -- what is read from tables is what a store knows of them
-pub known : (w : Readings) (t : Tables) (counts : Counts) (forms : List (List ℕ)) (body : Option (List ℕ)) → HasCounts counts t → body ≡ body_of t counts.revisions
-    → forms ≡ forms_in (option_and_then (λ text. result_ok (w.catalogue text)) body) → HasForms w t → known_of t ≡ known_by counts forms
+pub known : (w : Readings) (t : Tables) (counts : Counts) (forms : List (List ℕ))
+    (body : Option (List ℕ)) → HasCounts counts t → body ≡ body_of t counts.revisions
+    → forms ≡ forms_in (option_and_then (λ text. result_ok (w.catalogue text)) body) → HasForms w t
+    → known_of t ≡ known_by counts forms
 known w t counts forms body has read are right =
-    let told : Option (List ℕ) → List (List ℕ) = λ b. forms_in (option_and_then (λ text. result_ok (w.catalogue text)) b) in
-    let in_force : t.forms ≡ forms = right ∙ (ap (λ n. told (body_of t n)) has.revisions ∙ sym (are ∙ ap told read)) in
+    let told : Option (List ℕ) → List (List ℕ) =
+    λ b. forms_in (option_and_then (λ text. result_ok (w.catalogue text)) b) in
+    let in_force : t.forms ≡ forms = right
+    ∙ (ap (λ n. told (body_of t n)) has.revisions ∙ sym (are ∙ ap told read)) in
     rw (has.revisions, has.documents, has.releases, has.duties, in_force) refl
 
 -- the forms of the tables of a history are those of the catalogue that was loaded last
 pub history_forms : (w : Readings) (h : List Command) → HasForms w (tables w h)
-history_forms w h = ap (λ b. forms_in (option_and_then (λ text. result_ok (w.catalogue text)) b)) (sym (last_body h (length (revisions h)) refl))
+history_forms w h = ap (λ b. forms_in (option_and_then (λ text. result_ok (w.catalogue text)) b))
+    (sym (last_body h (length (revisions h)) refl))

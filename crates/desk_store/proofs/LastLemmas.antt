@@ -19,12 +19,15 @@ use Rattle.desk_store.specs.Last.{AreLast, IsDocument}
 use Rattle.desk_store.specs.Repeated.{no_choices, no_conclusions}
 
 -- a document that was found is kept, since others are added after it
-document_stays : (change : Change) (t : Tables) (known : ℕ × Profile) → IsDocument (Some known) t → IsDocument (Some known) (applied change t)
+document_stays : (change : Change) (t : Tables) (known : ℕ × Profile) → IsDocument (Some known) t
+    → IsDocument (Some known) (applied change t)
 document_stays (change.Imported row packages references) t known is =
     let at = is_document known.0 in
-    ap (option_map known_document) (find-append at t.document (row ∷ [])) ∙ first (find at t.document) (find at (row ∷ [])) is
+    ap (option_map known_document) (find-append at t.document (row ∷ []))
+    ∙ first (find at t.document) (find at (row ∷ [])) is
   where
-    first : (found other : Option DocumentRow) → option_map known_document found ≡ Some known → option_map known_document (option_or found other) ≡ Some known
+    first : (found other : Option DocumentRow) → option_map known_document found ≡ Some known
+        → option_map known_document (option_or found other) ≡ Some known
     first None other is = absurd (cc)
     first (Some row) other is = is
 document_stays (change.Loaded row rules forms) t known is = is
@@ -37,12 +40,27 @@ document_stays (change.Withdrew r moved) t known is = is
 document_stays (change.Concluded row) t known is = is
 document_stays (change.Adopted row) t known is = is
 
-pub last_stays : (change : Change) (t : Tables) (document : Option (ℕ × Profile)) → IsDocument document t → AreLast (record { document = document; rule = None; conclusions = no_conclusions; choices = no_choices }) (applied change t)
+pub last_stays : (change : Change) (t : Tables) (document : Option (ℕ × Profile))
+    → IsDocument document t → AreLast
+    (record {
+      document = document;
+      rule = None;
+      conclusions = no_conclusions;
+      choices = no_choices;
+    }) (applied change t)
 last_stays change t None is = record { document = tt; rule = tt; conclusions = tt; choices = tt }
-last_stays change t (Some known) is = record { document = document_stays change t known is; rule = tt; conclusions = tt; choices = tt }
+last_stays change t (Some known) is = record {
+  document = document_stays change t known is;
+  rule = tt;
+  conclusions = tt;
+  choices = tt;
+}
 
 -- a rule that was found is the rule for its own term and form
-pub rule_is_own : (rules : List Rule) (term form : List ℕ) (rule : Rule) → rule_for rules term form ≡ Some rule → rule_for rules rule.term rule.form ≡ Some rule
+pub rule_is_own : (rules : List Rule) (term form : List ℕ) (rule : Rule)
+    → rule_for rules term form ≡ Some rule → rule_for rules rule.term rule.form ≡ Some rule
 rule_is_own rules term form rule is =
-    let both = and_parts (bytes_eq rule.term term) (bytes_eq rule.form form) (found_in (is_rule term form) rules rule is).1 in
-    subst (λ x. rule_for rules x rule.form ≡ Some rule) (sym (same_text rule.term term both.0)) (subst (λ x. rule_for rules term x ≡ Some rule) (sym (same_text rule.form form both.1)) is)
+    let both = and_parts (bytes_eq rule.term term) (bytes_eq rule.form form)
+    (found_in (is_rule term form) rules rule is).1 in
+    subst (λ x. rule_for rules x rule.form ≡ Some rule) (sym (same_text rule.term term both.0))
+    (subst (λ x. rule_for rules term x ≡ Some rule) (sym (same_text rule.form form both.1)) is)

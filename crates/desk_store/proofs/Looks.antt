@@ -10,9 +10,12 @@ use Rattle.desk_sql_lookup.specs.Causes.{HasCauseIf}
 use Rattle.desk_sql_lookup.proofs.Causes.{memory_cause}
 
 -- a fault that says only that no memory was left always has a cause
-pub memory_causes : (Given : Tables → Type 0) (old new : State) {A : Type 0} (r : Result A Fault) → IfErr r (λ fault. fault ≡ Memory) → IfErr r (HasCauseIf Given old new)
-memory_causes Given old new r = IfErr-weaker r (λ fault. fault ≡ Memory) (HasCauseIf Given old new) (λ fault is. memory_cause Given old new fault is)
+pub memory_causes : (Given : Tables → Type 0) (old new : State) {A : Type 0} (r : Result A Fault)
+    → IfErr r (λ fault. fault ≡ Memory) → IfErr r (HasCauseIf Given old new)
+memory_causes Given old new r = IfErr-weaker r (λ fault. fault ≡ Memory) (HasCauseIf Given old new)
+    (λ fault is. memory_cause Given old new fault is)
 
-pub both_ok : {A E : Type 0} (r : Result A E) (P Q : A → Type 0) → IfOk r P → IfOk r Q → IfOk r (λ x. P x × Q x)
+pub both_ok : {A E : Type 0} (r : Result A E) (P Q : A → Type 0) → IfOk r P → IfOk r Q
+    → IfOk r (λ x. P x × Q x)
 both_ok (Ok x) P Q p q = (p, q)
 both_ok (Err e) P Q p q = tt

@@ -1,5 +1,7 @@
 -- What an adoption relies on is true of the tables of a recorded history.
-use Rattle.std.proofs.Common.{◌≡◌, ◌<◌, ◌≤◌, ◌^◌, ℕ, zero, suc, ◌+◌, ℤ, pos, negsuc, Bool, true, false, List, [], ◌∷◌, length, map, find, Option, Some, refl, sym, subst, arith}
+use Rattle.std.proofs.Common.{◌≡◌, ◌<◌, ◌≤◌, ◌^◌, ℕ, zero, suc, ◌+◌, ℤ, pos, negsuc, Bool, true}
+use Rattle.std.proofs.Common.{false, List, [], ◌∷◌, length, map, find, Option, Some, refl, sym}
+use Rattle.std.proofs.Common.{subst, arith}
 use Rattle.std.specs.Prelude.{IfSome, is_some}
 use Rattle.std.specs.List.{AllByRecursion, list_all, range_with_len}
 use Rattle.std.specs.Option.{option_map}
@@ -31,49 +33,68 @@ abbrev IsSmall : ℕ → Type 0
 IsSmall n = n < 2 ^ 32
 
 -- the numbers n, n + 1 and so on, each of 32 bits
-numbered_few : (n : ℕ) (ns : List ℕ) → n ≤ 2 ^ 32 → AreNumbered n ns → AllByRecursion IsSmall ns → n + length ns ≤ 2 ^ 32
+numbered_few : (n : ℕ) (ns : List ℕ) → n ≤ 2 ^ 32 → AreNumbered n ns → AllByRecursion IsSmall ns
+    → n + length ns ≤ 2 ^ 32
 numbered_few n [] low are all = omega (arith, low)
 numbered_few n (m ∷ ms) low are all =
     let next : n + 1 ≤ 2 ^ 32 = omega (arith, are.0, all.0) in
     let more = numbered_few (n + 1) ms next are.1 all.1 in omega (arith, more)
 
-small_keys : {X : Type 0} (cells : X → Row) (key : X → ℕ) → ((x : X) → IsRow (cells x) → IsSmall (key x)) → (xs : List X) → AllByRecursion IsRow (map cells xs) → AllByRecursion IsSmall (map key xs)
+small_keys : {X : Type 0} (cells : X → Row) (key : X → ℕ)
+    → ((x : X) → IsRow (cells x) → IsSmall (key x)) → (xs : List X)
+    → AllByRecursion IsRow (map cells xs) → AllByRecursion IsSmall (map key xs)
 small_keys cells key small [] all = tt
 small_keys cells key small (x ∷ xs) all = (small x all.0, small_keys cells key small xs all.1)
 
-few : {X : Type 0} (cells : X → Row) (key : X → ℕ) → ((x : X) → IsRow (cells x) → IsSmall (key x)) → (xs : List X) → AreNumbered 1 (map key xs) → AllByRecursion IsRow (map cells xs) → length xs < 2 ^ 32
-few cells key small xs are all = let it = numbered_few 1 (map key xs) (omega arith) are (small_keys cells key small xs all) in omega (arith, it, length-map xs key)
+few : {X : Type 0} (cells : X → Row) (key : X → ℕ) → ((x : X) → IsRow (cells x) → IsSmall (key x))
+    → (xs : List X) → AreNumbered 1 (map key xs) → AllByRecursion IsRow (map cells xs)
+    → length xs < 2 ^ 32
+few cells key small xs are all = let it =
+    numbered_few 1 (map key xs) (omega arith) are (small_keys cells key small xs all) in
+    omega (arith, it, length-map xs key)
 
 -- a place, a number of 32 bits
 abbrev IsSmallPlace : ℤ → Type 0
 IsSmallPlace (pos n) = n < 2 ^ 32
 IsSmallPlace (negsuc n) = ⊥
 
-range_few : (n k : ℕ) → n ≤ 2 ^ 32 → AllByRecursion IsSmallPlace (map pos (range_with_len n k)) → n + k ≤ 2 ^ 32
+range_few : (n k : ℕ) → n ≤ 2 ^ 32 → AllByRecursion IsSmallPlace (map pos (range_with_len n k))
+    → n + k ≤ 2 ^ 32
 range_few n zero low all = omega (arith, low)
 range_few n (suc k) low all =
     let here : n < 2 ^ 32 = all.0 in
     let more = range_few (n + 1) k (omega (arith, here)) all.1 in omega (arith, more)
 
-small_places : (rows : List ReleaseRow) → AllByRecursion IsRow (map release_cells rows) → AllByRecursion IsSmallPlace (map (λ row. row.place) (map release_stored rows))
+small_places : (rows : List ReleaseRow) → AllByRecursion IsRow (map release_cells rows)
+    → AllByRecursion IsSmallPlace (map (λ row. row.place) (map release_stored rows))
 small_places [] all = tt
 small_places (x ∷ xs) all = (all.0.1.0, small_places xs all.1)
 
 -- ---- the catalogue in force is read
 
-found_reads : (w : Readings) (n : ℕ) (rows : List CatalogueRow) → list_all (λ row. is_some (result_ok (w.catalogue row.body))) (map catalogue_stored rows) ≡ true
-    → IfSome (option_map (λ row. row.body) (find (is_revision n) rows)) (λ text. is_some (result_ok (w.catalogue text)) ≡ true)
+found_reads : (w : Readings) (n : ℕ) (rows : List CatalogueRow)
+    → list_all (λ row. is_some (result_ok (w.catalogue row.body))) (map catalogue_stored rows)
+    ≡ true
+    → IfSome (option_map (λ row. row.body) (find (is_revision n) rows))
+    (λ text. is_some (result_ok (w.catalogue text)) ≡ true)
 found_reads w n [] all = tt
 found_reads w n (row ∷ rows) all =
-    let both = and_parts (is_some (result_ok (w.catalogue row.body))) (list_all (λ row. is_some (result_ok (w.catalogue row.body))) (map catalogue_stored rows)) all in
+    let both = and_parts (is_some (result_ok (w.catalogue row.body)))
+    (list_all (λ row. is_some (result_ok (w.catalogue row.body))) (map catalogue_stored rows))
+    all in
     go both.0 (found_reads w n rows both.1) (is_revision n row) refl
   where
-    go : is_some (result_ok (w.catalogue row.body)) ≡ true → IfSome (option_map (λ row. row.body) (find (is_revision n) rows)) (λ text. is_some (result_ok (w.catalogue text)) ≡ true) → (b : Bool) → is_revision n row ≡ b
-        → IfSome (option_map (λ row. row.body) (find (is_revision n) (row ∷ rows))) (λ text. is_some (result_ok (w.catalogue text)) ≡ true)
+    go : is_some (result_ok (w.catalogue row.body)) ≡ true
+        → IfSome (option_map (λ row. row.body) (find (is_revision n) rows))
+        (λ text. is_some (result_ok (w.catalogue text)) ≡ true) → (b : Bool) → is_revision n row ≡ b
+        → IfSome (option_map (λ row. row.body) (find (is_revision n) (row ∷ rows)))
+        (λ text. is_some (result_ok (w.catalogue text)) ≡ true)
     go reads more true is = rw is reads
     go reads more false is = rw is more
 
-module _ (t : Tables) (recorded : AreRecorded t) (sound : (f : AuditFault) → Meets recorded.w (snapshot_of (tables recorded.w recorded.h)) f) where
+module _ (t : Tables) (recorded : AreRecorded t)
+    (sound : (f : AuditFault) → Meets recorded.w (snapshot_of (tables recorded.w recorded.h))
+    f) where
   met : (f : AuditFault) → Meets recorded.w (snapshot_of t) f
   met f = subst (λ u. Meets recorded.w (snapshot_of u) f) (sym recorded.is) (sound f)
 
@@ -82,16 +103,22 @@ module _ (t : Tables) (recorded : AreRecorded t) (sound : (f : AuditFault) → M
       let places = met BadChoice in
       let count = length (map release_stored t.releases) in
       let numbers : AllByRecursion IsSmallPlace (numbers_to count) =
-      all-permutation IsSmallPlace (map (λ row. row.place) (map release_stored t.releases)) (numbers_to count) (IsPermutation-sym _ _ places.places) (small_places t.releases all) in
-      let it = range_few 1 count (omega arith) numbers in omega (arith, it, length-map t.releases release_stored)
+      all-permutation IsSmallPlace (map (λ row. row.place) (map release_stored t.releases))
+      (numbers_to count) (IsPermutation-sym _ _ places.places) (small_places t.releases all) in
+      let it = range_few 1 count (omega arith) numbers in
+      omega (arith, it, length-map t.releases release_stored)
 
   pub are_few : (db : Database) → Holds t db → AreWritten t → AreFew t
   are_few db holds written = record {
-    revisions = few catalogue_cells (λ row. row.revision) (λ row is. is.0) t.catalogue holds.orderly.revisions (written.cells 1);
-    documents = few document_cells (λ row. row.number) (λ row is. is.0) t.document holds.orderly.documents (written.cells 4);
+    revisions = few catalogue_cells (λ row. row.revision) (λ row is. is.0) t.catalogue
+        holds.orderly.revisions (written.cells 1);
+    documents = few document_cells (λ row. row.number) (λ row is. is.0) t.document
+        holds.orderly.documents (written.cells 4);
     releases = few_releases (written.cells 14);
-    duties = few duty_cells (λ row. row.number) (λ row is. is.0) t.duty holds.orderly.duties (written.cells 23);
+    duties = few duty_cells (λ row. row.number) (λ row is. is.0) t.duty holds.orderly.duties
+        (written.cells 23);
   }
 
   pub has_catalogue : HasCatalogue recorded.w t
-  has_catalogue = let revisions = met BadRevision in found_reads recorded.w (length t.catalogue) t.catalogue revisions.read
+  has_catalogue = let revisions = met BadRevision in
+      found_reads recorded.w (length t.catalogue) t.catalogue revisions.read

@@ -11,14 +11,23 @@ use Rattle.desk_sorted.proofs.Placing.{within}
 use Rattle.desk_sorted.proofs.Walking.{find_same}
 use Rattle.desk_sql_lookup.specs.Shown.{is_conclusion_in}
 
-pub office_among : (d : ℕ) (id : List ℕ) (rows all : List ConclusionRow) → rows ≡ filter (is_conclusion_in d) all → office_text rows d id ≡ office_text all d id
+pub office_among : (d : ℕ) (id : List ℕ) (rows all : List ConclusionRow)
+    → rows ≡ filter (is_conclusion_in d) all → office_text rows d id ≡ office_text all d id
 office_among d id rows all are =
     let one = is_conclusion d id in
     ap (option_map (λ (row : ConclusionRow). row.expression))
-    (find_same one rows all (ap (filter one) are ∙ within one (is_conclusion_in d) (λ row is. (and_parts (row.document == d) (bytes_eq row.package_id id) is).0) all))
+    (find_same one rows all (ap (filter one) are
+    ∙ within one (is_conclusion_in d)
+    (λ row is. (and_parts (row.document == d) (bytes_eq row.package_id id) is).0) all))
 
-pub terms_among : (r : List ℕ) (d : ℕ) (id : List ℕ) (rows all : List ChoiceRow) → rows ≡ filter (is_choice_in r) all → map (λ (row : ChoiceRow). row.term) (filter (is_choice_of r d id) rows) ≡ map (λ (row : ChoiceRow). row.term) (filter (is_choice_of r d id) all)
+pub terms_among : (r : List ℕ) (d : ℕ) (id : List ℕ) (rows all : List ChoiceRow)
+    → rows ≡ filter (is_choice_in r) all
+    → map (λ (row : ChoiceRow). row.term) (filter (is_choice_of r d id) rows)
+    ≡ map (λ (row : ChoiceRow). row.term) (filter (is_choice_of r d id) all)
 terms_among r d id rows all are =
     let own = is_choice_of r d id in
     ap (map (λ (row : ChoiceRow). row.term))
-    (ap (filter own) are ∙ within own (is_choice_in r) (λ row is. (and_parts (bytes_eq row.release r) (row.document == d) (and_parts (bytes_eq row.release r && (row.document == d)) (bytes_eq row.package_id id) is).0).0) all)
+    (ap (filter own) are ∙ within own (is_choice_in r)
+    (λ row is. (and_parts (bytes_eq row.release r) (row.document == d)
+    (and_parts (bytes_eq row.release r && (row.document == d)) (bytes_eq row.package_id id)
+    is).0).0) all)

@@ -16,7 +16,8 @@ use Rattle.desk_store.specs.declared.fault.AdoptFault.{AdoptFault}
 use Rattle.desk_store.specs.declared.fault.AdoptFault.TheVariants.{NotADesk, BadVersion, Unsound, Fault}
 
 -- after an audit the disk is as clean as before
-pub survived : {A : Type 0} (a b : State) (r : Result A AdoptFault) → OnOk r (HasStayed a b) → IfErr r (IsLeft a b) → Survives a b (λ _. ⊥)
+pub survived : {A : Type 0} (a b : State) (r : Result A AdoptFault) → OnOk r (HasStayed a b)
+    → IfErr r (IsLeft a b) → Survives a b (λ _. ⊥)
 survived a b (Ok x) stayed left = stayed.0.survives
 survived a b (Err (Fault f)) stayed left = left.survives
 survived a b (Err NotADesk) stayed left = left.0.survives
@@ -25,34 +26,48 @@ survived a b (Err (Unsound f)) stayed left = left.0.survives
 
 module _ (old between : State) where
   -- a connection that is unchanged shows what it showed, if it was open
-  pub stayed_now : HasStayed old between → HasCleanDisk between → IsTrue old.is_open → between.now ≡ old.now
+  pub stayed_now : HasStayed old between → HasCleanDisk between → IsTrue old.is_open
+      → between.now ≡ old.now
   stayed_now it clean is = it.0.now clean (it.1 clean is)
 
-  reports_before : (told : AuditReport) → between.now ≡ old.now → Reports between told → Reports old told
+  reports_before : (told : AuditReport) → between.now ≡ old.now → Reports between told
+      → Reports old told
   reports_before told same it = (it.0, subst (IsSnapshot it.0) same it.1, it.2)
 
-  pub reason_after : {A : Type 0} (r : Result A AdoptFault) → IsContent old content.Desk → (IsTrue old.is_open → between.now ≡ old.now) → IfErr r IsOfAudit
+  pub reason_after : {A : Type 0} (r : Result A AdoptFault) → IsContent old content.Desk
+      → (IsTrue old.is_open → between.now ≡ old.now) → IfErr r IsOfAudit
       → (between.now.schema ≡ desk_schema → IfErr r (IsFinding between)) → IfErr r (IsReason old)
   reason_after (Ok x) desk same only told = tt
-  reason_after (Err (Unsound f)) desk same only told =
-      (desk, λ is. reports_before (report.Unsound f) (same is) (told (ap (λ d. d.schema) (same is) ∙ desk.1)))
+  reason_after (Err (Unsound f)) desk same only told = (
+    desk,
+    λ is. reports_before (report.Unsound f) (same is)
+        (told (ap (λ d. d.schema) (same is) ∙ desk.1)),
+  )
   reason_after (Err (Fault f)) desk same only told = tt
   reason_after (Err NotADesk) desk same only told = absurd only
   reason_after (Err (BadVersion n)) desk same only told = absurd only
 
-  pub passed_after : {A : Type 0} (r : Result A AdoptFault) → IsContent old content.Desk → between.now ≡ old.now
-      → (between.now.schema ≡ desk_schema → OnOk r (Reports between report.Sound)) → OnOk r (Reports old report.Sound)
-  passed_after (Ok x) desk same told = reports_before report.Sound same (told (ap (λ d. d.schema) same ∙ desk.1))
+  pub passed_after : {A : Type 0} (r : Result A AdoptFault) → IsContent old content.Desk
+      → between.now ≡ old.now
+      → (between.now.schema ≡ desk_schema → OnOk r (Reports between report.Sound))
+      → OnOk r (Reports old report.Sound)
+  passed_after (Ok x) desk same told = reports_before report.Sound same
+      (told (ap (λ d. d.schema) same ∙ desk.1))
   passed_after (Err e) desk same told = tt
 
   then : {new : State} → HasStayed old between → HasStayed between new → HasStayed old new
-  then {new} p q = (spared_then old between new p.0 q.0, λ clean is. q.1 clean (p.1 (clean_before between new (λ _. ⊥) q.0.survives clean) is))
+  then {new} p q = (
+    spared_then old between new p.0 q.0,
+    λ clean is. q.1 clean (p.1 (clean_before between new (λ _. ⊥) q.0.survives clean) is),
+  )
 
-  pub stayed_after : {A : Type 0} (new : State) (r : Result A AdoptFault) → HasStayed old between → OnOk r (HasStayed between new) → OnOk r (HasStayed old new)
+  pub stayed_after : {A : Type 0} (new : State) (r : Result A AdoptFault) → HasStayed old between
+      → OnOk r (HasStayed between new) → OnOk r (HasStayed old new)
   stayed_after new (Ok x) stayed it = then stayed it
   stayed_after new (Err e) stayed it = tt
 
-  pub left_after : {A : Type 0} (new : State) (r : Result A AdoptFault) → HasStayed old between → IfErr r (IsLeft between new) → IfErr r (IsLeft old new)
+  pub left_after : {A : Type 0} (new : State) (r : Result A AdoptFault) → HasStayed old between
+      → IfErr r (IsLeft between new) → IfErr r (IsLeft old new)
   left_after new (Ok x) stayed left = tt
   left_after new (Err (Fault f)) stayed left = spared_then old between new stayed.0 left
   left_after new (Err NotADesk) stayed left = then stayed left

@@ -37,10 +37,11 @@ pub record HasCounts (counts : Counts) (t : Tables) : Type 0 where
   pub releases : length t.releases ≡ counts.releases
   pub duties : length t.duty ≡ counts.duties
 
--- the forms of tables, which are in no table, only in a text, are those that a reading gives the catalogue in
--- force
+-- the forms of tables, which are in no table, only in a text, are those that a reading gives the
+-- catalogue in force
 abbrev pub HasForms : Readings → Tables → Type 0
-HasForms w t = t.forms ≡ forms_in (option_and_then (λ text. result_ok (w.catalogue text)) (body_of t (length t.catalogue)))
+HasForms w t = t.forms ≡ forms_in
+    (option_and_then (λ text. result_ok (w.catalogue text)) (body_of t (length t.catalogue)))
 
 -- no memory was left, or the store failed
 abbrev pub IsFault : AdoptFault → Type 0
@@ -66,7 +67,8 @@ IsFinding s _ = Unit {0}
 abbrev pub IsReason : State → AdoptFault → Type 0
 IsReason s NotADesk = IsContent s content.Other
 IsReason s (BadVersion version) = IsContent s (content.OtherVersion version)
-IsReason s (Unsound fault) = IsContent s content.Desk × (IsTrue s.is_open → Reports s (report.Unsound fault))
+IsReason s (Unsound fault) = IsContent s content.Desk
+    × (IsTrue s.is_open → Reports s (report.Unsound fault))
 IsReason s (Fault fault) = Unit {0}
 
 -- the connection shows what it showed; only a fault may have ended that

@@ -11,7 +11,8 @@ use Rattle.desk_texts.specs.Right.{AreRight}
 
 -- the report on the rows of a database, by each right reading
 abbrev pub Reports : State → AuditReport → Type 0
-Reports old report = (s : Snapshot) × IsSnapshot s old.now × ((w : Readings) → AreRight w → IsReport w s report)
+Reports old report = (s : Snapshot) × IsSnapshot s old.now
+    × ((w : Readings) → AreRight w → IsReport w s report)
 
 -- The report is that on the rows, if the tables are declared as a desk's are.
 abbrev pub IsAudit : State → State → AuditReport → Type 0

@@ -19,31 +19,40 @@ use Rattle.desk_store.specs.declared.fault.AdoptFault.{AdoptFault}
 use Rattle.desk_store.specs.declared.fault.AdoptFault.TheVariants as adopt
 use Rattle.desk_texts.specs.Right.{AreRight}
 
--- If the rows are as a desk writes them, and the steps of a query have no limit, a look-up of a store fails
--- only if no memory is left, or with a fault of the database if the disk failed once more. `Given` is what
--- else is known of the tables.
-pub record MissesIf (Given : Tables → Type 0) (seen : Seen Trees) (old new : State) (fault : Fault) : Type 0 where
-  pub cause : HasCleanDisk new → IsTrue old.is_open → old.step_limit ≡ None → (t : Tables) → seen.holds t → AreWritten t → Given t → IsCaused old new fault
+-- If the rows are as a desk writes them, and the steps of a query have no limit, a look-up of a
+-- store fails only if no memory is left, or with a fault of the database if the disk failed once
+-- more. `Given` is what else is known of the tables.
+pub record MissesIf (Given : Tables → Type 0) (seen : Seen Trees) (old new : State)
+    (fault : Fault) : Type 0 where
+  pub cause : HasCleanDisk new → IsTrue old.is_open → old.step_limit ≡ None → (t : Tables)
+      → seen.holds t → AreWritten t → Given t → IsCaused old new fault
 
 -- what a look-up does to a store, over a connection in these states
-pub record FindsGiven {A : Type 0} (Given : Tables → Type 0) (before after : Seen Trees) (old new : State) (result : Result A Fault) (Is : A → Tables → Type 0) : Type 0 where
+pub record FindsGiven {A : Type 0} (Given : Tables → Type 0) (before after : Seen Trees)
+    (old new : State) (result : Result A Fault) (Is : A → Tables → Type 0) : Type 0 where
   -- what was found is true of the rows
   pub found : IfOk result (λ x. OfRows (Is x) before after)
   pub kept : Looked before after result
   pub cause : IfErr result (MissesIf Given before old new)
 
 -- a look-up of a store, by what contracts see of the store, and by the state of its connection
-abbrev pub FindsIf : {Store A : Type 0} → (Tables → Type 0) → (Store → Seen Trees) → (Store → State) → Store → Store → Result A Fault → (A → Tables → Type 0) → Type 0
+abbrev pub FindsIf : {Store A : Type 0} → (Tables → Type 0) → (Store → Seen Trees) → (Store → State)
+    → Store → Store → Result A Fault → (A → Tables → Type 0) → Type 0
 FindsIf Given seen conn old new = FindsGiven Given (seen old) (seen new) (conn old) (conn new)
 
-abbrev pub Finds : {Store A : Type 0} → (Store → Seen Trees) → (Store → State) → Store → Store → Result A Fault → (A → Tables → Type 0) → Type 0
+abbrev pub Finds : {Store A : Type 0} → (Store → Seen Trees) → (Store → State) → Store → Store
+    → Result A Fault → (A → Tables → Type 0) → Type 0
 Finds seen conn old new = FindsGiven (λ t. Unit {0}) (seen old) (seen new) (conn old) (conn new)
 
--- If a change continues the rows, which are as a desk writes them, the tables can hold the rows before and
--- after it, and there are rowids for those that it adds, a commit fails only for such a cause.
-pub record CommitFailsFor (change : Change) (seen : Seen Trees) (old new : State) (fault : Fault) : Type 0 where
-  pub cause : HasCleanDisk new → IsTrue old.is_open → old.step_limit ≡ None → (t : Tables) → seen.holds t → AreWritten t → Follows change t
-      → CanStand (rows_of t) → CanStand (rows_of (applied change t)) → HasRoom (rows_in change) old.now.trees → IsCaused old new fault
+-- If a change continues the rows, which are as a desk writes them, the tables can hold the rows
+-- before and after it, and there are rowids for those that it adds, a commit fails only for such a
+-- cause.
+pub record CommitFailsFor (change : Change) (seen : Seen Trees) (old new : State)
+    (fault : Fault) : Type 0 where
+  pub cause : HasCleanDisk new → IsTrue old.is_open → old.step_limit ≡ None → (t : Tables)
+      → seen.holds t → AreWritten t → Follows change t
+      → CanStand (rows_of t) → CanStand (rows_of (applied change t))
+      → HasRoom (rows_in change) old.now.trees → IsCaused old new fault
 
 -- the number of rows of each of these kinds is a number of 32 bits
 pub record AreFew (t : Tables) : Type 0 where
@@ -54,7 +63,8 @@ pub record AreFew (t : Tables) : Type 0 where
 
 -- the text of the last revision, if there is one, is a catalogue
 abbrev pub HasCatalogue : Readings → Tables → Type 0
-HasCatalogue w t = IfSome (body_of t (length t.catalogue)) (λ text. is_some (result_ok (w.catalogue text)) ≡ true)
+HasCatalogue w t = IfSome (body_of t (length t.catalogue))
+    (λ text. is_some (result_ok (w.catalogue text)) ≡ true)
 
 -- they are the tables of a recorded history
 pub record AreRecorded (t : Tables) : Type 0 where
@@ -69,10 +79,12 @@ abbrev pub IsCausedFault : State → State → AdoptFault → Type 0
 IsCausedFault old new (adopt.Fault fault) = IsCaused old new fault
 IsCausedFault old new _ = ⊥
 
--- If the rows are as a desk writes them, and the steps of a query have no limit, a database is left without
--- being adopted only for such a cause. `Given` is what else is known of the tables.
-pub record AdoptFailsIf (Given : Tables → Type 0) (old new : State) (fault : AdoptFault) : Type 0 where
-  pub cause : HasCleanDisk new → IsTrue old.is_open → old.step_limit ≡ None → (t : Tables) → (seen_of old).holds t → AreWritten t → Given t → IsCausedFault old new fault
+-- If the rows are as a desk writes them, and the steps of a query have no limit, a database is left
+-- without being adopted only for such a cause. `Given` is what else is known of the tables.
+pub record AdoptFailsIf (Given : Tables → Type 0) (old new : State)
+    (fault : AdoptFault) : Type 0 where
+  pub cause : HasCleanDisk new → IsTrue old.is_open → old.step_limit ≡ None → (t : Tables)
+      → (seen_of old).holds t → AreWritten t → Given t → IsCausedFault old new fault
 
 -- the same for the tables of recorded histories
 abbrev pub AdoptFailsFor : State → State → AdoptFault → Type 0

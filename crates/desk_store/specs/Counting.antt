@@ -1,5 +1,6 @@
--- What the store keeps beside its tables: how many rows some of them have, the forms of the catalogue in force, the tallies of the
--- releases, the references of one document that are adopted, the releases that hold a choice, and what was looked up last.
+-- What the store keeps beside its tables: how many rows some of them have, the forms of the
+-- catalogue in force, the tallies of the releases, the references of one document that are adopted,
+-- the releases that hold a choice, and what was looked up last.
 use Rattle.std.specs.Prelude.{◌≡◌, ◌<◌, ◌^◌, ℕ, ◌+◌, Bool, true, false, List, length, None}
 use Rattle.sqlite_trees.specs.Tree.{Trees}
 use Rattle.desk_model.specs.declared.command.Change.{Change}
@@ -29,7 +30,10 @@ abbrev pub counts_after : Change → Counts → Counts
 counts_after (change.Loaded row rules forms) c = record c { revisions = c.revisions + 1 }
 counts_after (change.Imported row packages references) c = record c { documents = c.documents + 1 }
 counts_after (change.Opened row) c = record c { releases = c.releases + 1 }
-counts_after (change.Froze release revision rows duties changes) c = record c { duties = c.duties + length duties }
+counts_after (change.Froze release revision rows duties changes) c = record c {
+  duties = c.duties
+      + length duties;
+}
 counts_after _ c = c
 
 -- the count to which a change adds has room for it in 32 bits
@@ -57,8 +61,8 @@ AreFound found t = AreAdopted found.adoptions t × AreHeld found.holders t × Ar
 abbrev pub nothing_kept : Found
 nothing_kept = record { adoptions = None; holders = None; last = nothing_last }
 
--- What contracts see of a store that knows this of its rows, has these tallies of them, and found this. It
--- was looked up, so it is true of the rows as far as the disk is honest.
+-- What contracts see of a store that knows this of its rows, has these tallies of them, and found
+-- this. It was looked up, so it is true of the rows as far as the disk is honest.
 abbrev pub tallied : Found → Tallies → Known → Seen Trees → Seen Trees
 tallied found tallies k s = record {
   holds = λ t. (known_of t ≡ k) × AreKept tallies t × s.holds t × (s.is_honest → AreFound found t);

@@ -17,17 +17,22 @@ held_by holders = rows_in holders.rows.blocks.items
 
 -- one of these releases has this name and this place
 abbrev pub IsPlace : List ReleaseRow → List ℕ → ℕ → Type 0
-IsPlace releases name place = (row : ReleaseRow) × IsIn row releases × (row.name ≡ name) × (row.place ≡ place)
+IsPlace releases name place = (row : ReleaseRow) × IsIn row releases × (row.name ≡ name)
+    × (row.place ≡ place)
 
 -- each of these choices is in one of these releases
 abbrev pub have_releases : List ReleaseRow → List ChoiceRow → Bool
-have_releases releases choices = list_all (λ row. is_some (place_found releases row.release)) choices
+have_releases releases choices = list_all (λ row. is_some (place_found releases row.release))
+    choices
 
--- They are the holders of these choices: each is one of these releases, with its place, and a release is
--- among them for a package exactly if one of the choices is in it.
-pub record AreHoldersOf (releases : List ReleaseRow) (choices : List ChoiceRow) (holders : List Holder) : Type 0 where
-  pub placed : (holder : Holder) → IsIn holder holders → IsPlace releases holder.release holder.place
-  pub holding : (r : List ℕ) (d : ℕ) (p : List ℕ) → list_any (is_holder r d p) holders ≡ list_any (is_choice_of r d p) choices
+-- They are the holders of these choices: each is one of these releases, with its place, and a
+-- release is among them for a package exactly if one of the choices is in it.
+pub record AreHoldersOf (releases : List ReleaseRow) (choices : List ChoiceRow)
+    (holders : List Holder) : Type 0 where
+  pub placed : (holder : Holder) → IsIn holder holders
+      → IsPlace releases holder.release holder.place
+  pub holding : (r : List ℕ) (d : ℕ) (p : List ℕ)
+      → list_any (is_holder r d p) holders ≡ list_any (is_choice_of r d p) choices
 
 -- they are those of the tables; if none are kept, nothing is said
 abbrev pub AreHeld : Option Holders → Tables → Type 0

@@ -13,7 +13,8 @@ use Rattle.desk_store.specs.Repeated.{AreChoices, AreConclusions, no_choices, no
 -- a document, by its number and its profile
 abbrev pub IsDocument : Option (ℕ × Profile) → Tables → Type 0
 IsDocument None t = Unit {0}
-IsDocument (Some known) t = option_map known_document (find (is_document known.0) t.document) ≡ Some known
+IsDocument (Some known) t = option_map known_document (find (is_document known.0) t.document)
+    ≡ Some known
 
 -- the rule in force for its term and its form
 abbrev pub IsRule : Option Rule → Tables → Type 0
@@ -27,4 +28,9 @@ pub record AreLast (last : Last) (t : Tables) : Type 0 where
   pub choices : AreChoices last.choices t
 
 abbrev pub nothing_last : Last
-nothing_last = record { document = None; rule = None; conclusions = no_conclusions; choices = no_choices }
+nothing_last = record {
+  document = None;
+  rule = None;
+  conclusions = no_conclusions;
+  choices = no_choices;
+}

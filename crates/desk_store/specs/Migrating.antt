@@ -9,7 +9,8 @@ use Rattle.desk_sql_migrate.specs.declared.fault.MigrateFault.TheVariants.{Fault
 -- the tables were migrated, and the connection shows them, as far as it still shows anything
 pub record IsMoved (old new : State) : Type 0 where
   pub survives : Survives old new (LeavesSome old)
-  pub shows : HasCleanDisk new → IsTrue new.is_open → (version : OlderVersion) × Migrated version old new
+  pub shows : HasCleanDisk new → IsTrue new.is_open
+      → (version : OlderVersion) × Migrated version old new
 
 -- The connection shows what it showed; after a fault it may also show the migrated tables.
 abbrev pub IsLeftBy : State → State → MigrateFault → Type 0

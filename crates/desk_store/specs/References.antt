@@ -9,10 +9,12 @@ use Rattle.desk_store.specs.declared.adoptions.Adoptions.{Adoptions}
 
 -- each adopted reference of a document is among these
 abbrev pub AreAmong : BTreeSet (String Global) → ℕ → Tables → Type 0
-AreAmong references document t = (reference : List ℕ) → contains_text references reference ≡ false → licence_for t.adoption document reference ≡ None
+AreAmong references document t = (reference : List ℕ) → contains_text references reference ≡ false
+    → licence_for t.adoption document reference ≡ None
 
--- the document has this many adopted references, and all are among those that are kept; if none are kept,
--- nothing is said
+-- the document has this many adopted references, and all are among those that are kept; if none are
+-- kept, nothing is said
 abbrev pub AreAdopted : Option Adoptions → Tables → Type 0
 AreAdopted None t = Unit {0}
-AreAdopted (Some kept) t = (kept.count ≡ adoption_count t kept.document) × AreAmong kept.references kept.document t
+AreAdopted (Some kept) t = (kept.count ≡ adoption_count t kept.document)
+    × AreAmong kept.references kept.document t

@@ -8,11 +8,14 @@ use Rattle.desk_store.specs.declared.repeated.Conclusions.{Conclusions}
 
 -- if they were read, they are the conclusions of their document
 abbrev pub AreConclusions : Conclusions → Tables → Type 0
-AreConclusions kept t = IfSome kept.rows (λ rows. rows.rows.items ≡ filter (is_conclusion_in kept.document) t.conclusion)
+AreConclusions kept t = IfSome kept.rows
+    (λ rows. rows.rows.items ≡ filter (is_conclusion_in kept.document) t.conclusion)
 
 -- if they were read, they are the choices of their release
 abbrev pub AreChoices : Choices → Tables → Type 0
-AreChoices kept t = IfSome kept.rows (λ rows. IfSome kept.release (λ release. rows.rows.items ≡ filter (is_choice_in release) t.choice))
+AreChoices kept t = IfSome kept.rows
+    (λ rows. IfSome kept.release (λ release. rows.rows.items
+    ≡ filter (is_choice_in release) t.choice))
 
 abbrev pub no_conclusions : Conclusions
 no_conclusions = record { document = 0; asked = 0; rows = None }

@@ -1,5 +1,6 @@
 -- The lines of a listing, one by one, and that there is only one listing.
-use Rattle.std.proofs.Common.{◌≡◌, ◌∙◌, ℕ, suc, ◌+◌, ◌<◌, List, [], ◌∷◌, ◌++◌, length, get_or, take, codes, sym, ap, subst, refl, append_assoc, arith}
+use Rattle.std.proofs.Common.{◌≡◌, ◌∙◌, ℕ, suc, ◌+◌, ◌<◌, List, [], ◌∷◌, ◌++◌, length, get_or, take}
+use Rattle.std.proofs.Common.{codes, sym, ap, subst, refl, append_assoc, arith}
 use Rattle.std.specs.Prelude.{IfOk}
 use Rattle.std.proofs.Common.{Result, Ok, Err}
 use Rattle.std.specs.declared.alloc.AllocError.{AllocError}
@@ -19,7 +20,8 @@ use Rattle.desk_subcommands.specs.declared.report.Report.TheVariants.{Fault}
 use Rattle.desk_subcommands.specs.declared.listing.Listing.{Listing}
 use Rattle.desk_subcommands.specs.declared.listing.Listing.TheVariants.{Sets, TooManyTerms, TooMany, Unread}
 use Rattle.desk_subcommands.specs.Report.{text_of}
-use Rattle.desk_subcommands.specs.Listing.{IsListing, IsListingOf, set_text, sets_text, listing_text, listing_status, ListsOnce}
+use Rattle.desk_subcommands.specs.Listing.{IsListing, IsListingOf, set_text, sets_text}
+use Rattle.desk_subcommands.specs.Listing.{listing_text, listing_status, ListsOnce}
 use Rattle.desk_alts.proofs.TreeStops.{one_stop}
 use Rattle.desk_subcommands.proofs.OneAnswer.{one_tree}
 
@@ -30,32 +32,44 @@ abbrev pub between : List Term → List ℕ
 between [] = []
 between (t ∷ ts) = codes ", "
 
-set_pushed : (ts : List Term) (t : Term) → set_text (ts ++ t ∷ []) ≡ set_text ts ++ (between ts ++ printed_term t)
+set_pushed : (ts : List Term) (t : Term)
+    → set_text (ts ++ t ∷ []) ≡ set_text ts ++ (between ts ++ printed_term t)
 set_pushed [] t = refl
 set_pushed (x ∷ []) t = refl
 set_pushed (x ∷ y ∷ ys) t =
     ap (λ (l : List ℕ). printed_term x ++ (codes ", " ++ l)) (set_pushed (y ∷ ys) t)
-    ∙ (ap (λ (l : List ℕ). printed_term x ++ l) (sym (append_assoc (codes ", ") (set_text (y ∷ ys)) (codes ", " ++ printed_term t)))
-    ∙ sym (append_assoc (printed_term x) (codes ", " ++ set_text (y ∷ ys)) (codes ", " ++ printed_term t)))
+    ∙ (ap (λ (l : List ℕ). printed_term x ++ l)
+    (sym (append_assoc (codes ", ") (set_text (y ∷ ys)) (codes ", " ++ printed_term t)))
+    ∙ sym (append_assoc (printed_term x) (codes ", " ++ set_text (y ∷ ys))
+    (codes ", " ++ printed_term t)))
 
-pub set_more : (ts : List Term) (i : ℕ) (t : Term) (start old mid new : List ℕ) → i < length ts → t ≡ get_or ts i t → old ≡ start ++ set_text (take i ts)
-    → mid ≡ old ++ between (take i ts) → new ≡ mid ++ printed_term t → new ≡ start ++ set_text (take (i + 1) ts)
+pub set_more : (ts : List Term) (i : ℕ) (t : Term) (start old mid new : List ℕ) → i < length ts
+    → t ≡ get_or ts i t → old ≡ start ++ set_text (take i ts)
+    → mid ≡ old ++ between (take i ts) → new ≡ mid ++ printed_term t
+    → new ≡ start ++ set_text (take (i + 1) ts)
 set_more ts i t start old mid new within is so_far step last =
-    let next : take (i + 1) ts ≡ take i ts ++ t ∷ [] = take_more ts i t within ∙ ap (λ (x : Term). take i ts ++ x ∷ []) (sym is) in
+    let next : take (i + 1) ts ≡ take i ts ++ t ∷ [] = take_more ts i t within
+    ∙ ap (λ (x : Term). take i ts ++ x ∷ []) (sym is) in
     let grown = ap set_text next ∙ set_pushed (take i ts) t in
     last
-    ∙ (ap (λ (l : List ℕ). l ++ printed_term t) (step ∙ ap (λ (l : List ℕ). l ++ between (take i ts)) so_far)
+    ∙ (ap (λ (l : List ℕ). l ++ printed_term t)
+    (step ∙ ap (λ (l : List ℕ). l ++ between (take i ts)) so_far)
     ∙ (append_assoc (start ++ set_text (take i ts)) (between (take i ts)) (printed_term t)
     ∙ (append_assoc start (set_text (take i ts)) (between (take i ts) ++ printed_term t)
     ∙ ap (λ (l : List ℕ). start ++ l) (sym grown))))
 
-sets_pushed : (ss : List (List Term)) (s : List Term) → sets_text (ss ++ s ∷ []) ≡ sets_text ss ++ (set_text s ++ 10 ∷ [])
+sets_pushed : (ss : List (List Term)) (s : List Term)
+    → sets_text (ss ++ s ∷ []) ≡ sets_text ss ++ (set_text s ++ 10 ∷ [])
 sets_pushed [] s = append-nil (set_text s ++ 10 ∷ [])
-sets_pushed (x ∷ xs) s = ap (λ (l : List ℕ). (set_text x ++ 10 ∷ []) ++ l) (sets_pushed xs s) ∙ sym (append_assoc (set_text x ++ 10 ∷ []) (sets_text xs) (set_text s ++ 10 ∷ []))
+sets_pushed (x ∷ xs) s = ap (λ (l : List ℕ). (set_text x ++ 10 ∷ []) ++ l) (sets_pushed xs s)
+    ∙ sym (append_assoc (set_text x ++ 10 ∷ []) (sets_text xs) (set_text s ++ 10 ∷ []))
 
-pub sets_more : (ss : List (List Term)) (i : ℕ) (s : List Term) (old mid new : List ℕ) → i < length ss → s ≡ get_or ss i s → old ≡ sets_text (take i ss) → mid ≡ old ++ set_text s → new ≡ mid ++ 10 ∷ [] → new ≡ sets_text (take (i + 1) ss)
+pub sets_more : (ss : List (List Term)) (i : ℕ) (s : List Term) (old mid new : List ℕ)
+    → i < length ss → s ≡ get_or ss i s → old ≡ sets_text (take i ss) → mid ≡ old ++ set_text s
+    → new ≡ mid ++ 10 ∷ [] → new ≡ sets_text (take (i + 1) ss)
 sets_more ss i s old mid new within is so_far step last =
-    let next : take (i + 1) ss ≡ take i ss ++ s ∷ [] = take_more ss i s within ∙ ap (λ (x : List Term). take i ss ++ x ∷ []) (sym is) in
+    let next : take (i + 1) ss ≡ take i ss ++ s ∷ [] = take_more ss i s within
+    ∙ ap (λ (x : List Term). take i ss ++ x ∷ []) (sym is) in
     last
     ∙ (ap (λ (l : List ℕ). l ++ 10 ∷ []) (step ∙ ap (λ (l : List ℕ). l ++ set_text s) so_far)
     ∙ (append_assoc (sets_text (take i ss)) (set_text s) (10 ∷ [])
@@ -63,20 +77,27 @@ sets_more ss i s old mid new within is so_far step last =
 
 -- ---- one listing
 
-one_list : (tree : Tree) (xs ys : List (List Term)) → AreAlternatives tree xs → AreAlternatives tree ys → xs ≡ ys
+one_list : (tree : Tree) (xs ys : List (List Term)) → AreAlternatives tree xs
+    → AreAlternatives tree ys → xs ≡ ys
 one_list tree xs ys a b =
     let P = λ (s : List Term). IsTermSet s × IsMinimal s tree in
     same_sorted set_order set_total xs ys a.ordered b.ordered
     (λ s. (
-      (λ at. let own : IsTermSet s × IsMinimal s tree = All-contains P xs s a.only at in b.every s own.0 own.1),
-      (λ at. let own : IsTermSet s × IsMinimal s tree = All-contains P ys s b.only at in a.every s own.0 own.1),
+      (λ at. let own : IsTermSet s × IsMinimal s tree = All-contains P xs s a.only at in
+          b.every s own.0 own.1),
+      (λ at. let own : IsTermSet s × IsMinimal s tree = All-contains P ys s b.only at in
+          a.every s own.0 own.1),
     ))
 
 abbrev SameListed : Listing → Listing → Type 0
 SameListed a b = (listing_text a ≡ listing_text b) × (listing_status a ≡ listing_status b)
 
-one_of_tree : (tree : Tree) (a b : Listing) → IsListingOf tree a → IsListingOf tree b → SameListed a b
-one_of_tree tree (Sets xs) (Sets ys) h k = (ap sets_text (one_list tree xs.items ys.items h.1 k.1), refl)
+one_of_tree : (tree : Tree) (a b : Listing) → IsListingOf tree a → IsListingOf tree b
+    → SameListed a b
+one_of_tree tree (Sets xs) (Sets ys) h k = (
+  ap sets_text (one_list tree xs.items ys.items h.1 k.1),
+  refl,
+)
 one_of_tree tree (Sets xs) TooManyTerms h k = absurd (h.0.0 k)
 one_of_tree tree (Sets xs) TooMany h k = absurd (h.0.1 k.1)
 one_of_tree tree (Sets xs) (Unread f) h k = absurd k
@@ -99,8 +120,12 @@ module _ (profile : Profile) (expression : List ℕ) where
       let same : tree' ≡ tree = one_tree profile expression tree' tree spells' spells in
       one_of_tree tree a b is (subst (λ t. IsListingOf t b) same is')
 
-  one_fault : (f g : ParseFault) → IsListing profile expression (Unread f) → IsListing profile expression (Unread g) → SameListed (Unread f) (Unread g)
-  one_fault f g h k = (ap (λ x. text_of (Fault x) ++ 10 ∷ []) (one_stop profile expression f g h.1 k.1 h.2 k.2), refl)
+  one_fault : (f g : ParseFault) → IsListing profile expression (Unread f)
+      → IsListing profile expression (Unread g) → SameListed (Unread f) (Unread g)
+  one_fault f g h k = (
+    ap (λ x. text_of (Fault x) ++ 10 ∷ []) (one_stop profile expression f g h.1 k.1 h.2 k.2),
+    refl,
+  )
 
   from_spelled : (a b : Listing) → Listed a → IsListing profile expression b → SameListed a b
   from_spelled a (Sets ys) h k = one_spelled a (Sets ys) h k
@@ -108,20 +133,27 @@ module _ (profile : Profile) (expression : List ℕ) where
   from_spelled a TooMany h k = one_spelled a TooMany h k
   from_spelled a (Unread g) h k = absurd (k.0 h.0 h.1)
 
-  from_unread : (f : ParseFault) (b : Listing) → IsListing profile expression (Unread f) → IsListing profile expression b → SameListed (Unread f) b
+  from_unread : (f : ParseFault) (b : Listing) → IsListing profile expression (Unread f)
+      → IsListing profile expression b → SameListed (Unread f) b
   from_unread f (Sets ys) h k = absurd (h.0 k.0 k.1)
   from_unread f TooManyTerms h k = absurd (h.0 k.0 k.1)
   from_unread f TooMany h k = absurd (h.0 k.0 k.1)
   from_unread f (Unread g) h k = one_fault f g h k
 
-  one_listing : (a b : Listing) → IsListing profile expression a → IsListing profile expression b → SameListed a b
+  one_listing : (a b : Listing) → IsListing profile expression a → IsListing profile expression b
+      → SameListed a b
   one_listing (Sets xs) b h k = from_spelled (Sets xs) b h k
   one_listing TooManyTerms b h k = from_spelled TooManyTerms b h k
   one_listing TooMany b h k = from_spelled TooMany b h k
   one_listing (Unread f) b h k = from_unread f b h k
 
 pub lists_once : (profile : Profile) (expression : List ℕ) → ListsOnce profile expression
-lists_once profile expression text other status another (a, is, same, number) (b, is', same', number') =
+lists_once profile expression text other status another (a, is, same, number) (
+  b,
+  is',
+  same',
+  number',
+) =
     let both = one_listing profile expression a b is is' in
     (same ∙ (both.0 ∙ sym same'), number ∙ (both.1 ∙ sym number'))
 
@@ -136,12 +168,17 @@ between_next ts i within =
     by_head [] none = absurd (omega arith)
     by_head (u ∷ us) some = refl
 
-reported : (profile : Profile) (expression : List ℕ) (tree : Tree) (listing : Listing) → SpellsWithinBy profile expression tree → IsListingOf tree listing → IsListing profile expression listing
+reported : (profile : Profile) (expression : List ℕ) (tree : Tree) (listing : Listing)
+    → SpellsWithinBy profile expression tree → IsListingOf tree listing
+    → IsListing profile expression listing
 reported profile expression tree (Sets sets) spells is = (tree, spells, is)
 reported profile expression tree TooManyTerms spells is = (tree, spells, is)
 reported profile expression tree TooMany spells is = (tree, spells, is)
 reported profile expression tree (Unread fault) spells is = absurd is
 
-pub listing_reported : (profile : Profile) (expression : List ℕ) (tree : Tree) (r : Result Listing AllocError) → SpellsWithinBy profile expression tree → IfOk r (IsListingOf tree) → IfOk r (IsListing profile expression)
-listing_reported profile expression tree (Ok listing) spells is = reported profile expression tree listing spells is
+pub listing_reported : (profile : Profile) (expression : List ℕ) (tree : Tree)
+    (r : Result Listing AllocError) → SpellsWithinBy profile expression tree
+    → IfOk r (IsListingOf tree) → IfOk r (IsListing profile expression)
+listing_reported profile expression tree (Ok listing) spells is = reported profile expression tree
+    listing spells is
 listing_reported profile expression tree (Err error) spells is = tt

@@ -3,7 +3,8 @@ use Rattle.std.proofs.Common.{ℕ, List, Option, Some, None, ◌∙◌}
 use Rattle.std.specs.Io.KnownBytes.{Appends, Keeps}
 
 -- bytes that were appended are still appended after a call that keeps them
-pub appends_kept : (old mid new : Option (List ℕ)) (bytes : List ℕ) → Appends old mid bytes → Keeps mid new → Appends old new bytes
+pub appends_kept : (old mid new : Option (List ℕ)) (bytes : List ℕ) → Appends old mid bytes
+    → Keeps mid new → Appends old new bytes
 appends_kept None mid new bytes appends keeps = tt
 appends_kept (Some xs) None new bytes appends keeps = absurd appends
 appends_kept (Some xs) (Some ys) None bytes appends keeps = absurd keeps

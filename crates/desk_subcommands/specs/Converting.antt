@@ -22,7 +22,8 @@ convert_fault_line fault = (codes "fault: " ++ fault_words fault) ++ 10 ∷ []
 abbrev pub Converts : List ℕ → List ℕ → ℕ → Type 0
 Converts bytes text status =
     ((c : Converted) × IsConverted bytes c × (text ≡ string_bytes c.text) × (status ≡ 0))
-    ⊎ ((fault : ConvertFault) × IsRefused bytes fault × (text ≡ convert_fault_line fault) × (status ≡ 1))
+    ⊎ ((fault : ConvertFault) × IsRefused bytes fault × (text ≡ convert_fault_line fault)
+    × (status ≡ 1))
 
 -- a blank, a tab, a line feed or a carriage return (RFC 8259)
 abbrev pub is_json_blank : ℕ → Bool

@@ -4,7 +4,9 @@ use Rattle.std.specs.String.{string_bytes}
 use Rattle.desk_model.specs.declared.command.Fault.{Fault}
 use Rattle.desk_script.specs.declared.serving.ScriptFault.{ScriptFault}
 use Rattle.desk_subcommands.specs.declared.failure.Failure.{Failure}
-use Rattle.desk_subcommands.specs.declared.failure.Failure.TheVariants.{Memory, Write, Script, Failed, Request, BadValue, UnknownName}
+use Rattle.desk_subcommands.specs.declared.failure.Failure.TheVariants.{Memory, Write, Script}
+use Rattle.desk_subcommands.specs.declared.failure.Failure.TheVariants.{Failed, Request, BadValue}
+use Rattle.desk_subcommands.specs.declared.failure.Failure.TheVariants.{UnknownName}
 
 -- the fact holds if no memory was left
 abbrev pub IfMemory : Type 0 → Failure → Type 0
@@ -23,22 +25,22 @@ IfUntold fact BadValue = fact
 IfUntold fact (UnknownName name) = fact
 IfUntold fact _ = Unit {0}
 
--- the program's status: 2, a wrong command line, if a value can't be written in its field or a name is
--- unknown, and else 3, a fault
+-- the program's status: 2, a wrong command line, if a value can't be written in its field or a name
+-- is unknown, and else 3, a fault
 abbrev pub failure_status : Failure → ℕ
 failure_status BadValue = 2
 failure_status (UnknownName name) = 2
 failure_status _ = 3
 
--- what holds if a script stopped by a fault, which the failure reports, and what if this many of its requests
--- failed; it has no other failure
+-- what holds if a script stopped by a fault, which the failure reports, and what if this many of
+-- its requests failed; it has no other failure
 abbrev pub OfScript : (ScriptFault → Type 0) → (ℕ → Type 0) → Failure → Type 0
 OfScript stopped failed (Script fault) = stopped fault
 OfScript stopped failed (Failed count) = failed count
 OfScript stopped failed _ = ⊥
 
--- what holds if the desk failed at a command by a fault, and what if the reply couldn't be written; it has no
--- other failure
+-- what holds if the desk failed at a command by a fault, and what if the reply couldn't be written;
+-- it has no other failure
 abbrev pub OfRequest : (Fault → Type 0) → Type 0 → Failure → Type 0
 OfRequest failed untold (Request fault) = failed fault
 OfRequest failed untold (Memory error) = untold

@@ -1,5 +1,5 @@
--- What `import` and `catalogue` write, and the status that they return; and what is written of a file that
--- keeps no desk.
+-- What `import` and `catalogue` write, and the status that they return; and what is written of a
+-- file that keeps no desk.
 use Rattle.std.specs.Prelude.{◌≡◌, ◌++◌, ℕ, List, [], ◌∷◌, Option, codes}
 use Rattle.std.specs.Io.KnownBytes.{Appends}
 use Rattle.desk_model.specs.Readings.{Readings}
@@ -35,8 +35,8 @@ outcome_line outcome = line_of (Became outcome)
 abbrev pub no_text : Outcome
 no_text = Answered (Refused (BadCatalogue NotToml))
 
--- the name of the reason why a file keeps no desk; if the tables aren't sound, that of the first condition
--- that they don't meet
+-- the name of the reason why a file keeps no desk; if the tables aren't sound, that of the first
+-- condition that they don't meet
 abbrev pub no_desk_name : NoDesk → List ℕ
 no_desk_name NotADesk = codes "NotADesk"
 no_desk_name BadVersion = codes "BadVersion"
@@ -46,15 +46,18 @@ no_desk_name (Unsound fault) = audit_name fault
 abbrev pub no_desk_line : NoDesk → List ℕ
 no_desk_line reason = (codes "fault: " ++ no_desk_name reason) ++ 10 ∷ []
 
-module _ (is_right : Readings → Type 0) (tells : StoreFault → Type 0) {Left : Type 0} (stands : Left → Tables → Type 0) (command : Command) (before after : Seen Left) where
-  -- the command comes to this outcome on a desk, and the rows become what they become for a script's request
+module _ (is_right : Readings → Type 0) (tells : StoreFault → Type 0) {Left : Type 0}
+    (stands : Left → Tables → Type 0) (command : Command) (before after : Seen Left) where
+  -- the command comes to this outcome on a desk, and the rows become what they become for a
+  -- script's request
   abbrev pub Comes : Outcome → Type 0
   Comes outcome = Replies is_right tells stands before (Act command) (Became outcome) after
 
   -- the desk answers the command, the reply is written, and the status is the answer's
   abbrev pub IsAnswered : Option (List ℕ) → Option (List ℕ) → ℕ → Type 0
   IsAnswered old new status =
-      (answer : Answer) × Comes (Answered answer) × Appends old new (outcome_line (Answered answer)) × (status ≡ answer_status answer)
+      (answer : Answer) × Comes (Answered answer) × Appends old new (outcome_line (Answered answer))
+      × (status ≡ answer_status answer)
 
   -- the desk fails by a fault, and the reply says so
   abbrev pub HasFailed : Option (List ℕ) → Option (List ℕ) → Fault → Type 0

@@ -13,4 +13,5 @@ gathering_status answer = if is_document answer then 0 else 1
 -- the text and the status for the document of a tree
 abbrev pub Gathers : Reader → List SourceFile → Named → List ℕ → ℕ → Type 0
 Gathers r files title text status =
-    (answer : Gathering) × IsGathering r files title answer × (text ≡ gathering_text answer) × (status ≡ gathering_status answer)
+    (answer : Gathering) × IsGathering r files title answer × (text ≡ gathering_text answer)
+    × (status ≡ gathering_status answer)

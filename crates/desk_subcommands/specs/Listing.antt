@@ -24,7 +24,8 @@ IsListingOf tree (Unread fault) = ⊥
 -- the answer to an expression, read by a profile of operators: a fault of its text first
 abbrev pub IsListing : Profile → List ℕ → Listing → Type 0
 IsListing profile expression (Unread fault) = StopsWith profile expression fault
-IsListing profile expression listing = (tree : Tree) × SpellsWithinBy profile expression tree × IsListingOf tree listing
+IsListing profile expression listing = (tree : Tree) × SpellsWithinBy profile expression tree
+    × IsListingOf tree listing
 
 -- ---- its text
 
@@ -53,9 +54,11 @@ listing_status _ = 1
 
 -- the lines and the status for the minimal sets of the expression
 abbrev pub Lists : Profile → List ℕ → List ℕ → ℕ → Type 0
-Lists profile expression text status = (listing : Listing) × IsListing profile expression listing × (text ≡ listing_text listing) × (status ≡ listing_status listing)
+Lists profile expression text status = (listing : Listing) × IsListing profile expression listing
+    × (text ≡ listing_text listing) × (status ≡ listing_status listing)
 
 -- there is only one such text and one such status
 abbrev pub ListsOnce : Profile → List ℕ → Type 0
 ListsOnce profile expression =
-    (text other : List ℕ) (status another : ℕ) → Lists profile expression text status → Lists profile expression other another → (text ≡ other) × (status ≡ another)
+    (text other : List ℕ) (status another : ℕ) → Lists profile expression text status
+    → Lists profile expression other another → (text ≡ other) × (status ≡ another)

@@ -7,4 +7,5 @@ use Rattle.desk_explain.specs.Explanations.{block}
 
 -- there are entries of the name, and the block of each is written
 abbrev pub Explains : List Entry → Option (List ℕ) → Option (List ℕ) → ℕ → Type 0
-Explains entries old new status = (entries ≢ []) × Appends old new (flat_map block entries) × (status ≡ 0)
+Explains entries old new status = (entries ≢ []) × Appends old new (flat_map block entries)
+    × (status ≡ 0)

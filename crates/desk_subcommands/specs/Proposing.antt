@@ -16,14 +16,18 @@ use Rattle.desk_subcommands.specs.Filing.{outcome_line}
 -- the lines that are proposed for a document
 abbrev pub HasLines : (List ℕ → Option Tree) → ℕ → DocumentText → List ℕ → ℕ → Type 0
 HasLines reads number d text status =
-    (proposals : Proposals) × AreProposals reads number d proposals × (text ≡ string_bytes proposals.lines) × (status ≡ 0)
+    (proposals : Proposals) × AreProposals reads number d proposals
+    × (text ≡ string_bytes proposals.lines) × (status ≡ 0)
 
 -- the reply to an import of bytes that are no document
 abbrev pub IsRefused : Readings → List ℕ → List ℕ → ℕ → Type 0
 IsRefused w bytes text status =
-    (fault : DocumentFault) × (w.document bytes ≡ Err fault) × (text ≡ outcome_line (Answered (Refused (BadDocument fault)))) × (status ≡ 1)
+    (fault : DocumentFault) × (w.document bytes ≡ Err fault)
+    × (text ≡ outcome_line (Answered (Refused (BadDocument fault)))) × (status ≡ 1)
 
--- the text and the status for the proposals for the document that bytes spell, or for bytes that spell none
+-- the text and the status for the proposals for the document that bytes spell, or for bytes that
+-- spell none
 abbrev pub Proposes : Readings → (List ℕ → Option Tree) → ℕ → List ℕ → List ℕ → ℕ → Type 0
 Proposes w reads number bytes text status =
-    ((d : DocumentText) × Spells bytes (Ok d) × HasLines reads number d text status) ⊎ IsRefused w bytes text status
+    ((d : DocumentText) × Spells bytes (Ok d) × HasLines reads number d text status)
+    ⊎ IsRefused w bytes text status

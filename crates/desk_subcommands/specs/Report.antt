@@ -38,21 +38,26 @@ IsFirstBad words bad =
 abbrev pub IsVerdict : List (List ℕ) → List Term → Tree → Report → Type 0
 IsVerdict words terms tree Minimal = IsMinimal terms tree
 IsVerdict words terms tree NotEnough = Holds (Contains terms) tree → ⊥
-IsVerdict words terms tree (Superfluous word) = (i : ℕ) × (slice_get words i ≡ Some word.now) × IsFirst (CanGo terms tree) i
+IsVerdict words terms tree (Superfluous word) = (i : ℕ) × (slice_get words i ≡ Some word.now)
+    × IsFirst (CanGo terms tree) i
 IsVerdict words terms tree _ = ⊥
 
--- read by the profile, the expression spells no tree, and reading stops with this fault, which is not for
--- lack of memory
+-- read by the profile, the expression spells no tree, and reading stops with this fault, which is
+-- not for lack of memory
 abbrev pub StopsWith : Profile → List ℕ → ParseFault → Type 0
 StopsWith profile expression fault =
-    ((tree : Tree) → SpellsWithinBy profile expression tree → ⊥) × (0 < fault_number fault) × IsStopBy SpellsTree profile expression fault
+    ((tree : Tree) → SpellsWithinBy profile expression tree → ⊥) × (0 < fault_number fault)
+    × IsStopBy SpellsTree profile expression fault
 
--- the answer to an expression, its profile of operators and words: a fault of the expression first, then the first bad word, then the verdict
+-- the answer to an expression, its profile of operators and words: a fault of the expression first,
+-- then the first bad word, then the verdict
 abbrev pub IsReport : Profile → List ℕ → List (List ℕ) → Report → Type 0
 IsReport profile expression words (Fault fault) = StopsWith profile expression fault
-IsReport profile expression words (BadTerm word) = ((tree : Tree) × SpellsWithinBy profile expression tree) × IsFirstBad words word.now
+IsReport profile expression words (BadTerm word) = ((tree : Tree)
+    × SpellsWithinBy profile expression tree) × IsFirstBad words word.now
 IsReport profile expression words verdict =
-    (tree : Tree) × (terms : List Term) × SpellsWithinBy profile expression tree × SpellTerms words terms × IsVerdict words terms tree verdict
+    (tree : Tree) × (terms : List Term) × SpellsWithinBy profile expression tree
+    × SpellTerms words terms × IsVerdict words terms tree verdict
 
 -- ---- its text
 
@@ -62,7 +67,8 @@ text_of Minimal = codes "minimal"
 text_of NotEnough = codes "not enough"
 text_of (Superfluous word) = codes "superfluous: " ++ word.now
 text_of (BadTerm word) = codes "bad term: " ++ word.now
-text_of (Fault fault) = codes "fault: " ++ fault_name fault ++ codes " at " ++ decimal (fault_place fault)
+text_of (Fault fault) = codes "fault: " ++ fault_name fault ++ codes " at "
+    ++ decimal (fault_place fault)
 
 -- the program's status: done, or refused
 abbrev pub status_of : Report → ℕ
@@ -72,12 +78,14 @@ status_of _ = 1
 -- the line and the status that say whether the words are a minimal choice for the expression
 abbrev pub Tells : Profile → List ℕ → List (List ℕ) → List ℕ → ℕ → Type 0
 Tells profile expression words line status =
-    (report : Report) × IsReport profile expression words report × (line ≡ text_of report) × (status ≡ status_of report)
+    (report : Report) × IsReport profile expression words report × (line ≡ text_of report)
+    × (status ≡ status_of report)
 
 -- there is only one such line and one such status
 abbrev pub TellsOnce : Profile → List ℕ → List (List ℕ) → Type 0
 TellsOnce profile expression words =
-    (line other : List ℕ) (status another : ℕ) → Tells profile expression words line status → Tells profile expression words other another
+    (line other : List ℕ) (status another : ℕ) → Tells profile expression words line status
+    → Tells profile expression words other another
     → (line ≡ other) × (status ≡ another)
 
 -- ---- the reading of the words

@@ -28,13 +28,17 @@ abbrev pub unless : Option DocFault → DocumentText → Result DocumentText Doc
 unless None d = Ok d
 unless (Some fault) d = Err fault
 
--- the fields are a document; or they have the fault of the first that fails, or else of the first that is missing
+-- the fields are a document; or they have the fault of the first that fails, or else of the first
+-- that is missing
 abbrev pub judged : List EntryText → Result DocumentText DocFault
 judged es = unless (first_of (first_fault [] es) (missing_of es)) (document_of es)
 
 -- too many bytes; no UTF-8; no fields; or what the fields are
 pub data Spells : List ℕ → Result DocumentText DocFault → Type 0 where
   too_large : (bytes : List ℕ) → document_bytes < length bytes → Spells bytes (Err faults.TooLarge)
-  no_text : (bytes : List ℕ) → length bytes ≤ document_bytes → (IsUtf8 bytes → ⊥) → Spells bytes (Err faults.NotUtf8)
-  no_fields : (bytes : List ℕ) (fault : DocFault) → length bytes ≤ document_bytes → IsUtf8 bytes → Reads 1 (behind_mark bytes) (Err fault) → Spells bytes (Err fault)
-  fields : (bytes : List ℕ) (fs : List FieldText) → length bytes ≤ document_bytes → IsUtf8 bytes → Reads 1 (behind_mark bytes) (Ok fs) → Spells bytes (judged (map read_entry fs))
+  no_text : (bytes : List ℕ) → length bytes ≤ document_bytes → (IsUtf8 bytes → ⊥)
+      → Spells bytes (Err faults.NotUtf8)
+  no_fields : (bytes : List ℕ) (fault : DocFault) → length bytes ≤ document_bytes → IsUtf8 bytes
+      → Reads 1 (behind_mark bytes) (Err fault) → Spells bytes (Err fault)
+  fields : (bytes : List ℕ) (fs : List FieldText) → length bytes ≤ document_bytes → IsUtf8 bytes
+      → Reads 1 (behind_mark bytes) (Ok fs) → Spells bytes (judged (map read_entry fs))

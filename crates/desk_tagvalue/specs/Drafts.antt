@@ -1,5 +1,5 @@
--- The lines of a draft: the document (SPDX 2.3, clause 6), its one package (clause 7), which it describes (clause 11),
--- and the package's files (clause 8).
+-- The lines of a draft: the document (SPDX 2.3, clause 6), its one package (clause 7), which it
+-- describes (clause 11), and the package's files (clause 8).
 use Rattle.std.specs.Prelude.{ℕ, ◌+◌, List, [], ◌∷◌, ◌++◌, codes, if◌then◌else◌}
 use Rattle.std.specs.List.{flat_map}
 use Rattle.std.specs.Str.{bytes_eq}
@@ -27,11 +27,13 @@ line_text (InText tag value) = in_text tag value.now
 abbrev pub spelled : LineText → List ℕ
 spelled blank = 10 ∷ []
 spelled (one_line tag value) = tag_name tag ++ (codes ": " ++ (value ++ (10 ∷ [])))
-spelled (in_text tag value) = tag_name tag ++ (codes ": <text>" ++ (value ++ (codes "</text>" ++ (10 ∷ []))))
+spelled (in_text tag value) = tag_name tag
+    ++ (codes ": <text>" ++ (value ++ (codes "</text>" ++ (10 ∷ []))))
 
 -- anything but NOASSERTION is in <text>
 abbrev pub copyright_line : Tag → List ℕ → LineText
-copyright_line tag value = if bytes_eq value (codes "NOASSERTION") then one_line tag value else in_text tag value
+copyright_line tag value = if bytes_eq value (codes "NOASSERTION") then one_line tag value
+    else in_text tag value
 
 abbrev pub head_lines : Draft → List LineText
 head_lines d =
@@ -65,7 +67,8 @@ lines_of_file name id checksum f =
 
 -- the lines of the file with number k
 abbrev pub file_lines : ℕ → DraftFile → List LineText
-file_lines k f = lines_of_file (codes "./" ++ f.path) (codes "SPDXRef-File-" ++ decimal k) (codes "SHA1: " ++ encode_lower f.digest) f
+file_lines k f = lines_of_file (codes "./" ++ f.path) (codes "SPDXRef-File-" ++ decimal k)
+    (codes "SHA1: " ++ encode_lower f.digest) f
 
 -- the lines of files, numbered from k
 abbrev pub files_lines : ℕ → List DraftFile → List LineText

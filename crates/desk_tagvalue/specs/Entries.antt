@@ -20,7 +20,8 @@ read_entry f = record { line = f.line; tag = tag_of f.tag; value = f.value }
 
 -- the fields of a text, with their tags read
 abbrev pub AreEntries : List ℕ → List EntryText → Type 0
-AreEntries text es = (fs : List FieldText) × Reads 1 (behind_mark text) (Ok fs) × (es ≡ map read_entry fs)
+AreEntries text es = (fs : List FieldText) × Reads 1 (behind_mark text) (Ok fs)
+    × (es ≡ map read_entry fs)
 
 -- the bytes of a text, if there is one
 abbrev pub value_text : Option (Bor (List ℕ)) → Option (List ℕ)

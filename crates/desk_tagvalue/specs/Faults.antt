@@ -1,5 +1,6 @@
 -- Which field of a document fails, and how, given the fields before it, the newest first.
-use Rattle.std.specs.Prelude.{ℕ, ◌&&◌, ◌||◌, not, Bool, true, false, List, [], ◌∷◌, Option, Some, None, is_some, if◌then◌else◌, codes, count_by, nat_le}
+use Rattle.std.specs.Prelude.{ℕ, ◌&&◌, ◌||◌, not, Bool, true, false, List, [], ◌∷◌, Option, Some}
+use Rattle.std.specs.Prelude.{None, is_some, if◌then◌else◌, codes, count_by, nat_le}
 use Rattle.std.specs.List.{list_any}
 use Rattle.std.specs.Str.{bytes_eq}
 use Rattle.desk_base.specs.Limits.{document_elements}
@@ -46,7 +47,8 @@ is_too_many before e = begins e && nat_le document_elements (count_by begins bef
 abbrev pub is_again : List EntryText → EntryText → Bool
 is_again before e =
     if once_in_document e.tag then list_any (has_tag e.tag) before
-    else once_in_section e.tag && is_placed (kind_of before) e.tag && list_any (has_tag e.tag) (section before)
+    else once_in_section e.tag && is_placed (kind_of before) e.tag
+    && list_any (has_tag e.tag) (section before)
 
 -- an identifier of another form
 abbrev pub is_misspelt : Option IdForm → List ℕ → Bool
@@ -85,7 +87,8 @@ is_taken (Some forms.Licence) id before = has_licence id before
 
 -- the versions that are read (clause 6.1)
 abbrev pub is_version : List ℕ → Bool
-is_version value = bytes_eq value (codes "SPDX-2.1") || bytes_eq value (codes "SPDX-2.2") || bytes_eq value (codes "SPDX-2.3")
+is_version value = bytes_eq value (codes "SPDX-2.1") || bytes_eq value (codes "SPDX-2.2")
+    || bytes_eq value (codes "SPDX-2.3")
 
 -- faults of a field because of what precedes it, in their order
 abbrev pub place_fault : List EntryText → EntryText → Option DocFault
@@ -97,13 +100,15 @@ place_fault before e =
 
 -- an identifier that was used before
 abbrev pub double_fault : List EntryText → EntryText → Option DocFault
-double_fault before e = if is_taken (names before e) e.value before then Some (faults.DuplicateId e.line) else None
+double_fault before e = if is_taken (names before e) e.value before
+    then Some (faults.DuplicateId e.line) else None
 
 -- faults of a field because of its value alone
 abbrev pub value_fault : EntryText → Option DocFault
 value_fault e =
     if same_tag e.tag tags.Version && not (is_version e.value) then Some (faults.BadVersion e.line)
-    else (if same_tag e.tag tags.Relationship && not (is_relationship e.value) then Some (faults.BadRelationship e.line)
+    else (if same_tag e.tag tags.Relationship && not (is_relationship e.value)
+    then Some (faults.BadRelationship e.line)
     else None)
 
 abbrev pub first_of : Option DocFault → Option DocFault → Option DocFault
@@ -112,7 +117,8 @@ first_of (Some fault) later = Some fault
 
 -- how a field fails after those before it, the first in the stated order
 abbrev pub field_fault : List EntryText → EntryText → Option DocFault
-field_fault before e = first_of (place_fault before e) (first_of (double_fault before e) (value_fault e))
+field_fault before e = first_of (place_fault before e)
+    (first_of (double_fault before e) (value_fault e))
 
 -- the fault of the first field that fails, after those before it
 abbrev pub first_fault : List EntryText → List EntryText → Option DocFault

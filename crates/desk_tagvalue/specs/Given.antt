@@ -36,7 +36,8 @@ AreFiles k _ _ = ⊥
 
 -- the document describes its package
 abbrev pub IsOnlyEdge : List EdgeText → Type 0
-IsOnlyEdge (e ∷ []) = (e.left ≡ codes "SPDXRef-DOCUMENT") × (e.kind ≡ codes "DESCRIBES") × (e.right ≡ codes "SPDXRef-Package")
+IsOnlyEdge (e ∷ []) = (e.left ≡ codes "SPDXRef-DOCUMENT") × (e.kind ≡ codes "DESCRIBES")
+    × (e.right ≡ codes "SPDXRef-Package")
 IsOnlyEdge _ = ⊥
 
 pub record GivesDraft (d : Draft) (x : DocumentText) : Type 0 where

@@ -1,4 +1,5 @@
--- The identifiers of elements and of extracted licences (SPDX 2.3, clauses 6.3, 7.2, 8.2, 9.1 and 10.1).
+-- The identifiers of elements and of extracted licences (SPDX 2.3, clauses 6.3, 7.2, 8.2, 9.1 and
+-- 10.1).
 use Rattle.std.specs.Prelude.{ℕ, Bool, ◌&&◌, nat_eq, nat_lt, List, length, drop, codes}
 use Rattle.std.specs.List.{starts_with, list_all}
 use Rattle.std.specs.Str.{bytes_eq}

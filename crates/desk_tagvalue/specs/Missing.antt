@@ -1,4 +1,5 @@
--- Fields that a document, and each package and file, must have (SPDX 2.3, clauses 6.1, 6.3 to 6.5, 7.2 and 8.2).
+-- Fields that a document, and each package and file, must have (SPDX 2.3, clauses 6.1, 6.3 to 6.5,
+-- 7.2 and 8.2).
 use Rattle.std.specs.Prelude.{Bool, ◌&&◌, ◌||◌, List, [], ◌∷◌, Option, Some, None, is_none, if◌then◌else◌}
 use Rattle.desk_fields.specs.declared.tag.Tag.{Tag}
 use Rattle.desk_fields.specs.declared.tag.Tag.TheVariants as tags
@@ -23,12 +24,14 @@ missing_of_document es =
 
 -- a package or a file, and its section has no identifier
 abbrev pub is_unnamed : EntryText → List EntryText → Bool
-is_unnamed e es = (same_tag e.tag tags.PackageName || same_tag e.tag tags.FileName) && is_absent tags.Identifier (head_of es)
+is_unnamed e es = (same_tag e.tag tags.PackageName || same_tag e.tag tags.FileName)
+    && is_absent tags.Identifier (head_of es)
 
 -- of the first package or file without an identifier
 abbrev pub missing_of_elements : List EntryText → Option DocFault
 missing_of_elements [] = None
-missing_of_elements (e ∷ es) = if is_unnamed e es then Some (faults.Missing e.line tags.Identifier) else missing_of_elements es
+missing_of_elements (e ∷ es) = if is_unnamed e es then Some (faults.Missing e.line tags.Identifier)
+    else missing_of_elements es
 
 abbrev pub missing_of : List EntryText → Option DocFault
 missing_of es = first_of (missing_of_document es) (missing_of_elements es)

@@ -1,5 +1,8 @@
--- The parts of a document: sections as cuts of the fields at the tags that begin one, and what each section says.
-use Rattle.std.specs.Prelude.{ℕ, Bool, ◌&&◌, ◌||◌, ◌==◌, not, nat_eq, nat_le, List, [], ◌∷◌, Option, Some, None, unwrap_or, if◌then◌else◌, codes, drop, length, map, filter}
+-- The parts of a document: sections as cuts of the fields at the tags that begin one, and what each
+-- section says.
+use Rattle.std.specs.Prelude.{ℕ, Bool, ◌&&◌, ◌||◌, ◌==◌, not, nat_eq, nat_le, List, [], ◌∷◌, Option}
+use Rattle.std.specs.Prelude.{Some, None, unwrap_or, if◌then◌else◌, codes, drop, length, map}
+use Rattle.std.specs.Prelude.{filter}
 use Rattle.std.specs.List.{take_while, starts_with, list_all}
 use Rattle.desk_fields.specs.declared.tag.Tag.{Tag}
 use Rattle.desk_fields.specs.declared.tag.Tag.TheVariants as tags
@@ -71,7 +74,8 @@ is_hex b = nat_le 48 b && nat_le b 57 || nat_le 65 b && nat_le b 70 || nat_le 97
 
 -- `SHA1: ` and 40 hexadecimal digits (clause 8.4)
 abbrev pub is_sha1 : List ℕ → Bool
-is_sha1 value = starts_with nat_eq value (codes "SHA1: ") && length value == 46 && list_all is_hex (drop 6 value)
+is_sha1 value = starts_with nat_eq value (codes "SHA1: ") && length value == 46
+    && list_all is_hex (drop 6 value)
 
 -- its digits
 abbrev pub sha1_digits : List ℕ → Option (List ℕ)
@@ -80,7 +84,8 @@ sha1_digits value = if is_sha1 value then Some (drop 6 value) else None
 -- the digits of the first checksum of that form
 abbrev pub sha1_of : List EntryText → Option (List ℕ)
 sha1_of [] = None
-sha1_of (e ∷ es) = if same_tag e.tag tags.FileChecksum && is_sha1 e.value then Some (drop 6 e.value) else sha1_of es
+sha1_of (e ∷ es) = if same_tag e.tag tags.FileChecksum && is_sha1 e.value then Some (drop 6 e.value)
+    else sha1_of es
 
 -- a file (clause 8)
 pub record FileText : Type 0 where
@@ -116,7 +121,11 @@ pub record ExtractedText : Type 0 where
   pub text : Option (List ℕ)
 
 abbrev pub extracted_of : Section → ExtractedText
-extracted_of s = record { line = s.start.line; id = s.start.value; text = value_of tags.ExtractedText s.fields }
+extracted_of s = record {
+  line = s.start.line;
+  id = s.start.value;
+  text = value_of tags.ExtractedText s.fields;
+}
 
 -- a relationship (clause 11), in whichever section it is
 pub record EdgeText : Type 0 where
@@ -126,7 +135,12 @@ pub record EdgeText : Type 0 where
   pub right : List ℕ
 
 abbrev pub edge_of : EntryText → EdgeText
-edge_of e = record { line = e.line; left = left_word e.value; kind = kind_word e.value; right = right_word e.value }
+edge_of e = record {
+  line = e.line;
+  left = left_word e.value;
+  kind = kind_word e.value;
+  right = right_word e.value;
+}
 
 abbrev pub is_edge : EntryText → Bool
 is_edge e = same_tag e.tag tags.Relationship
@@ -134,7 +148,8 @@ is_edge e = same_tag e.tag tags.Relationship
 abbrev pub edges_of : List EntryText → List EdgeText
 edges_of es = map edge_of (filter is_edge es)
 
--- a document: its fields, its name and namespace (clauses 6.4 and 6.5), and its parts in the order of the text
+-- a document: its fields, its name and namespace (clauses 6.4 and 6.5), and its parts in the order
+-- of the text
 pub record DocumentText : Type 0 where
   pub entries : List EntryText
   pub name : List ℕ

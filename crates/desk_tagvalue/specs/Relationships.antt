@@ -1,4 +1,5 @@
--- Relationships (SPDX 2.3, clause 11.1): an element, a type and an element, which are runs between blanks.
+-- Relationships (SPDX 2.3, clause 11.1): an element, a type and an element, which are runs between
+-- blanks.
 use Rattle.std.specs.Prelude.{ℕ, Bool, ◌||◌, ◌&&◌, ◌==◌, nat_eq, nat_lt, nat_le, List, length, drop, codes}
 use Rattle.std.specs.List.{starts_with, list_all, before_first, after_first}
 use Rattle.std.specs.Str.{bytes_eq}
@@ -19,9 +20,11 @@ is_document_name text = list_all is_document_byte text && nat_lt 0 (length text)
 
 -- a document's name, a colon and an element's identifier
 abbrev pub is_qualified : List ℕ → Bool
-is_qualified text = is_document_name (before_first is_colon text) && is_element_id (after_first is_colon text)
+is_qualified text = is_document_name (before_first is_colon text)
+    && is_element_id (after_first is_colon text)
 
--- an element of another document: `DocumentRef-` and the document's name, a colon, the element's identifier
+-- an element of another document: `DocumentRef-` and the document's name, a colon, the element's
+-- identifier
 abbrev pub is_external : List ℕ → Bool
 is_external text = starts_with nat_eq text (codes "DocumentRef-") && is_qualified (drop 12 text)
 

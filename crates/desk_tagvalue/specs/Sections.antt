@@ -1,4 +1,5 @@
--- The sections of a document (SPDX 2.3, clauses 6 to 10): which tag begins one, where a tag is read, and how often it may occur.
+-- The sections of a document (SPDX 2.3, clauses 6 to 10): which tag begins one, where a tag is
+-- read, and how often it may occur.
 use Rattle.std.specs.Prelude.{Bool, true, false, Option, Some, None}
 use Rattle.desk_fields.specs.declared.tag.Tag.{Tag}
 use Rattle.desk_fields.specs.declared.tag.Tag.TheVariants as tags
@@ -50,7 +51,8 @@ is_placed kind tags.FileCopyright = is_file kind
 is_placed kind tags.ExtractedText = is_extracted kind
 is_placed kind _ = true
 
--- once in a document: clauses 6.1, 6.2, 6.4, 6.5 and 6.9 (a creator, 6.8, may occur any number of times)
+-- once in a document: clauses 6.1, 6.2, 6.4, 6.5 and 6.9 (a creator, 6.8, may occur any number of
+-- times)
 abbrev pub once_in_document : Tag → Bool
 once_in_document tags.Version = true
 once_in_document tags.DataLicense = true
@@ -59,8 +61,8 @@ once_in_document tags.DocumentNamespace = true
 once_in_document tags.Created = true
 once_in_document _ = false
 
--- once in a section: clauses 6.3, 7.2, 7.3, 7.7 to 7.9, 7.13, 7.15, 7.17, 8.2, 8.5, 8.8 and 10.2 (checksums, 8.4, and licences in a file, 8.6, may occur any
--- number of times)
+-- once in a section: clauses 6.3, 7.2, 7.3, 7.7 to 7.9, 7.13, 7.15, 7.17, 8.2, 8.5, 8.8 and 10.2
+-- (checksums, 8.4, and licences in a file, 8.6, may occur any number of times)
 abbrev pub once_in_section : Tag → Bool
 once_in_section tags.Identifier = true
 once_in_section tags.PackageVersion = true

@@ -15,8 +15,10 @@ field_at line tag value = record { line = line; tag = tag; value = value }
 -- the line's field is read back
 abbrev pub Stands : LineText → Type 0
 Stands blank = Unit {0}
-Stands (one_line tag value) = Reads 1 (spelled (one_line tag value)) (Ok (field_at 1 (tag_name tag) value ∷ []))
-Stands (in_text tag value) = Reads 1 (spelled (in_text tag value)) (Ok (field_at 1 (tag_name tag) value ∷ []))
+Stands (one_line tag value) = Reads 1 (spelled (one_line tag value))
+    (Ok (field_at 1 (tag_name tag) value ∷ []))
+Stands (in_text tag value) = Reads 1 (spelled (in_text tag value))
+    (Ok (field_at 1 (tag_name tag) value ∷ []))
 
 -- lines were added to a text
 pub record Adds (old : List ℕ) (ls : List LineText) (new : List ℕ) : Type 0 where
@@ -29,7 +31,8 @@ IsStopped ls e = (e ≡ faults.Memory) ⊎ ((e ≡ faults.BadValue) × (All Stan
 
 -- the digits of a file's digest are read back from its checksum
 abbrev pub IsDigestRead : DraftFile → Type 0
-IsDigestRead f = sha1_digits (codes "SHA1: " ++ encode_lower f.digest) ≡ Some (encode_lower f.digest)
+IsDigestRead f = sha1_digits (codes "SHA1: " ++ encode_lower f.digest)
+    ≡ Some (encode_lower f.digest)
 
 -- how many line feeds a text has
 abbrev pub feeds : List ℕ → ℕ

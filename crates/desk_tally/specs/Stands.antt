@@ -1,5 +1,7 @@
--- The place and state of each duty, by number: what is counted of them, and what each step does to them.
-use Rattle.std.specs.Prelude.{◌≡◌, ℕ, zero, suc, ◌+◌, ◌-◌, ◌==◌, ◌&&◌, ◌||◌, not, nat_le, Bool, true, List, [], ◌∷◌, ◌++◌, replicate, count_by, Some, slice_get}
+-- The place and state of each duty, by number: what is counted of them, and what each step does to
+-- them.
+use Rattle.std.specs.Prelude.{◌≡◌, ℕ, zero, suc, ◌+◌, ◌-◌, ◌==◌, ◌&&◌, ◌||◌, not, nat_le, Bool}
+use Rattle.std.specs.Prelude.{true, List, [], ◌∷◌, ◌++◌, replicate, count_by, Some, slice_get}
 use Rattle.std.specs.List.{list_all}
 use Rattle.desk_model.specs.States.{is_open, is_met, is_waived, is_withdrawn, state_after}
 use Rattle.desk_model.specs.declared.state.DutyState.{DutyState}
@@ -32,7 +34,8 @@ totals_at place all = record {
 
 -- each tally has the counts of its place; places start at 1
 abbrev pub AreTallied : List Stand → List Tally → Type 0
-AreTallied all tallies = (i : ℕ) (tally : Tally) → slice_get tallies i ≡ Some tally → totals_in tally ≡ totals_at (i + 1) all
+AreTallied all tallies = (i : ℕ) (tally : Tally) → slice_get tallies i ≡ Some tally
+    → totals_in tally ≡ totals_at (i + 1) all
 
 -- a number from 1 to a count
 abbrev pub is_within : ℕ → ℕ → Bool
@@ -45,7 +48,8 @@ are_placed count all = list_all (λ stand. is_within count stand.place) all
 -- different places from 1 to a count, none of which was taken before
 abbrev pub are_places : ℕ → (ℕ → Bool) → List ℕ → Bool
 are_places count taken [] = true
-are_places count taken (place ∷ places) = is_within count place && (not (taken place) && are_places count (λ other. (other == place) || taken other) places)
+are_places count taken (place ∷ places) = is_within count place
+    && (not (taken place) && are_places count (λ other. (other == place) || taken other) places)
 
 abbrev pub open_at : ℕ → Stand
 open_at place = record { place = place; state = IsOpen }

@@ -1,12 +1,16 @@
 -- What is kept of a choice grows term by term, and decides as the whole choice does.
-use Rattle.std.proofs.Common.{◌≡◌, ◌∙◌, ◌⊎◌, inl, inr, ⊎_elim, ℕ, zero, suc, ◌+◌, ◌<◌, ◌≤◌, Bool, true, false, cond, List, [], ◌∷◌, ◌++◌, length, get_or, set, replicate, Some, sym, ap, subst, refl, arith}
+use Rattle.std.proofs.Common.{◌≡◌, ◌∙◌, ◌⊎◌, inl, inr, ⊎_elim, ℕ, zero, suc, ◌+◌, ◌<◌, ◌≤◌, Bool}
+use Rattle.std.proofs.Common.{true, false, cond, List, [], ◌∷◌, ◌++◌, length, get_or, set}
+use Rattle.std.proofs.Common.{replicate, Some, sym, ap, subst, refl, arith}
 use Rattle.std.specs.Prelude.{Contains, count_by, slice_get, slice_index}
 use Rattle.std.proofs.Math.ListN.{get_or-append}
 use Rattle.std.proofs.Math.Seq.{get_or-append_seam}
 use Rattle.std.proofs.lemmas.Bool.{cases_eq, false≢true}
-use Rattle.std.proofs.lemmas.List.{length_push, length-set, length-replicate, get_or-replicate, get_or-set_other, get_or_past}
+use Rattle.std.proofs.lemmas.List.{length_push, length-set, length-replicate, get_or-replicate}
+use Rattle.std.proofs.lemmas.List.{get_or-set_other, get_or_past}
 use Rattle.std.proofs.lemmas.List.Sums.{count_by-le-length, sum_by-set}
-use Rattle.std.proofs.lemmas.Option.{none-some, same_Some, slice_get_within, slice_get-get_or, slice_get_read, get_or_from_slice_get}
+use Rattle.std.proofs.lemmas.Option.{none-some, same_Some, slice_get_within, slice_get-get_or}
+use Rattle.std.proofs.lemmas.Option.{slice_get_read, get_or_from_slice_get}
 use Rattle.std.proofs.str.Laws.{order}
 use Rattle.desk_expr.specs.declared.term.Term.{Term}
 use Rattle.desk_expr.specs.Tree.{Tree}
@@ -83,7 +87,8 @@ module _ (own chosen kept : List Term) (places : List ℕ) (t : Term)
           | inl old ↦
               let here = slice_get_within kept k u old in
               let within : k < length places = omega (arith, first.paired) in
-              subst (λ j. slice_get (chosen ++ t ∷ []) j ≡ Some u) (sym (index_old places n k within))
+              subst (λ j. slice_get (chosen ++ t ∷ []) j ≡ Some u)
+              (sym (index_old places n k within))
               (get_old chosen t (slice_index places k) u (first.placed k u old))
           | inr new ↦
               let last = index_new places n k (new.0 ∙ sym first.paired) in

@@ -1,5 +1,5 @@
--- What the desk keeps of a catalogue: the forms and the rules, from which it makes its rows. The texts of
--- licences are for reports.
+-- What the desk keeps of a catalogue: the forms and the rules, from which it makes its rows. The
+-- texts of licences are for reports.
 use Rattle.std.specs.Prelude.{◌≡◌, ℕ, List, Option, Some, None, Result, Ok, Err, map, slice_get}
 use Rattle.std.specs.Option.{option_map, option_and_then}
 use Rattle.std.specs.Result.{result_ok}
@@ -24,7 +24,8 @@ kept_catalogue (Err fault) = Err fault
 abbrev pub kept_text : WholeText → LicenceText
 kept_text text = record { title = text.licence; body = text.body }
 
--- the text that a catalogue has for a licence or an exception, by its id in any case (SPDX 2.3, Annex D.2)
+-- the text that a catalogue has for a licence or an exception, by its id in any case (SPDX 2.3,
+-- Annex D.2)
 abbrev pub found_text : List ℕ → WholeCatalogue → Option LicenceText
 found_text id catalogue = option_map kept_text (text_for catalogue id)
 
@@ -40,9 +41,11 @@ text_in texts id = get_by (slice_cmp nat_cmp (folded id)) texts
 abbrev pub place_in : BTreeMap (List ℕ) ℕ → List ℕ → Option ℕ
 place_in places id = get_by (slice_cmp nat_cmp (folded id)) places
 
--- These texts were taken for these ids: the text of an id that has a place is there, and the texts of all
--- other ids are left.
-pub record AreTaken (texts : List ℕ → Option LicenceText) (ids : List (List ℕ)) (taken : Taken) : Type 0 where
+-- These texts were taken for these ids: the text of an id that has a place is there, and the texts
+-- of all other ids are left.
+pub record AreTaken (texts : List ℕ → Option LicenceText) (ids : List (List ℕ))
+    (taken : Taken) : Type 0 where
   pub found : taken.found ≡ map texts ids
-  pub here : (id : List ℕ) (place : ℕ) → place_in taken.places id ≡ Some place → slice_get taken.found place ≡ Some (texts id)
+  pub here : (id : List ℕ) (place : ℕ) → place_in taken.places id ≡ Some place
+      → slice_get taken.found place ≡ Some (texts id)
   pub left : (id : List ℕ) → place_in taken.places id ≡ None → text_in taken.left id ≡ texts id

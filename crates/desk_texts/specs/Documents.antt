@@ -1,5 +1,6 @@
 -- What the desk keeps of a document (SPDX 2.3, clauses 6.5, 7 and 10).
-use Rattle.std.specs.Prelude.{◌≡◌, ℕ, Bool, false, List, [], ◌∷◌, drop, map, slice_index_or, Result, Ok, Err, if◌then◌else◌}
+use Rattle.std.specs.Prelude.{◌≡◌, ℕ, Bool, false, List, [], ◌∷◌, drop, map, slice_index_or, Result}
+use Rattle.std.specs.Prelude.{Ok, Err, if◌then◌else◌}
 use Rattle.std.specs.Str.{bytes_eq}
 use Rattle.desk_bom.specs.Shipping.{AreShippingMarks}
 use Rattle.desk_fields.specs.declared.fault.DocFault.{DocFault}
@@ -16,10 +17,11 @@ use Rattle.desk_tagvalue.specs.Parts.{DocumentText, PackageText, ExtractedText}
 -- x put among others in the order of their ids, if none of them has its id
 abbrev pub put_by : {A : Type 0} → (A → List ℕ) → A → List A → List A
 put_by id x [] = x ∷ []
-put_by id x (y ∷ ys) = if text_below (id x) (id y) then x ∷ y ∷ ys else (if bytes_eq (id x) (id y) then y ∷ ys else y ∷ put_by id x ys)
+put_by id x (y ∷ ys) = if text_below (id x) (id y) then x ∷ y ∷ ys
+    else (if bytes_eq (id x) (id y) then y ∷ ys else y ∷ put_by id x ys)
 
--- all of some in the order of their ids, each id once; the packages of a document have different ids, and so
--- do its extracted licences
+-- all of some in the order of their ids, each id once; the packages of a document have different
+-- ids, and so do its extracted licences
 abbrev pub sorted_by : {A : Type 0} → (A → List ℕ) → List A → List A
 sorted_by id [] = []
 sorted_by id (x ∷ xs) = put_by id x (sorted_by id xs)
@@ -65,8 +67,9 @@ fault_of (doc.BadRelationship line) = fault.BadRelationship line
 fault_of doc.TooLarge = fault.TooLarge
 fault_of (doc.TooManyElements line) = fault.TooManyElements line
 
--- what the desk keeps of bytes that are read as this: the document, with the packages that ship by the least
--- set of elements (`desk_bom`), or the fault
+-- what the desk keeps of bytes that are read as this: the document, with the packages that ship by
+-- the least set of elements (`desk_bom`), or the fault
 abbrev pub Keeps : Result DocumentText DocFault → Result Document DocumentFault → Type 0
-Keeps (Ok d) kept = (marks : List Bool) × AreShippingMarks d marks × (kept ≡ Ok (document_of marks d))
+Keeps (Ok d) kept = (marks : List Bool) × AreShippingMarks d marks
+    × (kept ≡ Ok (document_of marks d))
 Keeps (Err f) kept = kept ≡ Err (fault_of f)

@@ -1,5 +1,5 @@
--- Licence expressions in the fields of a document (SPDX 2.3, clause 7.13 and Annex D), read by the profile of operators that the
--- document was imported with.
+-- Licence expressions in the fields of a document (SPDX 2.3, clause 7.13 and Annex D), read by the
+-- profile of operators that the document was imported with.
 use Rattle.std.specs.Prelude.{◌≡◌, ◌⊎◌, ℕ, ◌-◌, ◌<◌, Bool, true, false, List, Option, Some, None, length, Contains}
 use Rattle.desk_base.specs.declared.profile.Profile.{Profile}
 use Rattle.desk_expr.specs.declared.term.Term.{Term}
@@ -52,11 +52,13 @@ word_place text = length text - length (skip_blanks text)
 
 -- the value stops here, for a reason other than lack of memory
 abbrev pub StopsBy : Profile → List ℕ → ExpressionFault → Type 0
-StopsBy profile text f = (stop : ParseFault) × IsStopBy SpellsTree profile text stop × (0 < fault_number stop) × (f ≡ fault_of stop)
+StopsBy profile text f = (stop : ParseFault) × IsStopBy SpellsTree profile text stop
+    × (0 < fault_number stop) × (f ≡ fault_of stop)
 
 -- it spells a tree, but is only NONE or NOASSERTION: that word is unexpected
 abbrev pub NamesNone : Profile → List ℕ → ExpressionFault → Type 0
-NamesNone profile text f = ((e : Tree) × SpellsWithinBy profile text e) × (is_no_licence text ≡ true) × (f ≡ fault.Unexpected (word_place text))
+NamesNone profile text f = ((e : Tree) × SpellsWithinBy profile text e)
+    × (is_no_licence text ≡ true) × (f ≡ fault.Unexpected (word_place text))
 
 -- why a value is no expression, if it is none
 abbrev pub IsFault : Profile → List ℕ → Option ExpressionFault → Type 0
@@ -72,10 +74,14 @@ IsVerdict e ts Minimal = IsMinimal ts e
 -- how texts that spell terms satisfy an expression: they are not enough if a text spells no term
 abbrev pub JudgesTerms : Tree → List (List ℕ) → Verdict → Type 0
 JudgesTerms e words verdict =
-    ((ts : List Term) × AreTerms words ts × IsVerdict e ts verdict) ⊎ (((ts : List Term) → AreTerms words ts → ⊥) × (verdict ≡ NotEnough))
+    ((ts : List Term) × AreTerms words ts × IsVerdict e ts verdict)
+    ⊎ (((ts : List Term) → AreTerms words ts → ⊥) × (verdict ≡ NotEnough))
 
--- how they satisfy the expression of a value: they are not enough if it has none, or if a text spells no term
+-- how they satisfy the expression of a value: they are not enough if it has none, or if a text
+-- spells no term
 abbrev pub Judges : Profile → List ℕ → List (List ℕ) → Verdict → Type 0
 Judges profile text words verdict =
-    ((e : Tree) × (ts : List Term) × IsExpression profile text e × AreTerms words ts × IsVerdict e ts verdict)
-    ⊎ (((e : Tree) (ts : List Term) → IsExpression profile text e → AreTerms words ts → ⊥) × (verdict ≡ NotEnough))
+    ((e : Tree) × (ts : List Term) × IsExpression profile text e × AreTerms words ts
+    × IsVerdict e ts verdict)
+    ⊎ (((e : Tree) (ts : List Term) → IsExpression profile text e → AreTerms words ts → ⊥)
+    × (verdict ≡ NotEnough))

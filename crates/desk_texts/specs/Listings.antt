@@ -1,4 +1,5 @@
--- The sets of terms, as printed, under which the expression of a text is true (SPDX 2.3, Annex D.4).
+-- The sets of terms, as printed, under which the expression of a text is true (SPDX 2.3, Annex
+-- D.4).
 use Rattle.std.specs.Prelude.{◌≡◌, ◌⊎◌, ℕ, List, [], ◌∷◌, map, Option, Some, None, Result, Ok, Err, if◌then◌else◌}
 use Rattle.std.specs.Option.{option_map}
 use Rattle.std.specs.Ordering.{is_eq}
@@ -24,12 +25,14 @@ IsListFault e TooMany = (HasMoreTerms 128 e → ⊥) × HasWideFront e
 
 -- the minimal sets of an expression, as printed, or why they aren't listed
 abbrev pub IsListing : Tree → Result (List (List (List ℕ))) ListFault → Type 0
-IsListing e (Ok sets) = IsListable e × (found : List (List Term)) × AreAlternatives e found × (sets ≡ map (map printed_term) found)
+IsListing e (Ok sets) = IsListable e × (found : List (List Term)) × AreAlternatives e found
+    × (sets ≡ map (map printed_term) found)
 IsListing e (Err fault) = IsListFault e fault
 
 -- the same for the expression of a value; a value that is no expression has none
 abbrev pub Lists : Profile → List ℕ → Result (List (List (List ℕ))) ListFault → Type 0
-Lists profile text listing = ((e : Tree) × IsExpression profile text e × IsListing e listing) ⊎ (IsNoExpression profile text × (listing ≡ Ok []))
+Lists profile text listing = ((e : Tree) × IsExpression profile text e × IsListing e listing)
+    ⊎ (IsNoExpression profile text × (listing ≡ Ok []))
 
 -- the distinct terms of an expression, as printed, in order
 abbrev pub AreTermTexts : Tree → List (List ℕ) → Type 0
@@ -38,23 +41,27 @@ AreTermTexts e terms = (ts : List Term) × AreTermsOf e ts × (terms ≡ map pri
 -- the same for the expression of a value; a value that is no expression has none
 abbrev pub HasTerms : Profile → List ℕ → List (List ℕ) → Type 0
 HasTerms profile text terms =
-    ((e : Tree) × (ts : List Term) × IsExpression profile text e × AreTermsOf e ts × (terms ≡ map printed_term ts))
+    ((e : Tree) × (ts : List Term) × IsExpression profile text e × AreTermsOf e ts
+    × (terms ≡ map printed_term ts))
     ⊎ (IsNoExpression profile text × (terms ≡ []))
 
 -- the cost of a term, by the costs of printed terms
 abbrev pub cost_of : (List ℕ → Option ℕ) → Term → Option ℕ
 cost_of cost t = cost (printed_term t)
 
--- the cheapest of all sets under which an expression is true, as printed, if there is one, or why its sets
--- aren't listed
+-- the cheapest of all sets under which an expression is true, as printed, if there is one, or why
+-- its sets aren't listed
 abbrev pub IsPriced : (List ℕ → Option ℕ) → Tree → Result (Option Cheapest) ListFault → Type 0
-IsPriced cost e (Ok (Some c)) = IsListable e × (set : List Term) × IsCheapest (cost_of cost) e c.cost set × (c.terms ≡ map printed_term set)
+IsPriced cost e (Ok (Some c)) = IsListable e × (set : List Term)
+    × IsCheapest (cost_of cost) e c.cost set × (c.terms ≡ map printed_term set)
 IsPriced cost e (Ok None) = IsListable e × HasNoCosts (cost_of cost) e
 IsPriced cost e (Err fault) = IsListFault e fault
 
 -- the same for the expression of a value; a value that is no expression has none
-abbrev pub Prices : Profile → List ℕ → (List ℕ → Option ℕ) → Result (Option Cheapest) ListFault → Type 0
-Prices profile text cost priced = ((e : Tree) × IsExpression profile text e × IsPriced cost e priced) ⊎ (IsNoExpression profile text × (priced ≡ Ok None))
+abbrev pub Prices : Profile → List ℕ → (List ℕ → Option ℕ) → Result (Option Cheapest) ListFault
+    → Type 0
+Prices profile text cost priced = ((e : Tree) × IsExpression profile text e
+    × IsPriced cost e priced) ⊎ (IsNoExpression profile text × (priced ≡ Ok None))
 
 -- the cost at a term's place, or none after the last cost
 abbrev pub cost_at : List Term → List (Option ℕ) → Term → Option ℕ

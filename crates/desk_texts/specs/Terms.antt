@@ -1,5 +1,6 @@
 -- Terms as texts (SPDX 2.3, Annex D.2 to D.4).
-use Rattle.std.specs.Prelude.{ℕ, ◌&&◌, not, Bool, List, [], ◌∷◌, ◌++◌, drop, codes, nat_eq, Option, Some, None, if◌then◌else◌}
+use Rattle.std.specs.Prelude.{ℕ, ◌&&◌, not, Bool, List, [], ◌∷◌, ◌++◌, drop, codes, nat_eq, Option}
+use Rattle.std.specs.Prelude.{Some, None, if◌then◌else◌}
 use Rattle.std.specs.List.{starts_with, ends_with}
 use Rattle.desk_base.specs.Idstring.{is_idstring}
 use Rattle.desk_expr.specs.declared.term.Term.{Term}
@@ -31,13 +32,13 @@ AreAllTerms texts (Some ts) = AreTerms texts ts
 abbrev pub reference_in : List ℕ → Option (List ℕ)
 reference_in term = if is_reference (first_word term) then Some (first_word term) else None
 
--- a printed term is a licence alone: an idstring (Annex D.2), so without plus and exception, and not a
--- reference
+-- a printed term is a licence alone: an idstring (Annex D.2), so without plus and exception, and
+-- not a reference
 abbrev pub is_licence : List ℕ → Bool
 is_licence term = is_idstring term && not (is_reference term)
 
--- the licence in place of a printed term's first word, with what follows that word: its exception, if it has
--- one
+-- the licence in place of a printed term's first word, with what follows that word: its exception,
+-- if it has one
 abbrev pub adopted_as : List ℕ → List ℕ → List ℕ
 adopted_as licence term = licence ++ after_word term
 
@@ -45,7 +46,8 @@ adopted_as licence term = licence ++ after_word term
 abbrev pub without_plus : List ℕ → List ℕ
 without_plus word = if ends_with nat_eq word (codes "+") then without_last word else word
 
--- the id of the licence that a printed term names: its first word, without the plus that may follow an id (Annex D.3)
+-- the id of the licence that a printed term names: its first word, without the plus that may follow
+-- an id (Annex D.3)
 abbrev pub licence_id_in : List ℕ → List ℕ
 licence_id_in term = without_plus (first_word term)
 
@@ -53,6 +55,7 @@ licence_id_in term = without_plus (first_word term)
 abbrev pub behind_with : List ℕ → Option (List ℕ)
 behind_with rest = if starts_with nat_eq rest (codes " WITH ") then Some (drop 6 rest) else None
 
--- the exception of a printed term: what follows WITH after the first word, if WITH is there (Annex D.4)
+-- the exception of a printed term: what follows WITH after the first word, if WITH is there (Annex
+-- D.4)
 abbrev pub exception_in : List ℕ → Option (List ℕ)
 exception_in term = behind_with (after_word term)

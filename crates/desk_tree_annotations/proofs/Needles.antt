@@ -1,5 +1,7 @@
 -- Where a needle first occurs.
-use Rattle.std.proofs.Common.{◌≡◌, ◌∙◌, ℕ, zero, suc, ◌+◌, ◌-◌, ◌<◌, List, ◌++◌, length, get_or, take, drop, sym, ap, refl, arith, append_assoc, length-append, length-drop, take-append-drop}
+use Rattle.std.proofs.Common.{◌≡◌, ◌∙◌, ℕ, zero, suc, ◌+◌, ◌-◌, ◌<◌, List, ◌++◌, length, get_or}
+use Rattle.std.proofs.Common.{take, drop, sym, ap, refl, arith, append_assoc, length-append}
+use Rattle.std.proofs.Common.{length-drop, take-append-drop}
 use Rattle.std.specs.Prelude.{Some}
 use Rattle.std.proofs.Math.ListN.{get_or-append}
 use Rattle.std.proofs.Math.Seq.{get_or-append_right}
@@ -8,49 +10,66 @@ use Rattle.memchr.specs.Find.{OccursAt, FindsNeedle, Nowhere}
 use Rattle.desk_tree_annotations.specs.Runs.{Lacks, IsUpTo}
 
 -- a needle between two lists occurs
-pub occurs : (hay xs needle ys : List ℕ) → hay ≡ xs ++ (needle ++ ys) → OccursAt hay needle (length xs)
+pub occurs : (hay xs needle ys : List ℕ) → hay ≡ xs ++ (needle ++ ys)
+    → OccursAt hay needle (length xs)
 occurs hay xs needle ys e = record {
-  fits = let a = ap length e ∙ length-append xs (needle ++ ys) in let b = length-append needle ys in omega arith;
+  fits = let a = ap length e ∙ length-append xs (needle ++ ys) in let b = length-append needle ys in
+      omega arith;
   reads = λ j lt.
       let here : length xs + j - length xs ≡ j = omega arith in
-      ap (λ l. get_or l (length xs + j) 0) e ∙ get_or-append_right xs (needle ++ ys) (length xs + j) 0 (omega arith) ∙ ap (λ i. get_or (needle ++ ys) i 0) here ∙ get_or-append needle ys 0 j lt;
+      ap (λ l. get_or l (length xs + j) 0) e
+      ∙ get_or-append_right xs (needle ++ ys) (length xs + j) 0 (omega arith)
+      ∙ ap (λ i. get_or (needle ++ ys) i 0) here ∙ get_or-append needle ys 0 j lt;
 }
 
-pub cut_at : (hay needle : List ℕ) (k : ℕ) → OccursAt hay needle k → hay ≡ take k hay ++ (needle ++ drop (k + length needle) hay)
+pub cut_at : (hay needle : List ℕ) (k : ℕ) → OccursAt hay needle k
+    → hay ≡ take k hay ++ (needle ++ drop (k + length needle) hay)
 cut_at hay needle k o =
     let fits = o.fits in
     let reads = o.reads in
     let n = length needle in
     let core = drop k hay in
     let len : length core ≡ length hay - k = length-drop k hay in
-    let front : take n core ≡ needle = same_number_lists (take n core) needle (grind (arith, common_steps)) (λ j lt. grind (arith, common_steps, reads j)) in
+    let front : take n core ≡ needle =
+    same_number_lists (take n core) needle (grind (arith, common_steps))
+    (λ j lt. grind (arith, common_steps, reads j)) in
     let back : drop n core ≡ drop (k + n) hay = grind (arith, common_steps) in
-    sym (take-append-drop k hay) ∙ ap (λ l. take k hay ++ l) (sym (take-append-drop n core) ∙ ap (λ l. l ++ drop n core) front ∙ ap (λ l. needle ++ l) back)
+    sym (take-append-drop k hay) ∙ ap (λ l. take k hay ++ l)
+    (sym (take-append-drop n core) ∙ ap (λ l. l ++ drop n core) front ∙ ap (λ l. needle ++ l) back)
 
-pub none_lacks : (hay needle : List ℕ) → Nowhere (OccursAt hay needle) 0 (length hay + 1) → Lacks needle hay
+pub none_lacks : (hay needle : List ℕ) → Nowhere (OccursAt hay needle) 0 (length hay + 1)
+    → Lacks needle hay
 none_lacks hay needle h xs ys e =
     let o = occurs hay xs needle ys e in
     let fits = o.fits in
     h (length xs) (omega arith) (omega arith) o
 
-pub first_up_to : (hay needle before after : List ℕ) → 0 < length needle → hay ≡ before ++ (needle ++ after) → Nowhere (OccursAt hay needle) 0 (length before) → IsUpTo needle before
+pub first_up_to : (hay needle before after : List ℕ) → 0 < length needle
+    → hay ≡ before ++ (needle ++ after) → Nowhere (OccursAt hay needle) 0 (length before)
+    → IsUpTo needle before
 first_up_to hay needle before after some cut none xs ys e =
     let len = sym (length-append before needle) ∙ ap length e ∙ length-append xs (needle ++ ys) in
     let more = length-append needle ys in
-    let whole : hay ≡ xs ++ (needle ++ (ys ++ after)) = cut ∙ sym (append_assoc before needle after) ∙ ap (λ l. l ++ after) e ∙ simp append_assoc refl in
+    let whole : hay ≡ xs ++ (needle ++ (ys ++ after)) = cut ∙ sym (append_assoc before needle after)
+    ∙ ap (λ l. l ++ after) e ∙ simp append_assoc refl in
     let cases : (n : ℕ) → length ys ≡ n → n ≡ 0 = λ n. elim n as (λ n. length ys ≡ n → n ≡ 0) [
       | zero ↦ λ is. refl
-      | suc m ↦ λ is. absurd (none (length xs) (omega arith) (omega arith) (occurs hay xs needle (ys ++ after) whole))
+      | suc m ↦ λ is. absurd (none (length xs) (omega arith) (omega arith)
+          (occurs hay xs needle (ys ++ after) whole))
     ] in
     cases (length ys) refl
 
-pub found_cut : (hay needle after : List ℕ) (k : ℕ) → FindsNeedle hay needle 0 (Some k) → after ≡ drop (k + length needle) hay → hay ≡ take k hay ++ (needle ++ after)
-found_cut hay needle after k h e = cut_at hay needle k h.1 ∙ ap (λ l. take k hay ++ (needle ++ l)) (sym e)
+pub found_cut : (hay needle after : List ℕ) (k : ℕ) → FindsNeedle hay needle 0 (Some k)
+    → after ≡ drop (k + length needle) hay → hay ≡ take k hay ++ (needle ++ after)
+found_cut hay needle after k h e = cut_at hay needle k h.1
+    ∙ ap (λ l. take k hay ++ (needle ++ l)) (sym e)
 
-pub found_first : (hay needle : List ℕ) (k : ℕ) → 0 < length needle → FindsNeedle hay needle 0 (Some k) → IsUpTo needle (take k hay)
+pub found_first : (hay needle : List ℕ) (k : ℕ) → 0 < length needle
+    → FindsNeedle hay needle 0 (Some k) → IsUpTo needle (take k hay)
 found_first hay needle k some h =
     let o = h.1 in
     let fits = o.fits in
     let n = h.0 in
     let len : length (take k hay) ≡ k = grind (arith, common_steps) in
-    first_up_to hay needle (take k hay) (drop (k + length needle) hay) some (cut_at hay needle k o) (λ j low high. n.before j low (omega arith))
+    first_up_to hay needle (take k hay) (drop (k + length needle) hay) some (cut_at hay needle k o)
+    (λ j low high. n.before j low (omega arith))

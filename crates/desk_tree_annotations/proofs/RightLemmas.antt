@@ -1,5 +1,6 @@
 -- Right readings agree.
-use Rattle.std.proofs.Common.{◌≡◌, ◌∙◌, ◌⊎◌, inl, inr, ℕ, ◌+◌, ◌<◌, Bool, true, false, List, ◌∷◌, ◌++◌, [], length, get_or, take, drop, map, refl, sym, ap, arith}
+use Rattle.std.proofs.Common.{◌≡◌, ◌∙◌, ◌⊎◌, inl, inr, ℕ, ◌+◌, ◌<◌, Bool, true, false, List, ◌∷◌}
+use Rattle.std.proofs.Common.{◌++◌, [], length, get_or, take, drop, map, refl, sym, ap, arith}
 use Rattle.std.specs.List.{list_all}
 use Rattle.std.specs.Prelude.{◌&&◌, alloc_error}
 use Rattle.std.proofs.lemmas.List.{drop_more, take_more, map_push}
@@ -19,36 +20,49 @@ tells_once text true false h k = absurd (k h.0 h.1)
 tells_once text false true h k = absurd (h k.0 k.1)
 tells_once text false false h k = refl
 
-pub same_pieces : (r : Reading) → IsRight r → (pattern : List ℕ) (pieces : List Piece) → Spells pattern pieces → pieces ≡ r.pieces pattern
-same_pieces r right pattern pieces spells = spells_once pattern pieces (r.pieces pattern) spells (right.patterns pattern)
+pub same_pieces : (r : Reading) → IsRight r → (pattern : List ℕ) (pieces : List Piece)
+    → Spells pattern pieces → pieces ≡ r.pieces pattern
+same_pieces r right pattern pieces spells = spells_once pattern pieces (r.pieces pattern) spells
+    (right.patterns pattern)
 
-pub same_test : (r : Reading) → IsRight r → (text : List ℕ) (b : Bool) → Tells text b → r.is_expression text ≡ b
-same_test r right text b tells = tells_once text (r.is_expression text) b (right.expressions text) tells
+pub same_test : (r : Reading) → IsRight r → (text : List ℕ) (b : Bool) → Tells text b
+    → r.is_expression text ≡ b
+same_test r right text b tells = tells_once text (r.is_expression text) b (right.expressions text)
+    tells
 
 pub same_reading : (r s : Reading) → IsRight r → IsRight s → r ≡ s
 same_reading r s right other = λ i. record {
-  pieces = λ pattern. spells_once pattern (r.pieces pattern) (s.pieces pattern) (right.patterns pattern) (other.patterns pattern) i;
-  is_expression = λ text. tells_once text (r.is_expression text) (s.is_expression text) (right.expressions text) (other.expressions text) i;
+  pieces = λ pattern. spells_once pattern (r.pieces pattern) (s.pieces pattern)
+      (right.patterns pattern) (other.patterns pattern) i;
+  is_expression = λ text. tells_once text (r.is_expression text) (s.is_expression text)
+      (right.expressions text) (other.expressions text) i;
 }
 
 -- a fault that isn't `Memory`: the other case is true
-pub not_memory : {P : Type 0} (fault : ParseFault) → 0 < fault_number fault → (fault ≡ Memory alloc_error) ⊎ P → P
+pub not_memory : {P : Type 0} (fault : ParseFault) → 0 < fault_number fault
+    → (fault ≡ Memory alloc_error) ⊎ P → P
 not_memory fault some (inl is) = let zero = ap fault_number is in absurd (omega arith)
 not_memory fault some (inr p) = p
 
 -- an expression that is one, and one that isn't
-pub all_go : (test : List ℕ → Bool) (listed : List (Bor (List ℕ))) (i : ℕ) (v : Bor (List ℕ)) → i < length listed → test (get_or listed i v).now ≡ true
+pub all_go : (test : List ℕ → Bool) (listed : List (Bor (List ℕ))) (i : ℕ) (v : Bor (List ℕ))
+    → i < length listed → test (get_or listed i v).now ≡ true
     → list_all test (texts (drop (i + 1) listed)) ≡ list_all test (texts (drop i listed))
 all_go test listed i v within is =
-    sym (ap (λ b. b && list_all test (texts (drop (i + 1) listed))) is) ∙ ap (λ l. list_all test (texts l)) (sym (drop_more listed i v within))
+    sym (ap (λ b. b && list_all test (texts (drop (i + 1) listed))) is)
+    ∙ ap (λ l. list_all test (texts l)) (sym (drop_more listed i v within))
 
-pub all_stop : (test : List ℕ → Bool) (listed : List (Bor (List ℕ))) (i : ℕ) (v : Bor (List ℕ)) → i < length listed → test (get_or listed i v).now ≡ false
+pub all_stop : (test : List ℕ → Bool) (listed : List (Bor (List ℕ))) (i : ℕ) (v : Bor (List ℕ))
+    → i < length listed → test (get_or listed i v).now ≡ false
     → false ≡ list_all test (texts (drop i listed))
 all_stop test listed i v within is =
-    sym (ap (λ b. b && list_all test (texts (drop (i + 1) listed))) is) ∙ ap (λ l. list_all test (texts l)) (sym (drop_more listed i v within))
+    sym (ap (λ b. b && list_all test (texts (drop (i + 1) listed))) is)
+    ∙ ap (λ l. list_all test (texts l)) (sym (drop_more listed i v within))
 
 -- the pieces of one more pattern
-pub pieces_more : (f : List ℕ → List Piece) (listed : List (Bor (List ℕ))) (i : ℕ) (v : Bor (List ℕ)) (pieces : List Piece) (old : List (List Piece)) → i < length listed → pieces ≡ f (get_or listed i v).now → old ≡ map f (texts (take i listed))
+pub pieces_more : (f : List ℕ → List Piece) (listed : List (Bor (List ℕ))) (i : ℕ)
+    (v : Bor (List ℕ)) (pieces : List Piece) (old : List (List Piece)) → i < length listed
+    → pieces ≡ f (get_or listed i v).now → old ≡ map f (texts (take i listed))
     → old ++ pieces ∷ [] ≡ map f (texts (take (i + 1) listed))
 pieces_more f listed i v pieces old within is so_far =
     ap (λ o. o ++ pieces ∷ []) so_far ∙ ap (λ x. map f (texts (take i listed)) ++ x ∷ []) is

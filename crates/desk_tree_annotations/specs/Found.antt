@@ -7,7 +7,8 @@ use Rattle.desk_tree_annotations.specs.Tags.{TagText, Counts, onto, seen_after}
 -- a list with what one run adds at its end, and the last line that had its tag then
 abbrev pub Adds : List ℕ → ℕ → RunText → List TagText → List TagText → ℕ → Type 0
 Adds tag seen run before items last =
-    (o : Option (Option (List ℕ))) × Counts tag seen run o × (items ≡ before ++ onto run.line o []) × (last ≡ seen_after seen run.line o)
+    (o : Option (Option (List ℕ))) × Counts tag seen run o × (items ≡ before ++ onto run.line o [])
+    × (last ≡ seen_after seen run.line o)
 
 -- what the code finds, apart from where it is in memory
 abbrev pub found_inner : Option (Bor (List ℕ)) → Option (List ℕ)

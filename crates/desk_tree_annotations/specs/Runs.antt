@@ -1,7 +1,7 @@
--- The text on the lines of a file outside ignored stretches (REUSE Specification 3.3, comment headers). An
--- ignored stretch goes from REUSE-IgnoreStart to the end of the next REUSE-IgnoreEnd, or to the end of the
--- file. The definition covers the whole file: each byte is in one run, in one ignored stretch, or in the end
--- of a line.
+-- The text on the lines of a file outside ignored stretches (REUSE Specification 3.3, comment
+-- headers). An ignored stretch goes from REUSE-IgnoreStart to the end of the next REUSE-IgnoreEnd,
+-- or to the end of the file. The definition covers the whole file: each byte is in one run, in one
+-- ignored stretch, or in the end of a line.
 use Rattle.std.specs.Prelude.{◌≡◌, ◌≢◌, ℕ, ◌+◌, ◌<◌, ◌==◌, List, [], ◌∷◌, ◌++◌, length, All, count_by, codes}
 use Rattle.desk_base.specs.declared.lines.LineEnd.{LineEnd}
 use Rattle.desk_base.specs.Lines.{end_bytes, Ends}
@@ -21,7 +21,8 @@ Lacks needle text = (xs ys : List ℕ) → text ≡ xs ++ (needle ++ ys) → ⊥
 abbrev pub IsUpTo : List ℕ → List ℕ → Type 0
 IsUpTo needle text = (xs ys : List ℕ) → text ++ needle ≡ xs ++ (needle ++ ys) → length ys ≡ 0
 
--- how a run ends: where its line does; at an ignored stretch; or at one that goes to the end of the file
+-- how a run ends: where its line does; at an ignored stretch; or at one that goes to the end of the
+-- file
 pub data RunEnd : Type 0 where
   line_end : (end : LineEnd) → RunEnd
   ignored : (inner : List ℕ) → RunEnd
@@ -33,8 +34,8 @@ between (line_end end) = end_bytes end
 between (ignored inner) = start ++ (inner ++ stop)
 between (ignored_rest inner) = start ++ inner
 
--- a run ends where its line does, or at the first start; and what is ignored ends at the first stop after
--- that
+-- a run ends where its line does, or at the first start; and what is ignored ends at the first stop
+-- after that
 abbrev pub EndsRun : List ℕ → RunEnd → List ℕ → Type 0
 EndsRun text (line_end end) rest = Lacks start text × Ends text end rest
 EndsRun text (ignored inner) rest = IsUpTo start text × IsUpTo stop inner
@@ -66,4 +67,5 @@ run_text r = record { line = r.line; text = r.text.now }
 abbrev pub Shows : ℕ → List ℕ → List RunText → Type 0
 Shows line bytes [] = bytes ≡ []
 Shows line bytes (r ∷ rs) =
-    (after : ℕ) × (rest : List ℕ) × (0 < length bytes) × (r.line ≡ line) × IsRun line bytes r.text after rest × Shows after rest rs
+    (after : ℕ) × (rest : List ℕ) × (0 < length bytes) × (r.line ≡ line)
+    × IsRun line bytes r.text after rest × Shows after rest rs

@@ -11,4 +11,9 @@ Gives read show (Ok x) = read ≡ Ok (show x)
 Gives read show (Err fault) = read ≡ Err fault
 
 abbrev pub written_in : Written → WrittenTexts
-written_in w = record { paths = texts_in w.paths; precedence = w.precedence.now; notices = texts_in w.notices; licences = texts_in w.licences }
+written_in w = record {
+  paths = texts_in w.paths;
+  precedence = w.precedence.now;
+  notices = texts_in w.notices;
+  licences = texts_in w.licences;
+}

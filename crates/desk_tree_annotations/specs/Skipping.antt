@@ -1,4 +1,5 @@
--- What is skipped when tags are looked for: whole lines on which neither a tag nor an ignored stretch begins.
+-- What is skipped when tags are looked for: whole lines on which neither a tag nor an ignored
+-- stretch begins.
 use Rattle.std.specs.Prelude.{◌⊎◌, ◌≡◌, ℕ, ◌+◌, ◌≤◌, ◌==◌, List, [], ◌∷◌, ◌++◌, length, count_by}
 use Rattle.desk_tree_annotations.specs.Runs.{Lacks, start}
 
@@ -10,8 +11,8 @@ IsClear needle number text = (xs ys : List ℕ) → text ≡ xs ++ (needle ++ ys
 abbrev pub AreWhole : List ℕ → Type 0
 AreWhole text = (text ≡ []) ⊎ ((front : List ℕ) × (text ≡ front ++ (10 ∷ [])))
 
--- what is left after whole lines of at most this many bytes, on which no ignored stretch begins, and the
--- number of its first line
+-- what is left after whole lines of at most this many bytes, on which no ignored stretch begins,
+-- and the number of its first line
 pub record Skips (most line : ℕ) (bytes : List ℕ) (after : ℕ) (rest : List ℕ) : Type 0 where
   pub lines : List ℕ
   pub cut : bytes ≡ lines ++ rest

@@ -55,27 +55,31 @@ NoFurther o = (r : Spot) → Further o r → ⊥
 
 -- a byte found
 abbrev pub ByByte : State → State → Type 0
-ByByte s n = (b : ℕ) × (s.here.pieces ≡ Byte b ∷ n.here.pieces) × (s.here.text ≡ b ∷ n.here.text) × (n.name ≡ s.name) × (n.path ≡ s.path)
+ByByte s n = (b : ℕ) × (s.here.pieces ≡ Byte b ∷ n.here.pieces) × (s.here.text ≡ b ∷ n.here.text)
+    × (n.name ≡ s.name) × (n.path ≡ s.path)
 
 -- a `*`, which takes nothing at first
 abbrev pub ByName : State → State → Type 0
-ByName s n = (s.here.pieces ≡ InName ∷ n.here.pieces) × (s.here.text ≡ n.here.text) × (n.name ≡ Some n.here) × (n.path ≡ s.path)
+ByName s n = (s.here.pieces ≡ InName ∷ n.here.pieces) × (s.here.text ≡ n.here.text)
+    × (n.name ≡ Some n.here) × (n.path ≡ s.path)
 
 -- a `**`, which takes nothing at first, and acts as a `*` within the name
 abbrev pub ByPath : State → State → Type 0
-ByPath s n = (s.here.pieces ≡ InPath ∷ n.here.pieces) × (s.here.text ≡ n.here.text) × (n.name ≡ Some n.here) × (n.path ≡ Some n.here)
+ByPath s n = (s.here.pieces ≡ InPath ∷ n.here.pieces) × (s.here.text ≡ n.here.text)
+    × (n.name ≡ Some n.here) × (n.path ≡ Some n.here)
 
 -- one piece further
 abbrev pub Follows : State → State → Type 0
 Follows s n = ByByte s n ⊎ (ByName s n ⊎ ByPath s n)
 
--- the last `*` takes one more byte or, if it can't, the last `**` takes the rest of its name, and acts as a
--- `*` in the next one
+-- the last `*` takes one more byte or, if it can't, the last `**` takes the rest of its name, and
+-- acts as a `*` in the next one
 abbrev pub ByLongerName : State → State → Type 0
 ByLongerName s n = Longer s.name n.here × (n.name ≡ Some n.here) × (n.path ≡ s.path)
 
 abbrev pub ByNextName : State → State → Type 0
-ByNextName s n = NoLonger s.name × Further s.path n.here × (n.name ≡ Some n.here) × (n.path ≡ Some n.here)
+ByNextName s n = NoLonger s.name × Further s.path n.here × (n.name ≡ Some n.here)
+    × (n.path ≡ Some n.here)
 
 -- neither can take more
 abbrev pub Spent : State → Type 0

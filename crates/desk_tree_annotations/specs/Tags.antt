@@ -17,7 +17,8 @@ IsClose c = (c ≡ codes "*/") ⊎ ((c ≡ codes "-->") ⊎ ((c ≡ codes "*)") 
 -- a text without one end of a comment at its end, and the blanks before that
 abbrev pub IsBare : List ℕ → List ℕ → Type 0
 IsBare text value =
-    ((front : List ℕ) × (close : List ℕ) × IsClose close × (text ≡ front ++ close) × (value ≡ trim_end front))
+    ((front : List ℕ) × (close : List ℕ) × IsClose close × (text ≡ front ++ close)
+    × (value ≡ trim_end front))
     ⊎ (((front close : List ℕ) → IsClose close → text ≡ front ++ close → ⊥) × (value ≡ text))
 
 -- the first tag of a text, and what follows it
@@ -28,14 +29,16 @@ pub record HasTag (tag text after : List ℕ) : Type 0 where
 
 -- what a tag gives: the value after it, and nothing if that is empty or isn't UTF-8
 abbrev pub Tells : List ℕ → Option (List ℕ) → Type 0
-Tells after None = (value : List ℕ) × IsBare (trimmed after) value × (0 < length value → IsUtf8 value → ⊥)
+Tells after None = (value : List ℕ) × IsBare (trimmed after) value
+    × (0 < length value → IsUtf8 value → ⊥)
 Tells after (Some value) = IsBare (trimmed after) value × (0 < length value) × IsUtf8 value
 
--- a run on the last line that had its tag, or a run without a tag, doesn't count; any other gives what its
--- first tag does
+-- a run on the last line that had its tag, or a run without a tag, doesn't count; any other gives
+-- what its first tag does
 abbrev pub Counts : List ℕ → ℕ → RunText → Option (Option (List ℕ)) → Type 0
 Counts tag seen run None = (run.line ≡ seen) ⊎ Lacks tag run.text
-Counts tag seen run (Some o) = (after : List ℕ) × (run.line ≢ seen) × HasTag tag run.text after × Tells after o
+Counts tag seen run (Some o) = (after : List ℕ) × (run.line ≢ seen) × HasTag tag run.text after
+    × Tells after o
 
 -- the last line that had its tag
 abbrev pub seen_after : ℕ → ℕ → Option (Option (List ℕ)) → ℕ
@@ -56,13 +59,16 @@ onto line None tags = tags
 onto line (Some None) tags = tags
 onto line (Some (Some value)) tags = record { line = line; value = value } ∷ tags
 
--- the values of a tag that runs give, in order, if this line is the last that had its tag (0: none had)
+-- the values of a tag that runs give, in order, if this line is the last that had its tag (0: none
+-- had)
 abbrev pub Gives : List ℕ → ℕ → List RunText → List TagText → Type 0
 Gives tag seen [] tags = tags ≡ []
 Gives tag seen (run ∷ runs) tags =
-    (o : Option (Option (List ℕ))) × (more : List TagText) × Counts tag seen run o × (tags ≡ onto run.line o more)
+    (o : Option (Option (List ℕ))) × (more : List TagText) × Counts tag seen run o
+    × (tags ≡ onto run.line o more)
     × Gives tag (seen_after seen run.line o) runs more
 
 -- the notices and the licences of a file
 abbrev pub IsInfo : List ℕ → List TagText → List TagText → Type 0
-IsInfo file notices licences = (runs : List RunText) × Shows 1 file runs × Gives notice_tag 0 runs notices × Gives licence_tag 0 runs licences
+IsInfo file notices licences = (runs : List RunText) × Shows 1 file runs
+    × Gives notice_tag 0 runs notices × Gives licence_tag 0 runs licences

@@ -1,5 +1,7 @@
--- What the values of an annotation's keys may be, as TOML gives them (REUSE Specification 3.3, "REUSE.toml").
-use Rattle.std.specs.Prelude.{ℕ, ◌==◌, ℤ, pos, negsuc, Bool, false, List, [], ◌∷◌, codes, Option, Some, None, option_map, option_and_then, if◌then◌else◌}
+-- What the values of an annotation's keys may be, as TOML gives them (REUSE Specification 3.3,
+-- "REUSE.toml").
+use Rattle.std.specs.Prelude.{ℕ, ◌==◌, ℤ, pos, negsuc, Bool, false, List, [], ◌∷◌, codes, Option}
+use Rattle.std.specs.Prelude.{Some, None, option_map, option_and_then, if◌then◌else◌}
 use Rattle.std.specs.Str.{bytes_eq}
 use Rattle.toml.specs.Data.{Data, as_str, as_integer, as_array, Items, no_items, item}
 use Rattle.desk_tree_annotations.specs.declared.annotation.Precedence.{Precedence}
@@ -17,7 +19,8 @@ is_version value = is_one (option_and_then as_integer value)
 -- the texts of a list that holds nothing else
 abbrev pub strings : Items → Option (List (List ℕ))
 strings no_items = Some []
-strings (item d ds) = option_and_then (λ text. option_map (λ more. text ∷ more) (strings ds)) (as_str d)
+strings (item d ds) = option_and_then (λ text. option_map (λ more. text ∷ more) (strings ds))
+    (as_str d)
 
 abbrev pub one_or_listed : Option (List ℕ) → Option Items → Option (List (List ℕ))
 one_or_listed (Some text) values = Some (text ∷ [])

@@ -18,7 +18,8 @@ length-bytes_high_first (suc k) n = let rest = length-bytes_high_first k n in om
 
 all_bytes : (k n : ℕ) → All IsByte (bytes_high_first k n)
 all_bytes zero n = All-nil IsByte
-all_bytes (suc k) n = All-cons IsByte (byte_at k n) (bytes_high_first k n) (one_byte k n) (all_bytes k n)
+all_bytes (suc k) n = All-cons IsByte (byte_at k n) (bytes_high_first k n) (one_byte k n)
+    (all_bytes k n)
 
 length-digest_bytes : (h : List ℕ) (n : ℕ) → length (digest_bytes h n) ≡ 4 * n
 unfolding digest_bytes
@@ -32,11 +33,13 @@ length-digest_bytes h (suc n) =
 digest_bytes_all : (h : List ℕ) (n : ℕ) → All IsByte (digest_bytes h n)
 unfolding digest_bytes
 digest_bytes_all h zero = All-nil IsByte
-digest_bytes_all h (suc n) = All-append IsByte (digest_bytes h n) (to_be_bytes w32 (get_or h n 0)) (digest_bytes_all h n) (all_bytes 4 (get_or h n 0))
+digest_bytes_all h (suc n) = All-append IsByte (digest_bytes h n) (to_be_bytes w32 (get_or h n 0))
+    (digest_bytes_all h n) (all_bytes 4 (get_or h n 0))
 
 pub length-sha1 : (m : List ℕ) → length (sha1 m) ≡ 20
 unfolding sha1
-length-sha1 m = length-digest_bytes (hash_after (padded_message m) (length (padded_message m) / 64)) 5
+length-sha1 m = length-digest_bytes (hash_after (padded_message m) (length (padded_message m) / 64))
+    5
 
 pub sha1_bytes : (m : List ℕ) → All IsByte (sha1 m)
 unfolding sha1

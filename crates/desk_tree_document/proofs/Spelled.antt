@@ -19,8 +19,10 @@ without_fault : (o : Option DocFault) (y x : DocumentText) → unless o y ≡ Ok
 without_fault None y x is = cc
 without_fault (Some fault) y x is = absurd cc
 
-fields_spelled : (text : List ℕ) (r : Result DocumentText DocFault) → Spells text r → (x : DocumentText) → r ≡ Ok x
-    → (fs : List FieldText) × Reads 1 (behind_mark text) (Ok fs) × (x ≡ document_of (map read_entry fs))
+fields_spelled : (text : List ℕ) (r : Result DocumentText DocFault) → Spells text r
+    → (x : DocumentText) → r ≡ Ok x
+    → (fs : List FieldText) × Reads 1 (behind_mark text) (Ok fs)
+    × (x ≡ document_of (map read_entry fs))
 fields_spelled text r (too_large bytes big) x is = absurd cc
 fields_spelled text r (no_text bytes small not_utf8) x is = absurd cc
 fields_spelled text r (no_fields bytes fault small utf8 reads) x is = absurd cc
@@ -28,12 +30,15 @@ fields_spelled text r (fields bytes fs small utf8 reads) x is =
     let es = map read_entry fs in
     (fs, reads, without_fault (first_of (first_fault [] es) (missing_of es)) (document_of es) x is)
 
-pub document_spelled : (d : Draft) (text : List ℕ) (x : DocumentText) → Adds [] (draft_lines d) text → Spells text (Ok x)
-    → (p : Places) × (rest : List EntryText) × (x ≡ document_of (head_entries d p rest)) × AreFileEntries 1 d.files rest
+pub document_spelled : (d : Draft) (text : List ℕ) (x : DocumentText) → Adds [] (draft_lines d) text
+    → Spells text (Ok x)
+    → (p : Places) × (rest : List EntryText) × (x ≡ document_of (head_entries d p rest))
+    × AreFileEntries 1 d.files rest
 document_spelled d text x adds spells =
     let read = fields_spelled text (Ok x) spells x refl in
     let w = entries_of_draft d in
     let lines = fields_of_lines 1 (draft_lines d) in
-    let once = reads_once 1 (behind_mark text) (Ok read.0) (Ok lines) read.1 (draft_again d text adds) in
+    let once = reads_once 1 (behind_mark text) (Ok read.0) (Ok lines) read.1
+    (draft_again d text adds) in
     let fs : read.0 ≡ lines = cc in
     (w.0, w.1, read.2 ∙ ap (λ l. document_of (map read_entry l)) fs ∙ ap document_of w.2, w.3)

@@ -25,7 +25,12 @@ pub record Named : Type 0 where
 abbrev pub file_of : Reader → List SourceFile → FileInfo → Read DraftFile
 file_of r tree info =
     then_read (expression_read r.reading info.licences) (λ concluded.
-    Ok (record { path = info.path; digest = sha1 (bytes_of tree info.path); concluded = concluded; copyright = copyright_of info.notices }))
+    Ok (record {
+      path = info.path;
+      digest = sha1 (bytes_of tree info.path);
+      concluded = concluded;
+      copyright = copyright_of info.notices;
+    }))
 
 abbrev pub files_of : Reader → List SourceFile → List FileInfo → Read (List DraftFile)
 files_of r tree [] = Ok []
@@ -38,7 +43,8 @@ is_bare info = is_none info.licences
 
 -- the distinct licences of all files; none if some file has none
 abbrev pub package_licences : List FileInfo → List (List ℕ)
-package_licences infos = if list_any is_bare infos then [] else sorted_set (flat_map (λ i. i.licences) infos)
+package_licences infos = if list_any is_bare infos then []
+    else sorted_set (flat_map (λ i. i.licences) infos)
 
 -- the distinct notices of all files
 abbrev pub package_notices : List FileInfo → List (List ℕ)

@@ -1,11 +1,15 @@
 -- The answer for the document of a tree of files.
-use Rattle.std.specs.Prelude.{◌≡◌, ◌≤◌, ◌<◌, ℕ, Bool, true, false, List, [], ◌++◌, length, map, codes, decimal, Ok, Err, All}
+use Rattle.std.specs.Prelude.{◌≡◌, ◌≤◌, ◌<◌, ℕ, Bool, true, false, List, [], ◌++◌, length, map}
+use Rattle.std.specs.Prelude.{codes, decimal, Ok, Err, All}
 use Rattle.std.specs.String.{string_bytes}
 use Rattle.desk_tree_annotations.specs.Numbers.{kind_number}
 use Rattle.desk_base.specs.Limits.{document_bytes, document_elements}
 use Rattle.desk_bom.specs.Codes.{IsCode}
 use Rattle.desk_tree_gather.specs.declared.fault.GatherFault.{GatherFault}
-use Rattle.desk_tree_gather.specs.declared.fault.GatherFault.TheVariants.{BadToml, BadAnnotation, BadExpression, BadPath, TwicePath, TooManyFiles, ExpressionTooLong, Memory}
+use Rattle.desk_tree_gather.specs.declared.fault.GatherFault.TheVariants.{BadToml, BadAnnotation}
+use Rattle.desk_tree_gather.specs.declared.fault.GatherFault.TheVariants.{BadExpression, BadPath}
+use Rattle.desk_tree_gather.specs.declared.fault.GatherFault.TheVariants.{TwicePath, TooManyFiles}
+use Rattle.desk_tree_gather.specs.declared.fault.GatherFault.TheVariants.{ExpressionTooLong, Memory}
 use Rattle.desk_tree_gather.specs.declared.files.SourceFile.{SourceFile}
 use Rattle.desk_tree_gather.specs.Readers.{Reader}
 use Rattle.desk_tree_document.specs.Drafts.{Named, draft_of}
@@ -25,8 +29,11 @@ use Rattle.desk_tree_document.specs.declared.document.TextFault.TheVariants.{Bad
 -- a fault's line: its name, and each of its values after a space; lack of memory has none
 abbrev pub fault_line : GatherFault → List ℕ
 fault_line (BadToml file) = codes "fault: BadToml " ++ file ++ codes "\n"
-fault_line (BadAnnotation file index kind) = codes "fault: BadAnnotation " ++ (file ++ (codes " " ++ (decimal index ++ (codes " " ++ (decimal (kind_number kind) ++ codes "\n")))))
-fault_line (BadExpression file line) = codes "fault: BadExpression " ++ (file ++ (codes " " ++ (decimal line ++ codes "\n")))
+fault_line (BadAnnotation file index kind) = codes "fault: BadAnnotation "
+    ++ (file ++ (codes " " ++ (decimal index
+    ++ (codes " " ++ (decimal (kind_number kind) ++ codes "\n")))))
+fault_line (BadExpression file line) = codes "fault: BadExpression "
+    ++ (file ++ (codes " " ++ (decimal line ++ codes "\n")))
 fault_line BadPath = codes "fault: BadPath\n"
 fault_line TwicePath = codes "fault: TwicePath\n"
 fault_line TooManyFiles = codes "fault: TooManyFiles\n"
@@ -35,23 +42,27 @@ fault_line (Memory error) = []
 
 -- the draft of a tree of files, with its verification code
 abbrev pub IsDraft : Reader → List SourceFile → Named → Draft → Type 0
-IsDraft r files title d = (draft_of r files title d.code ≡ Ok d) × IsCode (map (λ (f : DraftFile). f.digest) d.files) d.code
+IsDraft r files title d = (draft_of r files title d.code ≡ Ok d)
+    × IsCode (map (λ (f : DraftFile). f.digest) d.files) d.code
 
--- a text with no more bytes and elements than a document may have is read as a document that says what a
--- draft says
+-- a text with no more bytes and elements than a document may have is read as a document that says
+-- what a draft says
 abbrev pub IsReadBack : Draft → List ℕ → Type 0
-IsReadBack d text = length text ≤ document_bytes → length d.files < document_elements → (x : DocumentText) × Spells text (Ok x) × GivesDraft d x
+IsReadBack d text = length text ≤ document_bytes → length d.files < document_elements
+    → (x : DocumentText) × Spells text (Ok x) × GivesDraft d x
 
--- the answer for a tree: the text of its draft's lines, from which the draft is read back and which ships its
--- package, whose code agrees; or the fault because of which it has no draft
+-- the answer for a tree: the text of its draft's lines, from which the draft is read back and which
+-- ships its package, whose code agrees; or the fault because of which it has no draft
 abbrev pub IsGathering : Reader → List SourceFile → Named → Gathering → Type 0
 IsGathering r files title (Document text) =
-    (d : Draft) × IsDraft r files title d × Adds [] (draft_lines d) (string_bytes text) × IsReadBack d (string_bytes text) × ShipsWhenRead d (string_bytes text)
+    (d : Draft) × IsDraft r files title d × Adds [] (draft_lines d) (string_bytes text)
+    × IsReadBack d (string_bytes text) × ShipsWhenRead d (string_bytes text)
 IsGathering r files title (Fault fault) = (code : List ℕ) → draft_of r files title code ≡ Err fault
 
 -- it has a draft with a value that can't be in its field
 abbrev pub IsUnwritable : Reader → List SourceFile → Named → Type 0
-IsUnwritable r files title = (d : Draft) × IsDraft r files title d × (All Stands (draft_lines d) → ⊥)
+IsUnwritable r files title = (d : Draft) × IsDraft r files title d
+    × (All Stands (draft_lines d) → ⊥)
 
 abbrev pub gathering_text : Gathering → List ℕ
 gathering_text (Document text) = string_bytes text

@@ -1,5 +1,5 @@
--- What a document that is read from a draft's text says about the draft's package (SPDX 2.3, clauses 7.9 and
--- 11.1).
+-- What a document that is read from a draft's text says about the draft's package (SPDX 2.3,
+-- clauses 7.9 and 11.1).
 use Rattle.std.specs.Prelude.{◌≡◌, ◌<◌, ℕ, true, List, [], ◌∷◌, length, map, All, Ok}
 use Rattle.desk_bom.specs.Codes.{IsCode, IsState}
 use Rattle.desk_bom.specs.Shipping.{AreShipped, AreShippingMarks}

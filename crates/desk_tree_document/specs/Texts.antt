@@ -20,7 +20,8 @@ expression_of (t ∷ u ∷ us) = codes "(" ++ (t ++ (codes ")" ++ others_joined 
 
 -- the same, if that is a licence expression
 abbrev pub expression_read : Reading → List (List ℕ) → Read (List ℕ)
-expression_read r licences = let text = expression_of licences in if r.is_expression text then Ok text else Err ExpressionTooLong
+expression_read r licences = let text = expression_of licences in
+    if r.is_expression text then Ok text else Err ExpressionTooLong
 
 -- ---- notices
 
@@ -37,4 +38,5 @@ others_below (t ∷ ts) = codes "\n" ++ (t ++ others_below ts)
 -- joined by line feeds; if there is none, or one holds `</text>`, there is no copyright
 abbrev pub copyright_of : List (List ℕ) → List ℕ
 copyright_of [] = codes "NOASSERTION"
-copyright_of (t ∷ ts) = if list_any holds_close (t ∷ ts) then codes "NOASSERTION" else t ++ others_below ts
+copyright_of (t ∷ ts) = if list_any holds_close (t ∷ ts) then codes "NOASSERTION"
+    else t ++ others_below ts

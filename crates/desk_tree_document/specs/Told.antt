@@ -19,7 +19,12 @@ infos_in told = map info_in told
 abbrev pub file_told : Reader → ToldFile → Read DraftFile
 file_told r told =
     then_read (expression_read r.reading told.info.licences) (λ concluded.
-    Ok (record { path = told.info.path; digest = told.digest; concluded = concluded; copyright = copyright_of told.info.notices }))
+    Ok (record {
+      path = told.info.path;
+      digest = told.digest;
+      concluded = concluded;
+      copyright = copyright_of told.info.notices;
+    }))
 
 abbrev pub files_told : Reader → List ToldFile → Read (List DraftFile)
 files_told r [] = Ok []
@@ -27,4 +32,5 @@ files_told r (t ∷ ts) = followed (file_told r t) (files_told r ts)
 
 -- the draft from what is reported, with a verification code
 abbrev pub draft_told : Reader → Named → List ToldFile → List ℕ → Read Draft
-draft_told r title told code = then_read (files_told r told) (λ drafted. draft_with r title (infos_in told) drafted code)
+draft_told r title told code = then_read (files_told r told)
+    (λ drafted. draft_with r title (infos_in told) drafted code)

@@ -14,21 +14,28 @@ use Rattle.desk_tree_gather.specs.Readers.{Reader}
 use Rattle.desk_tree_gather.specs.Paths.{folder_of}
 use Rattle.desk_tree_gather.specs.Tomls.{told_of, toml_read, toml_of}
 
-pub toml_no_text : (r : Reader) (f : SourceFile) → (IsUtf8 f.bytes → ⊥) → toml_of r f ≡ Err (BadToml f.path)
+pub toml_no_text : (r : Reader) (f : SourceFile) → (IsUtf8 f.bytes → ⊥)
+    → toml_of r f ≡ Err (BadToml f.path)
 toml_no_text r f none =
     elim (cases_Bool (is_utf8 f.bytes)) [
       | inl is ↦ absurd (none (IsUtf8-from_is_utf8 f.bytes is))
-      | inr other ↦ ap (λ b. cond b (toml_read f.path (annotations_of r.reading f.bytes)) (Err (BadToml f.path))) other
+      | inr other ↦ ap (λ b. cond b (toml_read f.path (annotations_of r.reading f.bytes))
+          (Err (BadToml f.path))) other
     ]
 
-text_read : (r : Reader) (f : SourceFile) → IsUtf8 f.bytes → toml_of r f ≡ toml_read f.path (annotations_of r.reading f.bytes)
-text_read r f is = ap (λ b. cond b (toml_read f.path (annotations_of r.reading f.bytes)) (Err (BadToml f.path))) (is_utf8-from_IsUtf8 f.bytes is)
+text_read : (r : Reader) (f : SourceFile) → IsUtf8 f.bytes
+    → toml_of r f ≡ toml_read f.path (annotations_of r.reading f.bytes)
+text_read r f is = ap (λ b. cond b (toml_read f.path (annotations_of r.reading f.bytes))
+    (Err (BadToml f.path))) (is_utf8-from_IsUtf8 f.bytes is)
 
-pub toml_good : (r : Reader) (f : SourceFile) (list : List Annotation) → IsUtf8 f.bytes → annotations_of r.reading f.bytes ≡ Ok list
+pub toml_good : (r : Reader) (f : SourceFile) (list : List Annotation) → IsUtf8 f.bytes
+    → annotations_of r.reading f.bytes ≡ Ok list
     → toml_of r f ≡ Ok (record { folder = folder_of f.path; annotations = list })
 toml_good r f list is read = text_read r f is ∙ ap (toml_read f.path) read
 
-pub toml_fault : (r : Reader) (f : SourceFile) (fault : AnnotationsFault) → IsUtf8 f.bytes → (fault ≢ Memory alloc_error) → (fault ≡ Memory alloc_error) ⊎ (annotations_of r.reading f.bytes ≡ Err fault)
+pub toml_fault : (r : Reader) (f : SourceFile) (fault : AnnotationsFault) → IsUtf8 f.bytes
+    → (fault ≢ Memory alloc_error)
+    → (fault ≡ Memory alloc_error) ⊎ (annotations_of r.reading f.bytes ≡ Err fault)
     → toml_of r f ≡ Err (told_of f.path fault)
 toml_fault r f fault is other (inl memory) = absurd (other memory)
 toml_fault r f fault is other (inr read) = text_read r f is ∙ ap (toml_read f.path) read

@@ -27,7 +27,8 @@ pub record FirstTexts : Type 0 where
 abbrev pub firsts_behind : Subject → List (List ℕ) → List FileInfo → List FirstTexts
 firsts_behind of known [] = []
 firsts_behind of known (info ∷ infos) =
-    record { path = info.path; texts = filter (λ t. not (is_among known t)) (texts_in of info) } ∷ firsts_behind of (known ++ texts_in of info) infos
+    record { path = info.path; texts = filter (λ t. not (is_among known t)) (texts_in of info) }
+    ∷ firsts_behind of (known ++ texts_in of info) infos
 
 abbrev pub firsts_of : Subject → List FileInfo → List FirstTexts
 firsts_of of infos = firsts_behind of [] infos
@@ -46,10 +47,13 @@ abbrev pub has_text : BTreeSet (Bor (List ℕ)) → List ℕ → Bool
 has_text set text = contains_by (λ (k : Bor (List ℕ)). slice_cmp nat_cmp text k.now) set
 
 -- texts are added to a set, and those that it didn't have to a list
-pub record AddsUnseen (texts : List (List ℕ)) (old new : BTreeSet (Bor (List ℕ))) (before after : List (List ℕ)) : Type 0 where
+pub record AddsUnseen (texts : List (List ℕ)) (old new : BTreeSet (Bor (List ℕ)))
+    (before after : List (List ℕ)) : Type 0 where
   pub seen : (t : List ℕ) → has_text new t ≡ (is_among texts t || has_text old t)
-  pub listed : (t : List ℕ) → is_among after t ≡ (is_among before t || (is_among texts t && not (has_text old t)))
+  pub listed : (t : List ℕ) → is_among after t
+      ≡ (is_among before t || (is_among texts t && not (has_text old t)))
 
 -- the texts of the annotations that were seen are in the set
 abbrev pub Knows : List Annotation → Subject → Seen → Type 0
-Knows all of seen = (number : ℕ) → contains nat_cmp seen.numbers number ≡ true → (t : List ℕ) → is_among (texts_at all of (number ∷ [])) t ≡ true → has_text seen.texts t ≡ true
+Knows all of seen = (number : ℕ) → contains nat_cmp seen.numbers number ≡ true → (t : List ℕ)
+    → is_among (texts_at all of (number ∷ [])) t ≡ true → has_text seen.texts t ≡ true

@@ -17,7 +17,8 @@ list_or_none (Some numbers) = numbers.items
 
 -- the numbers that a map has for a folder
 abbrev pub numbers_for : Numbers → List ℕ → List ℕ
-numbers_for m folder = list_or_none (get_by (λ (k : Vec ℕ Global). slice_cmp nat_cmp folder k.items) m)
+numbers_for m folder = list_or_none
+    (get_by (λ (k : Vec ℕ Global). slice_cmp nat_cmp folder k.items) m)
 
 -- the numbers of the annotations of a folder
 abbrev pub kept_for : Folders → List ℕ → List ℕ
@@ -25,4 +26,5 @@ kept_for folders folder = numbers_for folders.numbers folder
 
 -- the annotations of these files are kept
 abbrev pub Holds : List TomlText → Folders → Type 0
-Holds tomls folders = (folder : List ℕ) → annotations_at folders.all.items (kept_for folders folder) ≡ annotations_in tomls folder
+Holds tomls folders = (folder : List ℕ)
+    → annotations_at folders.all.items (kept_for folders folder) ≡ annotations_in tomls folder

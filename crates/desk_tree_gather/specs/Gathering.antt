@@ -20,7 +20,8 @@ holder_by beside file (Some bytes) = record { path = beside; bytes = bytes }
 holder_by beside file None = file
 
 abbrev pub holder : List SourceFile → SourceFile → SourceFile
-holder tree file = let beside = file.path ++ codes ".license" in holder_by beside file (bytes_at tree beside)
+holder tree file = let beside = file.path ++ codes ".license" in
+    holder_by beside file (bytes_at tree beside)
 
 -- the line of the first licence that is no expression
 abbrev pub bad_line : Reader → List TagText → Option ℕ
@@ -32,7 +33,8 @@ unless_bad path stated (Some line) = Err (BadExpression path line)
 unless_bad path stated None = Ok stated
 
 abbrev pub stated_in : Reader → SourceFile → Read Stated
-stated_in r file = let stated = r.stated file.bytes in unless_bad file.path stated (bad_line r stated.licences)
+stated_in r file = let stated = r.stated file.bytes in
+    unless_bad file.path stated (bad_line r stated.licences)
 
 abbrev pub values : List TagText → List (List ℕ)
 values tags = map (λ (t : TagText). t.value) tags
@@ -46,7 +48,8 @@ info_with path annotations own = record {
 }
 
 abbrev pub info_of : Reader → List TomlText → List SourceFile → SourceFile → Read FileInfo
-info_of r tomls tree file = then_read (stated_in r (holder tree file)) (λ own. Ok (info_with file.path (counting r tomls file.path) own))
+info_of r tomls tree file = then_read (stated_in r (holder tree file))
+    (λ own. Ok (info_with file.path (counting r tomls file.path) own))
 
 abbrev pub infos_of : Reader → List SourceFile → List TomlText → Read (List FileInfo)
 infos_of r tree tomls = each is_covered (info_of r tomls tree) tree

@@ -1,18 +1,21 @@
 -- The paths of a tree: which may be there, which files give licences, and which are covered (REUSE
 -- Specification 3.3, "Covered Files"). 47 is `/`.
-use Rattle.std.specs.Prelude.{ℕ, ◌==◌, ◌-◌, ◌&&◌, ◌||◌, not, nat_lt, nat_eq, Bool, List, [], ◌∷◌, ◌++◌, length, take, codes, if◌then◌else◌}
+use Rattle.std.specs.Prelude.{ℕ, ◌==◌, ◌-◌, ◌&&◌, ◌||◌, not, nat_lt, nat_eq, Bool, List, [], ◌∷◌}
+use Rattle.std.specs.Prelude.{◌++◌, length, take, codes, if◌then◌else◌}
 use Rattle.std.specs.List.{list_all, slice_split, starts_with, ends_with}
 use Rattle.std.specs.Str.{bytes_eq}
 use Rattle.desk_tree_gather.specs.declared.files.SourceFile.{SourceFile}
 
 -- a part of a path: not empty, and no step to the folder itself or out of it
 abbrev pub is_part : List ℕ → Bool
-is_part part = not (bytes_eq part []) && not (bytes_eq part (codes ".")) && not (bytes_eq part (codes ".."))
+is_part part = not (bytes_eq part []) && not (bytes_eq part (codes "."))
+    && not (bytes_eq part (codes ".."))
 
 -- a path from the tree's root: parts between slashes, no byte below 32, and no blank at the end
 abbrev pub is_path : List ℕ → Bool
 is_path path =
-    list_all is_part (slice_split (λ b. b == 47) path) && (list_all (λ b. not (nat_lt b 32)) path && not (ends_with nat_eq path (codes " ")))
+    list_all is_part (slice_split (λ b. b == 47) path)
+    && (list_all (λ b. not (nat_lt b 32)) path && not (ends_with nat_eq path (codes " ")))
 
 -- the name is what follows the last slash
 abbrev pub name_from : List ℕ → List ℕ → List ℕ
@@ -34,13 +37,16 @@ abbrev pub is_named : List ℕ → List ℕ → Bool
 is_named name word = bytes_eq name word || starts_with nat_eq name (word ++ codes ".")
 
 abbrev pub is_licence_name : List ℕ → Bool
-is_licence_name name = is_named name (codes "LICENSE") || (is_named name (codes "LICENCE") || is_named name (codes "COPYING"))
+is_licence_name name = is_named name (codes "LICENSE")
+    || (is_named name (codes "LICENCE") || is_named name (codes "COPYING"))
 
 -- a file that is left out, because of its name or its place at the root
 abbrev pub is_left_out : List ℕ → List ℕ → Bool
 is_left_out path name =
-    starts_with nat_eq path (codes "LICENSES/") || (starts_with nat_eq path (codes ".git/") || (starts_with nat_eq path (codes ".reuse/")
-    || (bytes_eq name (codes "REUSE.toml") || (ends_with nat_eq name (codes ".license") || is_licence_name name))))
+    starts_with nat_eq path (codes "LICENSES/")
+    || (starts_with nat_eq path (codes ".git/") || (starts_with nat_eq path (codes ".reuse/")
+    || (bytes_eq name (codes "REUSE.toml")
+    || (ends_with nat_eq name (codes ".license") || is_licence_name name))))
 
 -- the covered files: those that aren't left out, unless they are empty
 abbrev pub is_covered : SourceFile → Bool

@@ -11,7 +11,8 @@ pub record Stated : Type 0 where
   pub notices : List TagText
   pub licences : List TagText
 
--- the pieces of patterns and which texts are licence expressions; which paths a pattern matches; what each file states itself
+-- the pieces of patterns and which texts are licence expressions; which paths a pattern matches;
+-- what each file states itself
 pub record Reader : Type 0 where
   pub reading : Reading
   pub matches : List Piece → List ℕ → Bool
@@ -19,5 +20,6 @@ pub record Reader : Type 0 where
 
 pub record IsRightReader (r : Reader) : Type 0 where
   pub reading : IsRight r.reading
-  pub matching : (pieces : List Piece) (path : List ℕ) → Decides (r.matches pieces path) (IsMatch pieces path)
+  pub matching : (pieces : List Piece) (path : List ℕ)
+      → Decides (r.matches pieces path) (IsMatch pieces path)
   pub stating : (file : List ℕ) → IsInfo file (r.stated file).notices (r.stated file).licences

@@ -1,5 +1,5 @@
--- What files share: the texts of an annotation are kept once, and each file for which it counts has its
--- number, its place among all.
+-- What files share: the texts of an annotation are kept once, and each file for which it counts has
+-- its number, its place among all.
 use Rattle.std.specs.Prelude.{ℕ, Bool, true, false, List, [], ◌∷◌, ◌++◌, map}
 use Rattle.std.specs.List.{slice_get, flat_map, filter_map}
 use Rattle.desk_model.specs.Texts.{sorted_set}
@@ -53,7 +53,11 @@ pub record OutlineText : Type 0 where
   pub no_licence : Bool
 
 abbrev pub outline_of : FileInfo → OutlineText
-outline_of info = record { path = info.path; no_notice = is_none info.notices; no_licence = is_none info.licences }
+outline_of info = record {
+  path = info.path;
+  no_notice = is_none info.notices;
+  no_licence = is_none info.licences;
+}
 
 -- an outline, apart from where it is in memory
 abbrev pub outline_in : Outline → OutlineText

@@ -61,4 +61,7 @@ tomls_in ts = map toml_in ts
 
 -- what a file states, apart from where it is in memory
 abbrev pub stated_of : Info → Stated
-stated_of i = record { notices = map tag_text i.notices.items; licences = map tag_text i.licences.items }
+stated_of i = record {
+  notices = map tag_text i.notices.items;
+  licences = map tag_text i.licences.items;
+}

@@ -1,5 +1,6 @@
 -- All that is wrong in a tree, and what is gathered from the rest of it.
-use Rattle.std.specs.Prelude.{◌≡◌, ℕ, nat_lt, not, List, [], ◌∷◌, ◌++◌, length, map, filter, option_to_list, Option, Some, None, Ok, Err, if◌then◌else◌}
+use Rattle.std.specs.Prelude.{◌≡◌, ℕ, nat_lt, not, List, [], ◌∷◌, ◌++◌, length, map, filter}
+use Rattle.std.specs.Prelude.{option_to_list, Option, Some, None, Ok, Err, if◌then◌else◌}
 use Rattle.std.specs.List.{flat_map}
 use Rattle.std.specs.Option.{is_some}
 use Rattle.std.specs.Str.{is_utf8}
@@ -12,7 +13,9 @@ use Rattle.desk_tree_gather.specs.declared.fault.GatherFault.{GatherFault}
 use Rattle.desk_tree_gather.specs.declared.fault.GatherFault.TheVariants as first
 use Rattle.desk_tree_gather.specs.declared.files.SourceFile.{SourceFile}
 use Rattle.desk_tree_gather.specs.declared.flaw.Flaw.{Flaw}
-use Rattle.desk_tree_gather.specs.declared.flaw.Flaw.TheVariants.{TooManyFiles, BadPath, TwicePath, BadToml, BadAnnotation, BadExpression}
+use Rattle.desk_tree_gather.specs.declared.flaw.Flaw.TheVariants.{TooManyFiles, BadPath, TwicePath}
+use Rattle.desk_tree_gather.specs.declared.flaw.Flaw.TheVariants.{BadToml, BadAnnotation}
+use Rattle.desk_tree_gather.specs.declared.flaw.Flaw.TheVariants.{BadExpression}
 use Rattle.desk_tree_gather.specs.declared.gathering.FileInfo.{FileInfo}
 use Rattle.desk_tree_gather.specs.Readers.{Reader}
 use Rattle.desk_tree_gather.specs.Paths.{is_path, is_toml, is_covered, folder_of}
@@ -46,7 +49,8 @@ sifted sorted (f ∷ fs) = sifted (with_file f sorted) fs
 -- what is wrong with the paths of these files
 abbrev pub path_flaws : List SourceFile → List SourceFile → List Flaw
 path_flaws sorted [] = []
-path_flaws sorted (f ∷ fs) = option_to_list (path_flaw sorted f.path) ++ path_flaws (with_file f sorted) fs
+path_flaws sorted (f ∷ fs) = option_to_list (path_flaw sorted f.path)
+    ++ path_flaws (with_file f sorted) fs
 
 -- ---- REUSE.toml files
 
@@ -57,16 +61,22 @@ flaw_of path (why.Memory error) = BadToml path
 
 -- what is wrong with a REUSE.toml
 abbrev pub toml_flaws : Reader → SourceFile → List Flaw
-toml_flaws r file = if is_utf8 file.bytes then map (flaw_of file.path) (annotation_faults r.reading file.bytes) else BadToml file.path ∷ []
+toml_flaws r file = if is_utf8 file.bytes
+    then map (flaw_of file.path) (annotation_faults r.reading file.bytes)
+    else BadToml file.path ∷ []
 
 -- a REUSE.toml, with the annotations that can be read
 abbrev pub toml_sifted : Reader → SourceFile → TomlText
-toml_sifted r file = record { folder = folder_of file.path; annotations = if is_utf8 file.bytes then good_annotations r.reading file.bytes else [] }
+toml_sifted r file = record {
+  folder = folder_of file.path;
+  annotations = if is_utf8 file.bytes then good_annotations r.reading file.bytes else [];
+}
 
 -- ---- what files state
 
 abbrev pub tag_flaws : Reader → List ℕ → TagText → List Flaw
-tag_flaws r path tag = if r.reading.is_expression tag.value then [] else BadExpression path tag.line tag.value ∷ []
+tag_flaws r path tag = if r.reading.is_expression tag.value then []
+    else BadExpression path tag.line tag.value ∷ []
 
 -- the tags of a file that are no licence expression
 abbrev pub stated_flaws : Reader → SourceFile → List Flaw
@@ -80,17 +90,21 @@ kept files = if nat_lt most.tree_files (length files) then [] else sifted [] fil
 
 -- the flaws of the REUSE.toml files by path, then of what the covered files state, by path
 abbrev pub tree_flaws : Reader → List SourceFile → List Flaw
-tree_flaws r tree = flat_map (toml_flaws r) (filter is_toml tree) ++ flat_map (λ f. stated_flaws r (holder tree f)) (filter is_covered tree)
+tree_flaws r tree = flat_map (toml_flaws r) (filter is_toml tree)
+    ++ flat_map (λ f. stated_flaws r (holder tree f)) (filter is_covered tree)
 
 abbrev pub flaws_of : Reader → List SourceFile → List Flaw
-flaws_of r files = if nat_lt most.tree_files (length files) then TooManyFiles ∷ [] else path_flaws [] files ++ tree_flaws r (sifted [] files)
+flaws_of r files = if nat_lt most.tree_files (length files) then TooManyFiles ∷ []
+    else path_flaws [] files ++ tree_flaws r (sifted [] files)
 
 -- the information of a covered file, whatever is wrong in it or elsewhere
 abbrev pub info_sifted : Reader → List TomlText → List SourceFile → SourceFile → FileInfo
-info_sifted r tomls tree file = info_with file.path (counting r tomls file.path) (r.stated (holder tree file).bytes)
+info_sifted r tomls tree file = info_with file.path (counting r tomls file.path)
+    (r.stated (holder tree file).bytes)
 
 abbrev pub infos_sifted : Reader → List SourceFile → List FileInfo
-infos_sifted r tree = map (info_sifted r (map (toml_sifted r) (filter is_toml tree)) tree) (filter is_covered tree)
+infos_sifted r tree = map (info_sifted r (map (toml_sifted r) (filter is_toml tree)) tree)
+    (filter is_covered tree)
 
 -- ---- what is gathered, up to the first flaw
 
@@ -105,4 +119,5 @@ gather_fault (BadExpression path line text) = first.BadExpression path line
 -- what is read up to the first fault, compared with all flaws and what is read despite them
 abbrev pub Agrees : {A : Type 0} → Read A → List Flaw → A → Type 0
 Agrees (Ok x) flaws y = (flaws ≡ []) × (y ≡ x)
-Agrees (Err fault) flaws y = (flaw : Flaw) × (more : List Flaw) × (flaws ≡ flaw ∷ more) × (gather_fault flaw ≡ fault)
+Agrees (Err fault) flaws y = (flaw : Flaw) × (more : List Flaw) × (flaws ≡ flaw ∷ more)
+    × (gather_fault flaw ≡ fault)

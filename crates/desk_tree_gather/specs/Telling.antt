@@ -24,11 +24,13 @@ told r files =
 
 -- what is reported about the covered files of a tree, in their order
 abbrev pub told_of : Reader → List TomlText → List SourceFile → SourceFile → Read ToldFile
-told_of r tomls tree file = then_read (info_of r tomls tree file) (λ info. Ok (with_digest tree info))
+told_of r tomls tree file = then_read (info_of r tomls tree file)
+    (λ info. Ok (with_digest tree info))
 
 abbrev pub told_in : Reader → List TomlText → List SourceFile → Read (List ToldFile)
 told_in r tomls tree = each is_covered (told_of r tomls tree) tree
 
 -- what is reported about a file, from itself and the files that are left
 abbrev pub told_beside : Reader → List TomlText → List SourceFile → SourceFile → Read ToldFile
-told_beside r tomls left file = then_read (info_of r tomls left file) (λ info. Ok (record { info = info; digest = sha1 file.bytes }))
+told_beside r tomls left file = then_read (info_of r tomls left file)
+    (λ info. Ok (record { info = info; digest = sha1 file.bytes }))

@@ -28,7 +28,8 @@ toml_read path (Ok annotations) = Ok (record { folder = folder_of path; annotati
 toml_read path (Err fault) = Err (told_of path fault)
 
 abbrev pub toml_of : Reader → SourceFile → Read TomlText
-toml_of r file = if is_utf8 file.bytes then toml_read file.path (annotations_of r.reading file.bytes) else Err (BadToml file.path)
+toml_of r file = if is_utf8 file.bytes
+    then toml_read file.path (annotations_of r.reading file.bytes) else Err (BadToml file.path)
 
 abbrev pub tomls_of : Reader → List SourceFile → Read (List TomlText)
 tomls_of r tree = each is_toml (toml_of r) tree
@@ -36,4 +37,5 @@ tomls_of r tree = each is_toml (toml_of r) tree
 -- the annotations of a folder
 abbrev pub annotations_in : List TomlText → List ℕ → List Annotation
 annotations_in [] folder = []
-annotations_in (t ∷ ts) folder = if bytes_eq t.folder folder then t.annotations else annotations_in ts folder
+annotations_in (t ∷ ts) folder = if bytes_eq t.folder folder then t.annotations
+    else annotations_in ts folder

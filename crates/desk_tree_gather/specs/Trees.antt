@@ -1,5 +1,6 @@
 -- The files of a tree in byte order of their paths, or the first path that can't be there.
-use Rattle.std.specs.Prelude.{ℕ, nat_lt, not, Bool, List, [], ◌∷◌, length, Option, Some, None, Result, Ok, Err, if◌then◌else◌}
+use Rattle.std.specs.Prelude.{ℕ, nat_lt, not, Bool, List, [], ◌∷◌, length, Option, Some, None}
+use Rattle.std.specs.Prelude.{Result, Ok, Err, if◌then◌else◌}
 use Rattle.std.specs.Option.{is_some}
 use Rattle.std.specs.Str.{bytes_eq}
 use Rattle.desk_base.specs.Limits as most
@@ -17,12 +18,14 @@ Read A = Result A GatherFault
 -- each item that passes a test in turn, or the first fault
 abbrev pub each : {A B : Type 0} → (A → Bool) → (A → Read B) → List A → Read (List B)
 each test read [] = Ok []
-each test read (x ∷ xs) = if test x then followed (read x) (each test read xs) else each test read xs
+each test read (x ∷ xs) = if test x then followed (read x) (each test read xs)
+    else each test read xs
 
 -- a file at its place among others that are sorted
 abbrev pub put_file : SourceFile → List SourceFile → List SourceFile
 put_file f [] = f ∷ []
-put_file f (g ∷ gs) = if text_below f.path g.path then f ∷ g ∷ gs else (if bytes_eq f.path g.path then f ∷ gs else g ∷ put_file f gs)
+put_file f (g ∷ gs) = if text_below f.path g.path then f ∷ g ∷ gs
+    else (if bytes_eq f.path g.path then f ∷ gs else g ∷ put_file f gs)
 
 -- the bytes of the file at a path
 abbrev pub bytes_at : List SourceFile → List ℕ → Option (List ℕ)
@@ -37,8 +40,8 @@ some_bytes None = []
 abbrev pub bytes_of : List SourceFile → List ℕ → List ℕ
 bytes_of tree path = some_bytes (bytes_at tree path)
 
--- files added one after another to others that are sorted, up to the first whose path can't be there, or is
--- there already
+-- files added one after another to others that are sorted, up to the first whose path can't be
+-- there, or is there already
 abbrev pub placed : List SourceFile → List SourceFile → Read (List SourceFile)
 placed sorted [] = Ok sorted
 placed sorted (f ∷ fs) =

@@ -19,11 +19,12 @@ first_or path (rest ∷ more) = rest
 abbrev pub behind_slash : List ℕ → List ℕ
 behind_slash path = first_or path (rests path)
 
--- the first `many` folders are on the way to both paths, and the others on the way to the second one are in
--- its rest
+-- the first `many` folders are on the way to both paths, and the others on the way to the second
+-- one are in its rest
 abbrev pub Shares : List ℕ → List ℕ → ℕ → List ℕ → Type 0
 Shares before path many rest =
-    (both others : List (List ℕ)) × (length both ≡ many) × (ways before ≡ both ++ others) × (ways path ≡ both ++ map (way path) (rests rest))
+    (both others : List (List ℕ)) × (length both ≡ many) × (ways before ≡ both ++ others)
+    × (ways path ≡ both ++ map (way path) (rests rest))
 
 abbrev pub lists_of : List (Bor (List ℕ)) → List (List ℕ)
 lists_of lists = map (λ (l : Bor (List ℕ)). l.now) lists

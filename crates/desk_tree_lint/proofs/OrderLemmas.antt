@@ -1,5 +1,7 @@
 -- Texts in order, found by halving.
-use Rattle.std.proofs.Common.{◌≡◌, ◌∙◌, ⊎_elim, inl, inr, ℕ, zero, suc, ◌+◌, ◌<◌, Bool, true, false, List, [], ◌∷◌, length, get_or, map, sym, ap, refl, subst, arith, Result, Ok, Err, Less, nat_cmp, is_eq}
+use Rattle.std.proofs.Common.{◌≡◌, ◌∙◌, ⊎_elim, inl, inr, ℕ, zero, suc, ◌+◌, ◌<◌, Bool, true, false}
+use Rattle.std.proofs.Common.{List, [], ◌∷◌, length, get_or, map, sym, ap, refl, subst, arith}
+use Rattle.std.proofs.Common.{Result, Ok, Err, Less, nat_cmp, is_eq}
 use Rattle.std.specs.Prelude.{◌||◌, Contains}
 use Rattle.std.specs.Result.{is_ok}
 use Rattle.std.specs.List.{AllByRecursion}
@@ -22,28 +24,42 @@ or_true false = refl
 
 module _ {A : Type 0} (text_of : A → List ℕ) where
   -- a text that stands at a place
-  pub among_at : (xs : List A) (key : List ℕ) (i : ℕ) (d : A) → i < length xs → bytes_eq (text_of (get_or xs i d)) key ≡ true → is_among (map text_of xs) key ≡ true
+  pub among_at : (xs : List A) (key : List ℕ) (i : ℕ) (d : A) → i < length xs
+      → bytes_eq (text_of (get_or xs i d)) key ≡ true → is_among (map text_of xs) key ≡ true
   among_at [] key i d within is = absurd (omega (arith, within))
   among_at (x ∷ xs) key zero d within is = ap (λ b. b || is_among (map text_of xs) key) is
-  among_at (x ∷ xs) key (suc i) d within is = ap (λ b. bytes_eq (text_of x) key || b) (among_at xs key i d (omega (arith, within)) is) ∙ or_true (bytes_eq (text_of x) key)
+  among_at (x ∷ xs) key (suc i) d within is = ap (λ b. bytes_eq (text_of x) key || b)
+      (among_at xs key i d (omega (arith, within)) is) ∙ or_true (bytes_eq (text_of x) key)
 
   -- a text that stands at none
-  among_nowhere : (xs : List A) (key : List ℕ) → ((k : ℕ) (d : A) → k < length xs → is_eq (slice_cmp nat_cmp (text_of (get_or xs k d)) key) ≡ false) → is_among (map text_of xs) key ≡ false
+  among_nowhere : (xs : List A) (key : List ℕ)
+      → ((k : ℕ) (d : A) → k < length xs
+      → is_eq (slice_cmp nat_cmp (text_of (get_or xs k d)) key) ≡ false)
+      → is_among (map text_of xs) key ≡ false
   among_nowhere [] key h = refl
   among_nowhere (x ∷ xs) key h =
-      ap (λ b. b || is_among (map text_of xs) key) (sym (is_eq-slice_cmp (text_of x) key) ∙ h zero x (omega arith)) ∙ among_nowhere xs key (λ i d within. h (suc i) d (omega (arith, within)))
+      ap (λ b. b || is_among (map text_of xs) key)
+      (sym (is_eq-slice_cmp (text_of x) key) ∙ h zero x (omega arith))
+      ∙ among_nowhere xs key (λ i d within. h (suc i) d (omega (arith, within)))
 
-  rising : (xs : List A) → IsStrictlySortedBy (slice_cmp nat_cmp) (map text_of xs) → IsSortedBy (λ a b. is_lt (slice_cmp nat_cmp (text_of a) (text_of b))) xs
+  rising : (xs : List A) → IsStrictlySortedBy (slice_cmp nat_cmp) (map text_of xs)
+      → IsSortedBy (λ a b. is_lt (slice_cmp nat_cmp (text_of a) (text_of b))) xs
   rising xs up k d from to =
       let all = map text_of xs in
       let here = get_or-map text_of xs k d (text_of d) (omega (arith, to)) in
       let next = get_or-map text_of xs (k + 1) d (text_of d) to in
-      let less : slice_cmp nat_cmp (get_or all k (text_of d)) (get_or all (k + 1) (text_of d)) ≡ Less =
-      Less-from_sorted (slice_cmp nat_cmp) all k (k + 1) (text_of d) up (omega arith) (subst (λ n. k + 1 < n) (sym (length-map xs text_of)) to) in
-      ap is_lt (nat_list_cmp_total.antisymm (text_of (get_or xs (k + 1) d)) (text_of (get_or xs k d)) ∙ ap ordering_reverse ((λ j. slice_cmp nat_cmp (sym here j) (sym next j)) ∙ less))
+      let less : slice_cmp nat_cmp (get_or all k (text_of d)) (get_or all (k + 1)
+      (text_of d)) ≡ Less =
+      Less-from_sorted (slice_cmp nat_cmp) all k (k + 1) (text_of d) up (omega arith)
+      (subst (λ n. k + 1 < n) (sym (length-map xs text_of)) to) in
+      ap is_lt (nat_list_cmp_total.antisymm (text_of (get_or xs (k + 1) d))
+      (text_of (get_or xs k d)) ∙ ap ordering_reverse
+      ((λ j. slice_cmp nat_cmp (sym here j) (sym next j)) ∙ less))
 
   -- what halving finds nowhere in texts in order
-  pub halved_none : (xs : List A) (key : List ℕ) (i : ℕ) → IsStrictlySortedBy (slice_cmp nat_cmp) (map text_of xs) → IsBinarySearchResult (λ x. slice_cmp nat_cmp (text_of x) key) xs (Err i)
+  pub halved_none : (xs : List A) (key : List ℕ) (i : ℕ)
+      → IsStrictlySortedBy (slice_cmp nat_cmp) (map text_of xs)
+      → IsBinarySearchResult (λ x. slice_cmp nat_cmp (text_of x) key) xs (Err i)
       → is_among (map text_of xs) key ≡ false
   halved_none xs key i up h =
       let parts = h (searchable_from_sorted nat_list_cmp_total text_of xs key (rising xs up)) in
@@ -53,30 +69,44 @@ module _ {A : Type 0} (text_of : A → List ℕ) where
       (order k i))
 
 -- whether halving finds a text among others in order
-pub halved : (keys : List (List ℕ)) (key : List ℕ) (r : Result ℕ ℕ) → IsStrictlySortedBy (slice_cmp nat_cmp) keys → IsSearchInRange r (length keys) → IsBinarySearchResult (λ k. slice_cmp nat_cmp k key) keys r
+pub halved : (keys : List (List ℕ)) (key : List ℕ) (r : Result ℕ ℕ)
+    → IsStrictlySortedBy (slice_cmp nat_cmp) keys → IsSearchInRange r (length keys)
+    → IsBinarySearchResult (λ k. slice_cmp nat_cmp k key) keys r
     → is_ok r ≡ is_among keys key
 halved keys key (Ok i) up within h =
-    sym (ap (λ ks. is_among ks key) (sym (map-id keys)) ∙ among_at (λ k. k) keys key i key within (sym (is_eq-slice_cmp (get_or keys i key) key) ∙ ap is_eq (h key)))
+    sym (ap (λ ks. is_among ks key) (sym (map-id keys))
+    ∙ among_at (λ k. k) keys key i key within
+    (sym (is_eq-slice_cmp (get_or keys i key) key) ∙ ap is_eq (h key)))
 halved keys key (Err i) up within h =
-    sym (ap (λ ks. is_among ks key) (sym (map-id keys)) ∙ halved_none (λ k. k) keys key i (subst (IsStrictlySortedBy (slice_cmp nat_cmp)) (sym (map-id keys)) up) h)
+    sym (ap (λ ks. is_among ks key) (sym (map-id keys))
+    ∙ halved_none (λ k. k) keys key i
+    (subst (IsStrictlySortedBy (slice_cmp nat_cmp)) (sym (map-id keys)) up) h)
 
 -- ---- texts sorted, each once
 
 -- one among some is one of them
-pub among_from : {A : Type 0} (text_of : A → List ℕ) (xs : List A) (key : List ℕ) → is_among (map text_of xs) key ≡ true → (x : A) × Contains xs x × (bytes_eq (text_of x) key ≡ true)
+pub among_from : {A : Type 0} (text_of : A → List ℕ) (xs : List A) (key : List ℕ)
+    → is_among (map text_of xs) key ≡ true
+    → (x : A) × Contains xs x × (bytes_eq (text_of x) key ≡ true)
 among_from text_of [] key has = absurd (false≢true has)
 among_from text_of (x ∷ xs) key has =
     elim (cases_Bool (bytes_eq (text_of x) key)) [
       | inl here ↦ (x, (zero, omega arith, refl), here)
       | inr away ↦
-          let more = among_from text_of xs key (ap (λ b. b || is_among (map text_of xs) key) (sym away) ∙ has) in (more.0, (suc more.1.0, omega (arith, more.1.1), more.1.2), more.2)
+          let more = among_from text_of xs key
+          (ap (λ b. b || is_among (map text_of xs) key) (sym away) ∙ has) in
+          (more.0, (suc more.1.0, omega (arith, more.1.1), more.1.2), more.2)
     ]
 
-less_texts : {A : Type 0} (text_of : A → List ℕ) (x : A) (xs : List A) → AllByRecursion (λ y. slice_cmp nat_cmp (text_of x) (text_of y) ≡ Less) xs → AllByRecursion (λ t. slice_cmp nat_cmp (text_of x) t ≡ Less) (map text_of xs)
+less_texts : {A : Type 0} (text_of : A → List ℕ) (x : A) (xs : List A)
+    → AllByRecursion (λ y. slice_cmp nat_cmp (text_of x) (text_of y) ≡ Less) xs
+    → AllByRecursion (λ t. slice_cmp nat_cmp (text_of x) t ≡ Less) (map text_of xs)
 less_texts text_of x [] all = tt
 less_texts text_of x (y ∷ ys) all = (all.0, less_texts text_of x ys all.1)
 
-pub sorted_texts : {A : Type 0} (text_of : A → List ℕ) (xs : List A) → IsStrictlySortedBy (λ x y. slice_cmp nat_cmp (text_of x) (text_of y)) xs → IsStrictlySortedBy (slice_cmp nat_cmp) (map text_of xs)
+pub sorted_texts : {A : Type 0} (text_of : A → List ℕ) (xs : List A)
+    → IsStrictlySortedBy (λ x y. slice_cmp nat_cmp (text_of x) (text_of y)) xs
+    → IsStrictlySortedBy (slice_cmp nat_cmp) (map text_of xs)
 unfolding IsStrictlySortedBy
 sorted_texts text_of [] up = tt
 sorted_texts text_of (x ∷ xs) up = (less_texts text_of x xs up.0, sorted_texts text_of xs up.1)

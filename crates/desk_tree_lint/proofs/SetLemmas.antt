@@ -16,9 +16,14 @@ or_moves true false c = refl
 or_moves false b c = refl
 
 -- a text goes from those to come to those in the set
-pub set_step : (listed : List (Bor (List ℕ))) (i : ℕ) (v : Bor (List ℕ)) (old new : BTreeSet (Bor (List ℕ))) → i < length listed → UpdatesBy borrowed_cmp (borrowed_cmp (get_or listed i v)) old new true
-    → (q : List ℕ) → (is_among (texts (drop (i + 1) listed)) q || has_text new q) ≡ (is_among (texts (drop i listed)) q || has_text old q)
+pub set_step : (listed : List (Bor (List ℕ))) (i : ℕ) (v : Bor (List ℕ))
+    (old new : BTreeSet (Bor (List ℕ))) → i < length listed
+    → UpdatesBy borrowed_cmp (borrowed_cmp (get_or listed i v)) old new true
+    → (q : List ℕ) → (is_among (texts (drop (i + 1) listed)) q || has_text new q)
+    ≡ (is_among (texts (drop i listed)) q || has_text old q)
 set_step listed i v old new within h q =
-    ap (λ b. is_among (texts (drop (i + 1) listed)) q || b) (one_more (get_or listed i v) old new h q)
-    ∙ or_moves (bytes_eq (get_or listed i v).now q) (is_among (texts (drop (i + 1) listed)) q) (has_text old q)
+    ap (λ b. is_among (texts (drop (i + 1) listed)) q || b)
+    (one_more (get_or listed i v) old new h q)
+    ∙ or_moves (bytes_eq (get_or listed i v).now q) (is_among (texts (drop (i + 1) listed)) q)
+    (has_text old q)
     ∙ ap (λ l. is_among (texts l) q || has_text old q) (sym (drop_more listed i v within))

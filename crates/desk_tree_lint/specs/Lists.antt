@@ -17,7 +17,8 @@ missing used texts = filter (λ key. not (is_among (map (λ (t : TextFile). t.ke
 
 -- the texts whose keys aren't used
 abbrev pub unused : List (List ℕ) → List TextFile → List (List ℕ)
-unused used texts = map (λ (t : TextFile). t.path) (filter (λ (t : TextFile). not (is_among used t.key)) texts)
+unused used texts = map (λ (t : TextFile). t.path)
+    (filter (λ (t : TextFile). not (is_among used t.key)) texts)
 
 -- the files without a notice or without a licence
 abbrev pub is_bare : FileInfo → Bool
@@ -28,10 +29,15 @@ bare infos = map (λ (i : FileInfo). i.path) (filter is_bare infos)
 
 -- the same from their outlines
 abbrev pub bare_in : List OutlineText → List (List ℕ)
-bare_in outlines = map (λ (o : OutlineText). o.path) (filter (λ (o : OutlineText). o.no_notice || o.no_licence) outlines)
+bare_in outlines = map (λ (o : OutlineText). o.path)
+    (filter (λ (o : OutlineText). o.no_notice || o.no_licence) outlines)
 
 abbrev pub lists_of : List FileInfo → List (List ℕ) → List TextFile → Lint
-lists_of infos used texts = record { missing = missing used texts; unused = unused used texts; bare = bare infos }
+lists_of infos used texts = record {
+  missing = missing used texts;
+  unused = unused used texts;
+  bare = bare infos;
+}
 
 -- the lists of a tree from which everything is gathered
 pub record IsLint (r : Reader) (files : List SourceFile) (l : Lint) : Type 0 where

@@ -1,6 +1,7 @@
--- How a licence is written where it is first named, and the file that names it (SPDX 2.3, Annex D). 9, 32, 40 and 41 are the tab, the
--- space and the parentheses.
-use Rattle.std.specs.Prelude.{ℕ, ◌==◌, ◌||◌, not, nat_eq, Bool, List, [], ◌∷◌, map, filter, codes, Option, Some, None, if◌then◌else◌}
+-- How a licence is written where it is first named, and the file that names it (SPDX 2.3, Annex D).
+-- 9, 32, 40 and 41 are the tab, the space and the parentheses.
+use Rattle.std.specs.Prelude.{ℕ, ◌==◌, ◌||◌, not, nat_eq, Bool, List, [], ◌∷◌, map, filter, codes}
+use Rattle.std.specs.Prelude.{Option, Some, None, if◌then◌else◌}
 use Rattle.std.specs.List.{flat_map, slice_split, ends_with}
 use Rattle.std.specs.Str.{bytes_eq}
 use Rattle.desk_expr.specs.Words.{without_last}
@@ -19,7 +20,8 @@ abbrev pub runs : List ℕ → List (List ℕ)
 runs licence = cut_at 41 (cut_at 40 (cut_at 9 (cut_at 32 (licence ∷ []))))
 
 abbrev pub is_operator : List ℕ → Bool
-is_operator run = bytes_eq run (codes "AND") || (bytes_eq run (codes "OR") || bytes_eq run (codes "WITH"))
+is_operator run = bytes_eq run (codes "AND")
+    || (bytes_eq run (codes "OR") || bytes_eq run (codes "WITH"))
 
 -- the identifier of a licence, a reference or an exception, before a plus
 abbrev pub without_plus : List ℕ → List ℕ

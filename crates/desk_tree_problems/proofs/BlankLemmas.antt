@@ -27,10 +27,14 @@ no_utf8 bytes none =
       | inr isnt ↦ isnt
     ]
 
-pub no_text : (r : Reading) (path bytes : List ℕ) → (IsUtf8 bytes → ⊥) → blanks_of r (record { path = path; bytes = bytes }) ≡ []
-no_text r path bytes none = no_part (is_toml_path path) (is_utf8 bytes) (blanks_read path (annotations_of r bytes)) (no_utf8 bytes none)
+pub no_text : (r : Reading) (path bytes : List ℕ) → (IsUtf8 bytes → ⊥)
+    → blanks_of r (record { path = path; bytes = bytes }) ≡ []
+no_text r path bytes none = no_part (is_toml_path path) (is_utf8 bytes)
+    (blanks_read path (annotations_of r bytes)) (no_utf8 bytes none)
 
-pub read_blanks : (r : Reading) (path bytes : List ℕ) (annotations : List Annotation) → true ≡ is_toml_path path → IsUtf8 bytes → annotations_of r bytes ≡ Ok annotations
+pub read_blanks : (r : Reading) (path bytes : List ℕ) (annotations : List Annotation)
+    → true ≡ is_toml_path path → IsUtf8 bytes → annotations_of r bytes ≡ Ok annotations
     → blanks_of r (record { path = path; bytes = bytes }) ≡ blanks_from path 0 annotations
 read_blanks r path bytes annotations toml text read =
-    whole (is_toml_path path) (is_utf8 bytes) (blanks_read path (annotations_of r bytes)) (sym toml) (is_utf8-from_IsUtf8 bytes text) ∙ ap (blanks_read path) read
+    whole (is_toml_path path) (is_utf8 bytes) (blanks_read path (annotations_of r bytes)) (sym toml)
+    (is_utf8-from_IsUtf8 bytes text) ∙ ap (blanks_read path) read

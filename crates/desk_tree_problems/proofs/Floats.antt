@@ -13,5 +13,6 @@ rows_have_no_float : (rows : List Row) → items_have_float (items_of (map row_v
 rows_have_no_float [] = refl
 rows_have_no_float (row ∷ rows) = rw (line_has_no_float row.line) (rows_have_no_float rows)
 
-pub report_has_no_float : (rows : List Row) (covered : ℕ) → has_float (report_value rows covered) ≡ false
+pub report_has_no_float : (rows : List Row) (covered : ℕ)
+    → has_float (report_value rows covered) ≡ false
 report_has_no_float rows covered = rw (rows_have_no_float rows) refl

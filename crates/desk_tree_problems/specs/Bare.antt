@@ -14,7 +14,10 @@ lacking true false = Notice
 lacking false no_licence = Licence
 
 abbrev pub bare_file : FileInfo → Bare
-bare_file info = record { path = info.path; lacking = lacking (is_none info.notices) (is_none info.licences) }
+bare_file info = record {
+  path = info.path;
+  lacking = lacking (is_none info.notices) (is_none info.licences);
+}
 
 -- the files without a notice or without a licence
 abbrev pub bare_files : List FileInfo → List Bare
@@ -25,4 +28,5 @@ abbrev pub bare_outline : OutlineText → Bare
 bare_outline o = record { path = o.path; lacking = lacking o.no_notice o.no_licence }
 
 abbrev pub bare_in : List OutlineText → List Bare
-bare_in outlines = map bare_outline (filter (λ (o : OutlineText). o.no_notice || o.no_licence) outlines)
+bare_in outlines = map bare_outline
+    (filter (λ (o : OutlineText). o.no_notice || o.no_licence) outlines)

@@ -1,4 +1,5 @@
--- Licences of a REUSE.toml that no document can hold: they are kept as they are written there, and have a blank at an end.
+-- Licences of a REUSE.toml that no document can hold: they are kept as they are written there, and
+-- have a blank at an end.
 use Rattle.std.specs.Prelude.{ℕ, ◌+◌, ◌||◌, ◌&&◌, nat_eq, Bool, List, [], ◌∷◌, ◌++◌, codes, Ok, Err, if◌then◌else◌}
 use Rattle.std.specs.List.{flat_map, list_any, starts_with, ends_with}
 use Rattle.std.specs.Str.{bytes_eq, is_utf8}
@@ -11,14 +12,17 @@ use Rattle.desk_tree_problems.specs.declared.blanks.Blank.{Blank}
 -- a space or a tab at the front or the end
 abbrev pub has_blank_end : List ℕ → Bool
 has_blank_end text =
-    starts_with nat_eq text (codes " ") || (starts_with nat_eq text (codes "\t") || (ends_with nat_eq text (codes " ") || ends_with nat_eq text (codes "\t")))
+    starts_with nat_eq text (codes " ")
+    || (starts_with nat_eq text (codes "\t")
+    || (ends_with nat_eq text (codes " ") || ends_with nat_eq text (codes "\t")))
 
 abbrev pub has_blank : Annotation → Bool
 has_blank annotation = list_any has_blank_end annotation.licences
 
 -- an annotation with such a licence, by its path and its index
 abbrev pub blank_at : List ℕ → ℕ → Annotation → List Blank
-blank_at path index annotation = if has_blank annotation then record { path = path; index = index } ∷ [] else []
+blank_at path index annotation = if has_blank annotation
+    then record { path = path; index = index } ∷ [] else []
 
 abbrev pub blanks_from : List ℕ → ℕ → List Annotation → List Blank
 blanks_from path index [] = []
@@ -31,10 +35,12 @@ blanks_read path (Err fault) = []
 
 -- the name of a REUSE.toml, alone or after a slash
 abbrev pub is_toml_path : List ℕ → Bool
-is_toml_path path = bytes_eq path (codes "REUSE.toml") || ends_with nat_eq path (codes "/REUSE.toml")
+is_toml_path path = bytes_eq path (codes "REUSE.toml")
+    || ends_with nat_eq path (codes "/REUSE.toml")
 
 abbrev pub blanks_of : Reading → SourceFile → List Blank
-blanks_of r file = if is_toml_path file.path && is_utf8 file.bytes then blanks_read file.path (annotations_of r file.bytes) else []
+blanks_of r file = if is_toml_path file.path && is_utf8 file.bytes
+    then blanks_read file.path (annotations_of r file.bytes) else []
 
 abbrev pub blanks_in : Reading → List SourceFile → List Blank
 blanks_in r tree = flat_map (blanks_of r) tree

@@ -32,8 +32,10 @@ abbrev pub unused_unless : Bool → List (List ℕ) → List (List ℕ)
 unused_unless true paths = []
 unused_unless false paths = paths
 
--- for a tree with this information of its covered files, the licences that they use, and its licence texts
-abbrev pub problems_with : Bool → List Flaw → List Blank → List FileInfo → List (List ℕ) → List TextFile → Problems
+-- for a tree with this information of its covered files, the licences that they use, and its
+-- licence texts
+abbrev pub problems_with : Bool → List Flaw → List Blank → List FileInfo → List (List ℕ)
+    → List TextFile → Problems
 problems_with dep5 flaws blanks infos used texts = record {
   dep5 = dep5;
   flaws = flaws;
@@ -45,16 +47,22 @@ problems_with dep5 flaws blanks infos used texts = record {
   covered = length infos;
 }
 
--- the problems of a tree: its older annotations, its flaws, licences that no document can hold, and the three
--- lists for what can be read
+-- the problems of a tree: its older annotations, its flaws, licences that no document can hold, and
+-- the three lists for what can be read
 pub record AreProblems (r : Reader) (files : List SourceFile) (p : Problems) : Type 0 where
   pub used : List (List ℕ)
   pub are_used : AreUsed (infos_sifted r (kept files)) used
-  pub is : p ≡ problems_with (has_dep5 (kept files)) (flaws_of r files) (blanks_in r.reading (kept files)) (infos_sifted r (kept files)) used (text_files (kept files))
+  pub is : p ≡ problems_with (has_dep5 (kept files)) (flaws_of r files)
+      (blanks_in r.reading (kept files)) (infos_sifted r (kept files)) used
+      (text_files (kept files))
 
 -- only the lists
 abbrev pub lists_in : Problems → Lint
-lists_in p = record { missing = p.missing; unused = p.unused; bare = map (λ (b : Bare). b.path) p.bare }
+lists_in p = record {
+  missing = p.missing;
+  unused = p.unused;
+  bare = map (λ (b : Bare). b.path) p.bare;
+}
 
 -- lists, with the unused texts only if there are no older annotations
 abbrev pub told_beside : Bool → Lint → Lint
@@ -62,4 +70,5 @@ told_beside dep5 l = record l { unused = unused_unless dep5 l.unused }
 
 -- a fault is that of the first flaw
 abbrev pub BeginsWith : List Flaw → GatherFault → Type 0
-BeginsWith flaws fault = (flaw : Flaw) × (more : List Flaw) × (flaws ≡ flaw ∷ more) × (gather_fault flaw ≡ fault)
+BeginsWith flaws fault = (flaw : Flaw) × (more : List Flaw) × (flaws ≡ flaw ∷ more)
+    × (gather_fault flaw ≡ fault)

@@ -1,6 +1,8 @@
--- The report on a tree, as lines or as one JSON object (RFC 8259). 63 is `?`, and the bytes 194 and 128 to 159 are a control
--- character from U+0080 to U+009F (UTF-8, RFC 3629).
-use Rattle.std.specs.Prelude.{◌≡◌, ℕ, ◌==◌, ◌||◌, ◌&&◌, nat_eq, nat_lt, count_by, Bool, true, false, List, [], ◌∷◌, ◌++◌, map, length, codes, decimal, Option, Some, None, if◌then◌else◌}
+-- The report on a tree, as lines or as one JSON object (RFC 8259). 63 is `?`, and the bytes 194 and
+-- 128 to 159 are a control character from U+0080 to U+009F (UTF-8, RFC 3629).
+use Rattle.std.specs.Prelude.{◌≡◌, ℕ, ◌==◌, ◌||◌, ◌&&◌, nat_eq, nat_lt, count_by, Bool, true, false}
+use Rattle.std.specs.Prelude.{List, [], ◌∷◌, ◌++◌, map, length, codes, decimal, Option, Some, None}
+use Rattle.std.specs.Prelude.{if◌then◌else◌}
 use Rattle.std.specs.List.{flat_map}
 use Rattle.serde_json.specs.Data.{Data, null, number, unsigned, string, array, object, no_members, member}
 use Rattle.serde_json.specs.View.{items_of}
@@ -37,7 +39,8 @@ abbrev pub shown_behind : Bool → List ℕ → List ℕ
 shown_behind lead [] = held lead
 shown_behind lead (b ∷ bs) = shown_at lead b ++ shown_behind (b == 194) bs
 
--- a text on a line: a question mark for each control character, so that it can't end the line or change a terminal
+-- a text on a line: a question mark for each control character, so that it can't end the line or
+-- change a terminal
 abbrev pub shown : List ℕ → List ℕ
 shown text = shown_behind false text
 
@@ -51,7 +54,8 @@ row_line row = shown row.path ++ (place row.line ++ (shown row.message ++ codes 
 
 -- the line of a row, if that is of a kind
 abbrev pub line_of_kind : Kind → Row → List ℕ
-line_of_kind kind row = if nat_eq (kind_number row.kind) (kind_number kind) then row_line row else []
+line_of_kind kind row = if nat_eq (kind_number row.kind) (kind_number kind) then row_line row
+    else []
 
 -- the line of a row, if that is of the kind that is asked for, where one is
 abbrev pub line_if : Option Kind → Row → List ℕ
@@ -64,17 +68,21 @@ count_of kind rows = count_by (λ (row : Row). nat_eq (kind_number row.kind) (ki
 
 -- a kind with how many there are, if there are some
 abbrev pub some_count : Kind → ℕ → List ℕ
-some_count kind count = if count == 0 then [] else codes ", " ++ (kind_name kind ++ (codes ": " ++ decimal count))
+some_count kind count = if count == 0 then []
+    else codes ", " ++ (kind_name kind ++ (codes ": " ++ decimal count))
 
 abbrev pub counts_of : List Kind → List Row → List ℕ
 counts_of some rows = flat_map (λ kind. some_count kind (count_of kind rows)) some
 
 -- the counts by kind, or that there is nothing to count
 abbrev pub counts : List Row → List ℕ
-counts rows = if length rows == 0 then codes "; nothing is wrong by the desk's rules" else counts_of kinds rows
+counts rows = if length rows == 0 then codes "; nothing is wrong by the desk's rules"
+    else counts_of kinds rows
 
 abbrev pub summary : List Row → ℕ → List ℕ
-summary rows covered = codes "problems: " ++ (decimal (length rows) ++ (codes ", covered files: " ++ (decimal covered ++ (counts rows ++ codes "\n"))))
+summary rows covered = codes "problems: "
+    ++ (decimal (length rows) ++ (codes ", covered files: "
+    ++ (decimal covered ++ (counts rows ++ codes "\n"))))
 
 -- a line for each row, and the summary
 abbrev pub lines_text : List Row → ℕ → List ℕ
@@ -112,7 +120,8 @@ is_none [] = true
 is_none (row ∷ rows) = false
 
 -- the report on a tree: the rows of its problems; it is clean where it has none
-pub record IsReport (r : Reader) (files : List SourceFile) (json : Bool) (report : Report) : Type 0 where
+pub record IsReport (r : Reader) (files : List SourceFile) (json : Bool)
+    (report : Report) : Type 0 where
   pub problems : Problems
   pub rows : List Row
   pub are_problems : AreProblems r files problems

@@ -1,5 +1,6 @@
 -- What is reported about each problem: where it is, what is wrong, and what to do.
-use Rattle.std.specs.Prelude.{◌≡◌, ◌<◌, ℕ, nat_eq, nat_lt, Bool, true, false, List, [], ◌∷◌, ◌++◌, length, map, codes, decimal, Option, Some, None, if◌then◌else◌}
+use Rattle.std.specs.Prelude.{◌≡◌, ◌<◌, ℕ, nat_eq, nat_lt, Bool, true, false, List, [], ◌∷◌, ◌++◌}
+use Rattle.std.specs.Prelude.{length, map, codes, decimal, Option, Some, None, if◌then◌else◌}
 use Rattle.std.specs.List.{list_any, starts_with, ends_with}
 use Rattle.desk_expr.specs.Faults.{fault_number, fault_name, fault_place}
 use Rattle.desk_expr.specs.Grammar.{SpellsTree}
@@ -7,9 +8,13 @@ use Rattle.desk_expr.specs.Spelling.{SpellsWithin, IsStop}
 use Rattle.desk_expr.specs.Tree.{Tree}
 use Rattle.desk_expr.specs.declared.fault.ParseFault.{ParseFault}
 use Rattle.desk_tree_annotations.specs.declared.fault.AnnotationFault.{AnnotationFault}
-use Rattle.desk_tree_annotations.specs.declared.fault.AnnotationFault.TheVariants.{NoPath, BadKind, BadPrecedence, BadExpression as BadLicence}
+use Rattle.desk_tree_annotations.specs.declared.fault.AnnotationFault.TheVariants.{NoPath, BadKind}
+use Rattle.desk_tree_annotations.specs.declared.fault.AnnotationFault.TheVariants.{BadPrecedence}
+use Rattle.desk_tree_annotations.specs.declared.fault.AnnotationFault.TheVariants.{BadExpression as BadLicence}
 use Rattle.desk_tree_gather.specs.declared.flaw.Flaw.{Flaw}
-use Rattle.desk_tree_gather.specs.declared.flaw.Flaw.TheVariants.{TooManyFiles, BadPath, TwicePath, BadToml, BadAnnotation, BadExpression}
+use Rattle.desk_tree_gather.specs.declared.flaw.Flaw.TheVariants.{TooManyFiles, BadPath, TwicePath}
+use Rattle.desk_tree_gather.specs.declared.flaw.Flaw.TheVariants.{BadToml, BadAnnotation}
+use Rattle.desk_tree_gather.specs.declared.flaw.Flaw.TheVariants.{BadExpression}
 use Rattle.desk_tree_lint.specs.declared.naming.Name.{Name}
 use Rattle.desk_tree_problems.specs.declared.bare.Bare.{Bare}
 use Rattle.desk_tree_problems.specs.declared.bare.Lacking.{Lacking}
@@ -35,7 +40,9 @@ kind_number kind.Bare = 10
 
 -- each kind, in the order in which they are reported
 abbrev pub kinds : List Kind
-kinds = kind.Dep5 ∷ kind.TooManyFiles ∷ kind.BadPath ∷ kind.TwicePath ∷ kind.BadToml ∷ kind.BadAnnotation ∷ kind.BadExpression ∷ kind.BlankAtEnd ∷ kind.Missing ∷ kind.Unused ∷ kind.Bare ∷ []
+kinds = kind.Dep5 ∷ kind.TooManyFiles ∷ kind.BadPath ∷ kind.TwicePath ∷ kind.BadToml
+    ∷ kind.BadAnnotation ∷ kind.BadExpression ∷ kind.BlankAtEnd ∷ kind.Missing ∷ kind.Unused
+    ∷ kind.Bare ∷ []
 
 abbrev pub kind_name : Kind → List ℕ
 kind_name kind.Dep5 = codes "Dep5"
@@ -61,23 +68,29 @@ abbrev pub annotation_words : AnnotationFault → List ℕ
 annotation_words NoPath = codes "no path: give it the paths of its files"
 annotation_words BadKind = codes "a value of another kind: write a text or a list of texts"
 annotation_words BadPrecedence = codes "an unknown precedence: write closest, aggregate or override"
-annotation_words BadLicence = codes "a licence that is no expression: write one as in SPDX 2.3, Annex D"
+annotation_words BadLicence = codes
+    "a licence that is no expression: write one as in SPDX 2.3, Annex D"
 
 -- the fault at which a text that is no licence expression stops, or none if it is one
 abbrev pub StopsAt : List ℕ → Option ParseFault → Type 0
 StopsAt text None = (e : Tree) × SpellsWithin text e
-StopsAt text (Some fault) = ((e : Tree) → SpellsWithin text e → ⊥) × (0 < fault_number fault) × IsStop SpellsTree text fault
+StopsAt text (Some fault) = ((e : Tree) → SpellsWithin text e → ⊥) × (0 < fault_number fault)
+    × IsStop SpellsTree text fault
 
 abbrev pub stop_words : Option ParseFault → List ℕ
 stop_words None = []
-stop_words (Some fault) = codes " (" ++ (fault_name fault ++ (codes " at " ++ (decimal (fault_place fault) ++ codes ")")))
+stop_words (Some fault) = codes " ("
+    ++ (fault_name fault ++ (codes " at " ++ (decimal (fault_place fault) ++ codes ")")))
 
 -- a text in quotes, or how long it is if it is over 200 bytes
 abbrev pub quoted : List ℕ → List ℕ
-quoted text = if nat_lt 200 (length text) then codes "a text of " ++ (decimal (length text) ++ codes " bytes") else codes "'" ++ (text ++ codes "'")
+quoted text = if nat_lt 200 (length text)
+    then codes "a text of " ++ (decimal (length text) ++ codes " bytes")
+    else codes "'" ++ (text ++ codes "'")
 
 abbrev pub mending_words : List ℕ
-mending_words = codes " is no licence expression: mend it, state the licence in FILE.license beside the file, or put REUSE-IgnoreStart before the line and REUSE-IgnoreEnd behind it"
+mending_words = codes
+    " is no licence expression: mend it, state the licence in FILE.license beside the file, or put REUSE-IgnoreStart before the line and REUSE-IgnoreEnd behind it"
 
 abbrev pub expression_words : List ℕ → Option ParseFault → List ℕ
 expression_words text stop = quoted text ++ (stop_words stop ++ mending_words)
@@ -99,12 +112,22 @@ path_words path =
 
 -- the row of a flaw, if the text of a tag stops with this fault
 abbrev pub flaw_row : Flaw → Option ParseFault → Row
-flaw_row TooManyFiles stop = plain_row kind.TooManyFiles (codes ".") (codes "more than 10,000 files: take away what isn't of the source")
+flaw_row TooManyFiles stop = plain_row kind.TooManyFiles (codes ".")
+    (codes "more than 10,000 files: take away what isn't of the source")
 flaw_row (BadPath path) stop = plain_row kind.BadPath path (path_words path)
-flaw_row (TwicePath path) stop = plain_row kind.TwicePath path (codes "a path that stands twice: keep one of the files")
-flaw_row (BadToml path) stop = plain_row kind.BadToml path (codes "no TOML document of version 1: mend it, with version = 1 at its top")
-flaw_row (BadAnnotation path index fault) stop = plain_row kind.BadAnnotation path (codes "annotation " ++ (decimal index ++ (codes ", counted from 0, has " ++ annotation_words fault)))
-flaw_row (BadExpression path line text) stop = record { kind = kind.BadExpression; path = path; line = Some line; message = expression_words text stop }
+flaw_row (TwicePath path) stop = plain_row kind.TwicePath path
+    (codes "a path that stands twice: keep one of the files")
+flaw_row (BadToml path) stop = plain_row kind.BadToml path
+    (codes "no TOML document of version 1: mend it, with version = 1 at its top")
+flaw_row (BadAnnotation path index fault) stop = plain_row kind.BadAnnotation path
+    (codes "annotation " ++ (decimal index
+    ++ (codes ", counted from 0, has " ++ annotation_words fault)))
+flaw_row (BadExpression path line text) stop = record {
+  kind = kind.BadExpression;
+  path = path;
+  line = Some line;
+  message = expression_words text stop;
+}
 
 -- the kind of a flaw
 abbrev pub flaw_kind : Flaw → Kind
@@ -133,12 +156,18 @@ AreFlawRows (flaw ∷ flaws) (row ∷ rows) = IsFlawRow flaw row × AreFlawRows 
 -- ---- licences that no document can hold
 
 abbrev pub blank_row : Blank → Row
-blank_row blank = plain_row kind.BlankAtEnd blank.path (codes "annotation " ++ (decimal blank.index ++ codes ", counted from 0, has a licence with a blank at an end, which no document can hold: take the blank away"))
+blank_row blank = plain_row kind.BlankAtEnd blank.path
+    (codes "annotation " ++ (decimal blank.index
+    ++ codes
+    ", counted from 0, has a licence with a blank at an end, which no document can hold: take the blank away"))
 
 -- ---- older annotations
 
 abbrev pub dep5_rows : Bool → List Row
-dep5_rows true = plain_row kind.Dep5 (codes ".reuse/dep5") (codes "this file isn't read: write what it says into a REUSE.toml, and take it away; until then no text is called unused") ∷ []
+dep5_rows true = plain_row kind.Dep5 (codes ".reuse/dep5")
+    (codes
+    "this file isn't read: write what it says into a REUSE.toml, and take it away; until then no text is called unused")
+    ∷ []
 dep5_rows false = []
 
 -- ---- lists
@@ -151,19 +180,25 @@ named_words (Some path) = codes ", which " ++ (path ++ codes " names")
 -- what to do about a missing text; that of a licence of another document isn't kept here
 abbrev pub text_words : List ℕ → List ℕ
 text_words id =
-    if starts_with nat_eq id (codes "DocumentRef-") then codes ": its text is in another document, so name a licence whose text is in LICENSES/"
+    if starts_with nat_eq id (codes "DocumentRef-")
+    then codes ": its text is in another document, so name a licence whose text is in LICENSES/"
     else codes ": add it as LICENSES/" ++ (id ++ codes ".txt")
 
 abbrev pub missing_row : Name → Row
-missing_row name = plain_row kind.Missing (codes "LICENSES/") (codes "no text of " ++ (name.id ++ (named_words name.path ++ text_words name.id)))
+missing_row name = plain_row kind.Missing (codes "LICENSES/")
+    (codes "no text of " ++ (name.id ++ (named_words name.path ++ text_words name.id)))
 
 abbrev pub unused_row : List ℕ → Row
-unused_row path = plain_row kind.Unused path (codes "no file uses this text: take it away, or state its licence where it is used")
+unused_row path = plain_row kind.Unused path
+    (codes "no file uses this text: take it away, or state its licence where it is used")
 
 abbrev pub lacking_words : Lacking → List ℕ
-lacking_words Notice = codes "no SPDX-FileCopyrightText (a notice without it doesn't count): state one in the file, beside it in FILE.license, or in REUSE.toml"
-lacking_words Licence = codes "no SPDX-License-Identifier (a licence without it doesn't count): state one in the file, beside it in FILE.license, or in REUSE.toml"
-lacking_words Both = codes "no SPDX-FileCopyrightText and no SPDX-License-Identifier (what is said without them doesn't count): state them in the file, beside it in FILE.license, or in REUSE.toml"
+lacking_words Notice = codes
+    "no SPDX-FileCopyrightText (a notice without it doesn't count): state one in the file, beside it in FILE.license, or in REUSE.toml"
+lacking_words Licence = codes
+    "no SPDX-License-Identifier (a licence without it doesn't count): state one in the file, beside it in FILE.license, or in REUSE.toml"
+lacking_words Both = codes
+    "no SPDX-FileCopyrightText and no SPDX-License-Identifier (what is said without them doesn't count): state them in the file, beside it in FILE.license, or in REUSE.toml"
 
 abbrev pub bare_row : Bare → Row
 bare_row bare = plain_row kind.Bare bare.path (lacking_words bare.lacking)
@@ -171,8 +206,10 @@ bare_row bare = plain_row kind.Bare bare.path (lacking_words bare.lacking)
 -- ---- the whole
 
 abbrev pub list_rows : Problems → List Row
-list_rows p = map blank_row p.blanks ++ (map missing_row p.names ++ (map unused_row p.unused ++ map bare_row p.bare))
+list_rows p = map blank_row p.blanks
+    ++ (map missing_row p.names ++ (map unused_row p.unused ++ map bare_row p.bare))
 
 -- a row for each problem: the older annotations, the flaws, then the lists
 abbrev pub AreRows : Problems → List Row → Type 0
-AreRows p rows = (told : List Row) × AreFlawRows p.flaws told × (rows ≡ dep5_rows p.dep5 ++ (told ++ list_rows p))
+AreRows p rows = (told : List Row) × AreFlawRows p.flaws told
+    × (rows ≡ dep5_rows p.dep5 ++ (told ++ list_rows p))

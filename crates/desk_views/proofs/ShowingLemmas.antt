@@ -13,7 +13,8 @@ use Rattle.desk_views.specs.Showing.{answer_text, outcome_text, shown}
 use Rattle.desk_subcommands.specs.declared.failure.Failure.{Failure}
 
 -- only a refusal has a status other than 0, and it has no text
-done : (in_columns : Bool) (a : Answer) (text : List ℕ) → answer_text in_columns a ≡ Some text → 0 ≡ answer_status a
+done : (in_columns : Bool) (a : Answer) (text : List ℕ) → answer_text in_columns a ≡ Some text
+    → 0 ≡ answer_status a
 done b (answer.Refused refusal) text e = absurd (none-some text e)
 done b (answer.Revision n) text e = refl
 done b (answer.Imported n) text e = refl
@@ -35,16 +36,30 @@ done b (answer.OpenDuties lines) text e = refl
 done b (answer.Wanting refusals) text e = refl
 
 -- an outcome that has a text is an answer, and is written as this text
-pub has_text : (in_columns : Bool) (o : Outcome) (text : List ℕ) (old new : Option (List ℕ)) → outcome_text in_columns o ≡ Some text → Appends old new text
-    → (a : Answer) × (o ≡ outcome_is.Answered a) × Appends old new (shown in_columns a) × (0 ≡ answer_status a)
+pub has_text : (in_columns : Bool) (o : Outcome) (text : List ℕ) (old new : Option (List ℕ))
+    → outcome_text in_columns o ≡ Some text → Appends old new text
+    → (a : Answer) × (o ≡ outcome_is.Answered a) × Appends old new (shown in_columns a)
+    × (0 ≡ answer_status a)
 has_text b (outcome_is.Failed fault) text old new e written = absurd (none-some text e)
-has_text b (outcome_is.Answered a) text old new e written =
-    (a, refl, subst (λ o. Appends old new (unwrap_or o (outcome_line (outcome_is.Answered a)))) (sym e) written, done b a text e)
+has_text b (outcome_is.Answered a) text old new e written = (
+  a,
+  refl,
+  subst (λ o. Appends old new (unwrap_or o (outcome_line (outcome_is.Answered a)))) (sym e) written,
+  done b a text e,
+)
 
 -- any other outcome is written as its line
-pub has_line : (in_columns : Bool) (o : Outcome) (old new : Option (List ℕ)) (result : Result ℕ Failure) → outcome_text in_columns o ≡ None
-    → IfOk result (λ status. (a : Answer) × (o ≡ outcome_is.Answered a) × Appends old new (outcome_line (outcome_is.Answered a)) × (status ≡ answer_status a))
-    → IfOk result (λ status. (a : Answer) × (o ≡ outcome_is.Answered a) × Appends old new (shown in_columns a) × (status ≡ answer_status a))
+pub has_line : (in_columns : Bool) (o : Outcome) (old new : Option (List ℕ))
+    (result : Result ℕ Failure) → outcome_text in_columns o ≡ None
+    → IfOk result (λ status. (a : Answer) × (o ≡ outcome_is.Answered a)
+    × Appends old new (outcome_line (outcome_is.Answered a)) × (status ≡ answer_status a))
+    → IfOk result (λ status. (a : Answer) × (o ≡ outcome_is.Answered a)
+    × Appends old new (shown in_columns a) × (status ≡ answer_status a))
 has_line b o old new (Err why) e told = told
-has_line b o old new (Ok status) e (a, is, written, same) =
-    (a, is, subst (λ text. Appends old new (unwrap_or text (outcome_line (outcome_is.Answered a)))) (sym (sym (ap (outcome_text b) is) ∙ e)) written, same)
+has_line b o old new (Ok status) e (a, is, written, same) = (
+  a,
+  is,
+  subst (λ text. Appends old new (unwrap_or text (outcome_line (outcome_is.Answered a))))
+      (sym (sym (ap (outcome_text b) is) ∙ e)) written,
+  same,
+)

@@ -18,7 +18,8 @@ use Rattle.desk_lists.specs.declared.lines.ReleaseLine.{ReleaseLine}
 
 -- the releases of these rows, by their places
 abbrev pub AreReleases : Snapshot → List ReleaseLine → Type 0
-AreReleases s lines = IsPermutation (map (release_line s.duty) s.releases) lines × IsSortedByKey (λ line. line.place) int_cmp lines
+AreReleases s lines = IsPermutation (map (release_line s.duty) s.releases) lines
+    × IsSortedByKey (λ line. line.place) int_cmp lines
 
 -- the documents of these rows, in their order
 abbrev pub AreDocuments : (Profile → List ℕ → Option Tree) → Snapshot → List DocumentLine → Type 0
@@ -26,7 +27,8 @@ AreDocuments reads s lines = AllZip (IsDocumentLine reads s) s.document lines
 
 -- the duties that a filter asks for, in the order in which they were raised
 abbrev pub AreDuties : DutyFilter → Snapshot → List DutyLine → Type 0
-AreDuties wanted s lines = IsPermutation (lines_wanted s wanted) lines × IsSorted raising_order lines
+AreDuties wanted s lines = IsPermutation (lines_wanted s wanted) lines
+    × IsSorted raising_order lines
 
 -- rows of cells in columns, or as comma-separated values
 abbrev pub table_text : Bool → List (List (List ℕ)) → List ℕ

@@ -24,40 +24,48 @@ abbrev pub IsToldBy : {T : Type 0} → (T → Answer) → Result Answer Fault �
 IsToldBy kind asked (Ok told) = asked ≡ Ok (kind told)
 IsToldBy kind asked (Err outcome) = outcome ≡ outcome_of asked
 
--- the outcome of a question for the changes of some duty, reported instead of these; nothing is said of a
--- fault
+-- the outcome of a question for the changes of some duty, reported instead of these; nothing is
+-- said of a fault
 abbrev pub IsOtherChange : Readings → List Command → Outcome → Type 0
 IsOtherChange w h (Answered other) = (number : ℕ) × (queried w h (query.Changes number) ≡ other)
 IsOtherChange w h (Failed fault) = Unit {0}
 
 -- the changes of each duty, or the outcome of a question for those of some duty
-abbrev pub AreChanges : Readings → List Command → List DutyLine → Result (List (List ChangeRow)) Outcome → Type 0
-AreChanges w h lines (Ok changes) = map (λ line. queried w h (query.Changes line.number)) lines ≡ map answered.Changes changes
+abbrev pub AreChanges : Readings → List Command → List DutyLine
+    → Result (List (List ChangeRow)) Outcome → Type 0
+AreChanges w h lines (Ok changes) = map (λ line. queried w h (query.Changes line.number)) lines
+    ≡ map answered.Changes changes
 AreChanges w h lines (Err outcome) = IsOtherChange w h outcome
 
 -- rows in vectors as lists of rows
-abbrev pub rows_in : Result (Vec (List ChangeRow) Global) Outcome → Result (List (List ChangeRow)) Outcome
+abbrev pub rows_in : Result (Vec (List ChangeRow) Global) Outcome
+    → Result (List (List ChangeRow)) Outcome
 rows_in (Ok changes) = Ok changes.items
 rows_in (Err outcome) = Err outcome
 
--- what looking something up does to a desk: nothing, although after a fault of the disk it may no longer show
--- its rows
+-- what looking something up does to a desk: nothing, although after a fault of the disk it may no
+-- longer show its rows
 abbrev pub LookedUp : {Left A : Type 0} → Seen Left → Seen Left → Result A Outcome → Type 0
 LookedUp old new (Ok found) = Same old new
 LookedUp old new (Err outcome) = Kept old new
 
 -- what a page on a release is written from
-pub record AreContents (w : Readings) (h : List Command) (release : List ℕ) (c : Contents) : Type 0 where
+pub record AreContents (w : Readings) (h : List Command) (release : List ℕ)
+    (c : Contents) : Type 0 where
   pub bill : queried w h (query.Bill release) ≡ answered.Bill c.bill
   pub totals : queried w h (query.Totals release) ≡ answered.Totals c.totals
   pub duties : queried w h (query.Duties release) ≡ answered.Duties c.duties
-  pub changes : map (λ line. queried w h (query.Changes line.number)) c.duties ≡ map answered.Changes c.changes.items
+  pub changes : map (λ line. queried w h (query.Changes line.number)) c.duties
+      ≡ map answered.Changes c.changes.items
 
 -- a question that is asked for a page on a release
 abbrev pub IsFor : List ℕ → Query → Type 0
-IsFor release q = (q ≡ query.Bill release) ⊎ ((q ≡ query.Totals release) ⊎ ((q ≡ query.Duties release) ⊎ ((number : ℕ) × (q ≡ query.Changes number))))
+IsFor release q = (q ≡ query.Bill release)
+    ⊎ ((q ≡ query.Totals release)
+    ⊎ ((q ≡ query.Duties release) ⊎ ((number : ℕ) × (q ≡ query.Changes number))))
 
--- the outcome of such a question, such as a refusal, reported instead of a page; nothing is said of a fault
+-- the outcome of such a question, such as a refusal, reported instead of a page; nothing is said of
+-- a fault
 abbrev pub IsOther : Readings → List Command → List ℕ → Outcome → Type 0
 IsOther w h release (Answered other) = (q : Query) × IsFor release q × (queried w h q ≡ other)
 IsOther w h release (Failed fault) = Unit {0}
@@ -74,4 +82,5 @@ contents_text c = page_text c.bill c.totals c.duties c.changes.items
 abbrev pub IsPaged : Readings → List Command → List ℕ → List ℕ → ℕ → Type 0
 IsPaged w h release text status =
     ((c : Contents) × AreContents w h release c × (text ≡ contents_text c) × (status ≡ 0))
-    ⊎ ((q : Query) × IsFor release q × (text ≡ outcome_line (Answered (queried w h q))) × (status ≡ answer_status (queried w h q)))
+    ⊎ ((q : Query) × IsFor release q × (text ≡ outcome_line (Answered (queried w h q)))
+    × (status ≡ answer_status (queried w h q)))

@@ -1,5 +1,5 @@
--- What is proposed for a document that a desk holds: its declared licences as conclusions, and the choices
--- for packages that have only one.
+-- What is proposed for a document that a desk holds: its declared licences as conclusions, and the
+-- choices for packages that have only one.
 use Rattle.std.specs.Prelude.{◌⊎◌, ◌==◌, ◌&&◌, ℕ, ℤ, pos, Bool, List, Option, Some, Ok, is_some, filter, find, map}
 use Rattle.std.specs.Option.{option_map_or}
 use Rattle.std.specs.Ordering.{int_eq}
@@ -23,23 +23,27 @@ is_document number row = int_eq row.number (pos number)
 -- a package with the office's conclusion in place of its own, if there is one
 abbrev pub with_conclusion : Snapshot → ℤ → PackageText → PackageText
 with_conclusion s document p =
-    option_map_or (λ row. record p { concluded = Some row.expression }) (find (is_conclusion document p.id) s.conclusion) p
+    option_map_or (λ row. record p { concluded = Some row.expression })
+    (find (is_conclusion document p.id) s.conclusion) p
 
 -- a document with the office's conclusions
 abbrev pub document_held : Snapshot → ℤ → DocumentText → DocumentText
 document_held s document d = record d { packages = map (with_conclusion s document) d.packages }
 
--- the text and the status for the proposals for the document that bytes spell, as the desk concluded it, or
--- for bytes that spell none
-abbrev pub ProposesHeld : Readings → (List ℕ → Option Tree) → Snapshot → ℕ → List ℕ → List ℕ → ℕ → Type 0
+-- the text and the status for the proposals for the document that bytes spell, as the desk
+-- concluded it, or for bytes that spell none
+abbrev pub ProposesHeld : Readings → (List ℕ → Option Tree) → Snapshot → ℕ → List ℕ → List ℕ → ℕ
+    → Type 0
 ProposesHeld w reads s number bytes text status =
-    ((d : DocumentText) × Spells bytes (Ok d) × HasLines reads number (document_held s (pos number) d) text status)
+    ((d : DocumentText) × Spells bytes (Ok d)
+    × HasLines reads number (document_held s (pos number) d) text status)
     ⊎ IsRefused w bytes text status
 
 -- an open release to which a document is attached
 abbrev pub is_open_with : Snapshot → ℤ → StoredRelease → Bool
 is_open_with s document row =
-    bytes_eq row.state (release_state_name release.IsOpen) && is_some (find (is_attachment row.name document) s.attached)
+    bytes_eq row.state (release_state_name release.IsOpen)
+    && is_some (find (is_attachment row.name document) s.attached)
 
 -- the names of these releases, in the order of the table
 abbrev pub open_releases_with : Snapshot → ℤ → List (List ℕ)

@@ -21,10 +21,12 @@ use Rattle.desk_script.specs.Replies.{Replies}
 use Rattle.desk_script.specs.declared.answer.Reply.TheVariants.{Became}
 use Rattle.desk_subcommands.specs.Filing.{answer_status, outcome_line}
 
--- the text of an answer, if it has one; duties are a table of comma-separated values, or one in columns
+-- the text of an answer, if it has one; duties are a table of comma-separated values, or one in
+-- columns
 abbrev pub answer_text : Bool → Answer → Option (List ℕ)
 answer_text in_columns (Bill bill) = Some (notices_text bill)
-answer_text in_columns (Duties lines) = Some (if in_columns then columns_text lines else table_text lines)
+answer_text in_columns (Duties lines) = Some (if in_columns then columns_text lines
+    else table_text lines)
 answer_text in_columns (Totals totals) = Some (totals_line totals)
 answer_text in_columns (Changes rows) = Some (flat_map change_text rows)
 answer_text in_columns _ = None
@@ -37,7 +39,8 @@ outcome_text in_columns (Failed fault) = None
 abbrev pub shown : Bool → Answer → List ℕ
 shown in_columns answer = unwrap_or (answer_text in_columns answer) (outcome_line (Answered answer))
 
-module _ (is_right : Readings → Type 0) (tells : StoreFault → Type 0) {Left : Type 0} (stands : Left → Tables → Type 0) (query : Query) (before after : Seen Left) where
+module _ (is_right : Readings → Type 0) (tells : StoreFault → Type 0) {Left : Type 0}
+    (stands : Left → Tables → Type 0) (query : Query) (before after : Seen Left) where
   -- the question comes to this outcome on a desk, as a script's request does
   abbrev pub Asks : Outcome → Type 0
   Asks outcome = Replies is_right tells stands before (Ask query) (Became outcome) after
@@ -45,7 +48,8 @@ module _ (is_right : Readings → Type 0) (tells : StoreFault → Type 0) {Left 
   -- the desk answers the question, the answer is written, and the status is the answer's
   abbrev pub IsShown : Bool → Option (List ℕ) → Option (List ℕ) → ℕ → Type 0
   IsShown in_columns old new status =
-      (answer : Answer) × Asks (Answered answer) × Appends old new (shown in_columns answer) × (status ≡ answer_status answer)
+      (answer : Answer) × Asks (Answered answer) × Appends old new (shown in_columns answer)
+      × (status ≡ answer_status answer)
 
   -- the desk fails by a fault, and the reply says so
   abbrev pub HasFailed : Option (List ℕ) → Option (List ℕ) → Fault → Type 0

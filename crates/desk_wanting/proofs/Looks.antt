@@ -9,7 +9,8 @@ module _ {Left : Type 0} where
   looked_kept a b (Ok x) looked = looked.kept
   looked_kept a b (Err fault) looked = looked
 
-  pub looked_after : {A : Type 0} (a b c : Seen Left) (r : Result A Fault) → Same a b → Looked b c r → Looked a c r
+  pub looked_after : {A : Type 0} (a b c : Seen Left) (r : Result A Fault) → Same a b → Looked b c r
+      → Looked a c r
   looked_after a b c (Ok x) same looked = same_then_same a b c same looked
   looked_after a b c (Err fault) same looked = same_then_kept a b c same looked
 

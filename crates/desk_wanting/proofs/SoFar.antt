@@ -16,17 +16,22 @@ module _ {Left : Type 0} where
     pub found : Found old new
 
   -- the next look-up fails
-  pub fails : {A : Type 0} (a b c : Seen Left) (r : Result A Fault) → IsErr r → Same a b → Kept b c → Looked a c r
+  pub fails : {A : Type 0} (a b c : Seen Left) (r : Result A Fault) → IsErr r → Same a b → Kept b c
+      → Looked a c r
   fails a b c r is same kept = looked_err a c r is (same_then_kept a b c same kept)
 
-  -- a turn of a loop whose look-up finds what there is for one item, if anything; `Right` is what relies on a
-  -- reader of texts
-  pub option_turn : {W X B : Type 0} (Right : W → Type 0) (f : W → Tables → X → Option B) (xs : List X) (i : ℕ) (x : X)
+  -- a turn of a loop whose look-up finds what there is for one item, if anything; `Right` is what
+  -- relies on a reader of texts
+  pub option_turn : {W X B : Type 0} (Right : W → Type 0) (f : W → Tables → X → Option B)
+      (xs : List X) (i : ℕ) (x : X)
       (old new : List B) (all : W → Tables → List B) (o : Option B) {a b c : Seen Left}
       → i < length xs → x ≡ get_or xs i x
-      → SoFar (λ a b. (w : W) → Right w → OfRows (λ t. old ++ filter_map (f w t) (drop i xs) ≡ all w t) a b) a b
-      → Same b c → ((w : W) → Right w → OfRows (λ t. o ≡ f w t x) b c) → new ≡ old ++ cons_option o []
-      → SoFar (λ a c. (w : W) → Right w → OfRows (λ t. new ++ filter_map (f w t) (drop (i + 1) xs) ≡ all w t) a c) a c
+      → SoFar (λ a b. (w : W) → Right w
+      → OfRows (λ t. old ++ filter_map (f w t) (drop i xs) ≡ all w t) a b) a b
+      → Same b c → ((w : W) → Right w → OfRows (λ t. o ≡ f w t x) b c)
+      → new ≡ old ++ cons_option o []
+      → SoFar (λ a c. (w : W) → Right w
+      → OfRows (λ t. new ++ filter_map (f w t) (drop (i + 1) xs) ≡ all w t) a c) a c
   option_turn Right f xs i x old new all o {a} {b} {c} lt is before second one grown = record {
     same = same_then_same a b c before.same second;
     found = λ w right honest t held.
@@ -36,17 +41,23 @@ module _ {Left : Type 0} where
   }
 
   -- no item is left
-  pub option_end : {W X B : Type 0} (Right : W → Type 0) (f : W → Tables → X → Option B) (xs : List X) (i : ℕ)
+  pub option_end : {W X B : Type 0} (Right : W → Type 0) (f : W → Tables → X → Option B)
+      (xs : List X) (i : ℕ)
       (found : List B) (all : W → Tables → List B) {a b : Seen Left} → length xs ≤ i
-      → SoFar (λ a b. (w : W) → Right w → OfRows (λ t. found ++ filter_map (f w t) (drop i xs) ≡ all w t) a b) a b
+      → SoFar (λ a b. (w : W) → Right w
+      → OfRows (λ t. found ++ filter_map (f w t) (drop i xs) ≡ all w t) a b) a b
       → (w : W) → Right w → OfRows (λ t. found ≡ all w t) a b
   option_end Right f xs i found all out before w right honest t held =
       ended (filter_map (f w t)) xs i found (all w t) out refl (before.found w right honest t held)
 
   -- the next look-up adds all that there is for one item
-  pub list_more : {X B : Type 0} (f : Tables → X → List B) (xs : List X) (i : ℕ) (x : X) (old new : List B) (all : Tables → List B) (a b c : Seen Left)
-      → i < length xs → x ≡ get_or xs i x → Same a b → Same b c → OfRows (λ t. new ≡ old ++ f t x) b c
-      → OfRows (λ t. old ++ flat_map (f t) (drop i xs) ≡ all t) a b → OfRows (λ t. new ++ flat_map (f t) (drop (i + 1) xs) ≡ all t) a c
+  pub list_more : {X B : Type 0} (f : Tables → X → List B) (xs : List X) (i : ℕ) (x : X)
+      (old new : List B) (all : Tables → List B) (a b c : Seen Left)
+      → i < length xs → x ≡ get_or xs i x → Same a b → Same b c
+      → OfRows (λ t. new ≡ old ++ f t x) b c
+      → OfRows (λ t. old ++ flat_map (f t) (drop i xs) ≡ all t) a b
+      → OfRows (λ t. new ++ flat_map (f t) (drop (i + 1) xs) ≡ all t) a c
   list_more f xs i x old new all a b c lt is first second grown so_far honest t held =
-      flat_map_step (f t) xs i x old new (f t x) (all t) lt is refl (grown honest t (first.kept.spared.holds t held))
+      flat_map_step (f t) xs i x old new (f t x) (all t) lt is refl
+      (grown honest t (first.kept.spared.holds t held))
       (so_far (second.kept.spared.honest honest) t held)

@@ -20,15 +20,20 @@ pub record IsPrepared (t : Tables) (r : List ℕ) (row : ReleaseRow) : Type 0 wh
   pub state : row.state ≡ IsOpen
   pub documents : attached_to t.attached r ≡ [] → ⊥
 
--- A refusal for a package that a release with this form ships: the package has no conclusion, nothing is
--- chosen for it, a chosen term names a reference without an adoption, or another chosen term has no rule.
+-- A refusal for a package that a release with this form ships: the package has no conclusion,
+-- nothing is chosen for it, a chosen term names a reference without an adoption, or another chosen
+-- term has no rule.
 abbrev pub StandsAgainst : Readings → Tables → List ℕ → List ℕ → PackageRow → Refusal → Type 0
-StandsAgainst w t r form p (why.NoConclusion d id) = (d ≡ p.document) × (id ≡ p.id) × (conclusion_found w t p ≡ None)
-StandsAgainst w t r form p (why.NoChoice d id) = (d ≡ p.document) × (id ≡ p.id) × (choice_found t r p ≡ [])
+StandsAgainst w t r form p (why.NoConclusion d id) = (d ≡ p.document) × (id ≡ p.id)
+    × (conclusion_found w t p ≡ None)
+StandsAgainst w t r form p (why.NoChoice d id) = (d ≡ p.document) × (id ≡ p.id)
+    × (choice_found t r p ≡ [])
 StandsAgainst w t r form p (why.NotAdopted d reference) =
     (d ≡ p.document)
-    × ((term : List ℕ) × IsIn term (choice_found t r p) × (w.reference term ≡ Some reference) × (licence_for t.adoption p.document reference ≡ None))
+    × ((term : List ℕ) × IsIn term (choice_found t r p) × (w.reference term ≡ Some reference)
+    × (licence_for t.adoption p.document reference ≡ None))
 StandsAgainst w t r form p (why.NoRule d id term) =
-    (d ≡ p.document) × (id ≡ p.id) × IsIn term (choice_found t r p) × (unadopted w t.adoption p.document term ≡ None)
+    (d ≡ p.document) × (id ≡ p.id) × IsIn term (choice_found t r p)
+    × (unadopted w t.adoption p.document term ≡ None)
     × (rule_adopted w t.adoption (rules_found t) form p.document term ≡ None)
 StandsAgainst w t r form p _ = ⊥

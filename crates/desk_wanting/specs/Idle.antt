@@ -12,4 +12,5 @@ ships_nothing packages d = not (list_any (is_shipped_by d) packages)
 
 -- the documents that are attached to a release and ship nothing
 abbrev pub idle_found : Tables → List ℕ → List ℕ
-idle_found t r = filter (ships_nothing t.packages) (map (λ row. row.document) (attached_to t.attached r))
+idle_found t r = filter (ships_nothing t.packages)
+    (map (λ row. row.document) (attached_to t.attached r))

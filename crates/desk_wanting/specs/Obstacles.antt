@@ -13,10 +13,12 @@ use Rattle.desk_history.specs.FromTables.{form_found, refusals_found, shipped_fo
 
 -- what stands in the way of a freeze of an open release with this form
 abbrev pub open_wanting : Readings → Tables → List ℕ → List ℕ → List Refusal
-open_wanting w t r form = open_refusals (length (attached_to t.attached r)) (flat_map (refusals_found w t r form) (shipped_found t r))
+open_wanting w t r form = open_refusals (length (attached_to t.attached r))
+    (flat_map (refusals_found w t r form) (shipped_found t r))
 
 -- what stands in the way of a freeze of a release
 abbrev pub wanting_found : Readings → Tables → List ℕ → List Refusal
 wanting_found w t r =
-    alone_or (first_refusal (unless (is_some (state_found t r)) why.UnknownRelease ∷ option_and_then unready (state_found t r) ∷ []))
+    alone_or (first_refusal (unless (is_some (state_found t r)) why.UnknownRelease
+    ∷ option_and_then unready (state_found t r) ∷ []))
     (open_wanting w t r (form_found t r))

@@ -21,7 +21,8 @@ sole_set _ = None
 
 -- the sole set of a conclusion, if there is one
 abbrev pub sole_terms : Readings → Option Conclusion → Option (List (List ℕ))
-sole_terms w conclusion = option_and_then (λ c. sole_set (w.alternatives c.profile c.text)) conclusion
+sole_terms w conclusion = option_and_then (λ c. sole_set (w.alternatives c.profile c.text))
+    conclusion
 
 -- the choice of terms for a package
 abbrev pub choice_of : PackageRow → List (List ℕ) → SoleChoice
@@ -34,11 +35,13 @@ unchosen_choice (term ∷ terms) p set = None
 
 -- the sole choice for a package that a release ships
 abbrev pub sole_choice_found : Readings → Tables → List ℕ → PackageRow → Option SoleChoice
-sole_choice_found w t r p = unchosen_choice (choice_found t r p) p (sole_terms w (conclusion_found w t p))
+sole_choice_found w t r p = unchosen_choice (choice_found t r p) p
+    (sole_terms w (conclusion_found w t p))
 
 -- the refusal of a choice for any package of a release: there is no such release, or it isn't open
 abbrev pub release_refusal : Option ReleaseState → Option Refusal
-release_refusal state = first_refusal (unless (is_some state) why.UnknownRelease ∷ option_and_then unready state ∷ [])
+release_refusal state = first_refusal
+    (unless (is_some state) why.UnknownRelease ∷ option_and_then unready state ∷ [])
 
 -- these, unless a refusal applies
 abbrev pub these_unless : Option Refusal → List SoleChoice → Result (List SoleChoice) Refusal
@@ -47,4 +50,5 @@ these_unless (Some refusal) choices = Err refusal
 
 -- the sole choices of a release, for the packages that it ships in their order
 abbrev pub sole_choices_found : Readings → Tables → List ℕ → Result (List SoleChoice) Refusal
-sole_choices_found w t r = these_unless (release_refusal (state_found t r)) (filter_map (sole_choice_found w t r) (shipped_found t r))
+sole_choices_found w t r = these_unless (release_refusal (state_found t r))
+    (filter_map (sole_choice_found w t r) (shipped_found t r))

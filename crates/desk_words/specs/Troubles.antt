@@ -1,5 +1,6 @@
 -- Why a line is no request.
-use Rattle.std.specs.Prelude.{◌≡◌, ◌≢◌, ℕ, ◌^◌, ◌&&◌, ◌||◌, Bool, true, false, nat_lt, List, Option, Some, None, codes, is_some, if◌then◌else◌, option_and_then}
+use Rattle.std.specs.Prelude.{◌≡◌, ◌≢◌, ℕ, ◌^◌, ◌&&◌, ◌||◌, Bool, true, false, nat_lt, List, Option}
+use Rattle.std.specs.Prelude.{Some, None, codes, is_some, if◌then◌else◌, option_and_then}
 use Rattle.std.specs.Str.{IsUtf8}
 use Rattle.std.specs.String.{string_bytes}
 use Rattle.serde_json.specs.Data.{Data, Items, no_items, item}
@@ -9,7 +10,12 @@ use Rattle.desk_base.specs.Profiles.{profile_numbered}
 use Rattle.desk_words.specs.declared.forms.Wanted.{Wanted}
 use Rattle.desk_words.specs.declared.forms.Wanted.TheVariants.{Text, Number, Profile, Texts}
 use Rattle.desk_words.specs.declared.requests.RequestTrouble.{RequestTrouble}
-use Rattle.desk_words.specs.declared.requests.RequestTrouble.TheVariants.{TooLong, NotJson, NotObject, NoWord, UnknownCommand, UnknownQuestion, UnknownKey, MissingKey, BadValue}
+use Rattle.desk_words.specs.declared.requests.RequestTrouble.TheVariants.{TooLong, NotJson}
+use Rattle.desk_words.specs.declared.requests.RequestTrouble.TheVariants.{NotObject, NoWord}
+use Rattle.desk_words.specs.declared.requests.RequestTrouble.TheVariants.{UnknownCommand}
+use Rattle.desk_words.specs.declared.requests.RequestTrouble.TheVariants.{UnknownQuestion}
+use Rattle.desk_words.specs.declared.requests.RequestTrouble.TheVariants.{UnknownKey, MissingKey}
+use Rattle.desk_words.specs.declared.requests.RequestTrouble.TheVariants.{BadValue}
 
 -- the text of a member
 abbrev pub text_in : List ℕ → Data → Option (List ℕ)
@@ -50,10 +56,12 @@ IsSoOf d (NotJson byte) = ⊥
 IsSoOf d NotObject = as_object d ≡ None
 IsSoOf d NoWord = (as_object d ≢ None) × (has_word d ≡ false)
 IsSoOf d (UnknownCommand word) = text_in (codes "do") d ≡ Some (string_bytes word)
-IsSoOf d (UnknownQuestion word) = (text_in (codes "do") d ≡ None) × (text_in (codes "ask") d ≡ Some (string_bytes word))
+IsSoOf d (UnknownQuestion word) = (text_in (codes "do") d ≡ None)
+    × (text_in (codes "ask") d ≡ Some (string_bytes word))
 IsSoOf d (UnknownKey key) = get (string_bytes key) d ≢ None
 IsSoOf d (MissingKey key) = get key.now d ≡ None
-IsSoOf d (BadValue key wanted) = (value : Data) × (get key.now d ≡ Some value) × (is_wanted wanted value ≡ false)
+IsSoOf d (BadValue key wanted) = (value : Data) × (get key.now d ≡ Some value)
+    × (is_wanted wanted value ≡ false)
 
 -- if no trouble is found, the value is an object that names a command or a question
 abbrev pub IsFoundIn : Data → Option RequestTrouble → Type 0

@@ -1,10 +1,16 @@
 use Rattle.std.proofs.Common.{[], ◌∷◌, Some, None}
-use Rattle.desk_snapshot.specs.declared.fault.AuditFault.TheVariants.{BadMeta, BadRevision, BadRule, BadDocument, BadPackage, BadChoice, BadNumber, BadDuty, BadChange, BadState}
+use Rattle.desk_snapshot.specs.declared.fault.AuditFault.TheVariants.{BadMeta, BadRevision, BadRule}
+use Rattle.desk_snapshot.specs.declared.fault.AuditFault.TheVariants.{BadDocument, BadPackage}
+use Rattle.desk_snapshot.specs.declared.fault.AuditFault.TheVariants.{BadChoice, BadNumber, BadDuty}
+use Rattle.desk_snapshot.specs.declared.fault.AuditFault.TheVariants.{BadChange, BadState}
 use Rattle.desk_audit.proofs.Firsts.{before, onward}
 use Rattle.desk_audit.proofs.fault_of_owed.Goals as goal
 
 pub returns-in-Some : goal.returns-in-Some
-returns-in-Some c = λ w. before w c.args.snapshot.now (BadDuty ∷ []) (BadChange ∷ BadState ∷ []) c.in-Some.fault (rw c.in-Some.is at (c.in_ok-found.ensures w))
+returns-in-Some c = λ w. before w c.args.snapshot.now (BadDuty ∷ []) (BadChange ∷ BadState ∷ [])
+    c.in-Some.fault (rw c.in-Some.is at (c.in_ok-found.ensures w))
 
 pub returns-in-None : goal.returns-in-None
-returns-in-None c = λ w. onward w c.args.snapshot.now (BadDuty ∷ []) (BadChange ∷ BadState ∷ []) c.fault_of_changes.result (rw c.in-None.is at (c.in_ok-found.ensures w)) (c.fault_of_changes.ensures w)
+returns-in-None c = λ w. onward w c.args.snapshot.now (BadDuty ∷ []) (BadChange ∷ BadState ∷ [])
+    c.fault_of_changes.result (rw c.in-None.is at (c.in_ok-found.ensures w))
+    (c.fault_of_changes.ensures w)

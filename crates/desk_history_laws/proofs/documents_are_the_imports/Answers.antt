@@ -2,4 +2,8 @@ use Rattle.desk_history_laws.proofs.Documents.{documents-imports, packages-docum
 use Rattle.desk_history_laws.proofs.documents_are_the_imports.Goals as goal
 
 pub returns : goal.returns
-returns c = record { documents = documents-imports; packages = packages-documents; references = references-documents }
+returns c = record {
+  documents = documents-imports;
+  packages = packages-documents;
+  references = references-documents;
+}

@@ -6,7 +6,8 @@ use Rattle.desk_audit.proofs.changes.are_changes.Goals as goal
 pub returns-then-not-are_changes_of_each : goal.returns-then-not-are_changes_of_each
 returns-then-not-are_changes_of_each c = λ h.
     contrary c.are_changes_of_each.result
-    (c.are_changes_of_each.ensures ∙ led_each c.args.snapshot.now c.args.snapshot.now.duty h.of_each)
+    (c.are_changes_of_each.ensures
+    ∙ led_each c.args.snapshot.now c.args.snapshot.now.duty h.of_each)
     c.if-not-are_changes_of_each.true
 
 pub returns : goal.returns

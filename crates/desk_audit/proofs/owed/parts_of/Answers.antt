@@ -6,4 +6,5 @@ use Rattle.desk_audit.proofs.owed.parts_of.Goals as goal
 pub returns : goal.returns
 returns c =
     map_from_collect _ c.collect.ensures.ran
-    (YieldsList-from_str_split 32 c.args.text.now (lit< tt) c.split.ensures.text c.split.ensures.has_more c.split.ensures.pattern)
+    (YieldsList-from_str_split 32 c.args.text.now (lit< tt) c.split.ensures.text
+    c.split.ensures.has_more c.split.ensures.pattern)

@@ -7,5 +7,7 @@ use Rattle.desk_audit.proofs.owed.push_codes.Given as goal
 -- what was appended, and what is still to come, is all that is appended
 abbrev pub invariant-loop-code : goal.invariant-loop-code
 invariant-loop-code l =
-    map owed_in l.owed.items ++ map (owed_for l.row) (filter (λ code. nat_lt 0 (length code)) (texts (drop l.code-index l.codes)))
-    ≡ map owed_in l.initial.owed.items ++ map (owed_for l.row) (filter (λ code. nat_lt 0 (length code)) (texts l.codes))
+    map owed_in l.owed.items ++ map (owed_for l.row)
+    (filter (λ code. nat_lt 0 (length code)) (texts (drop l.code-index l.codes)))
+    ≡ map owed_in l.initial.owed.items
+    ++ map (owed_for l.row) (filter (λ code. nat_lt 0 (length code)) (texts l.codes))

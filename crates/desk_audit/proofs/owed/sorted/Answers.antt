@@ -6,5 +6,6 @@ use Rattle.desk_audit.proofs.owed.sorted.Goals as goal
 
 pub returns-clause-sorted : goal.returns-clause-sorted
 returns-clause-sorted c =
-    c.sort_unstable_by.ensures.sorted (λ x y. is_lt (owed_order (owed_in x) (owed_in y))) (ranks_by owed_total owed_in)
+    c.sort_unstable_by.ensures.sorted (λ x y. is_lt (owed_order (owed_in x) (owed_in y)))
+    (ranks_by owed_total owed_in)
     (always_returns_same _ _ _ (λ a r f k. search rules))

@@ -6,4 +6,5 @@ use Rattle.desk_audit_texts.proofs.adoptions.are_adoptions.Given as goal
 
 abbrev pub invariant-loop-row : goal.invariant-loop-row
 invariant-loop-row g l =
-    (w : Readings) → g.T.Texts.are_right w → list_all (is_adoption w) (drop l.row-index l.rows) ≡ list_all (is_adoption w) l.rows
+    (w : Readings) → g.T.Texts.are_right w
+    → list_all (is_adoption w) (drop l.row-index l.rows) ≡ list_all (is_adoption w) l.rows

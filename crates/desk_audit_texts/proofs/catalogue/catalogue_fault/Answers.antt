@@ -24,9 +24,11 @@ loop-row-preserved g c = λ w right.
     sym c.in-Ok.is ∙ c.in_ok-read.ensures w right ∙ ap w.catalogue c.as_str.ensures in
     let stored : List StoredRule = c.args.snapshot.now.rule in
     record {
-      read = all_on (λ row. is_some (result_ok (w.catalogue row.body))) rows i row c.loop-row-test.true c.row-item.is
+      read = all_on (λ row. is_some (result_ok (w.catalogue row.body))) rows i row
+          c.loop-row-test.true c.row-item.is
           before.read (body_read w row read said);
-      left = left_given (rules_by w) stored_rule rows i row row.revision c.number.result c.as_slice-in-Ok.result.now read.rules
+      left = left_given (rules_by w) stored_rule rows i row row.revision c.number.result
+          c.as_slice-in-Ok.result.now read.rules
           stored (option_copied c.left_behind-left.result) c.loop-row-test.true c.row-item.is
           (search rules) c.number.ensures c.as_slice-in-Ok.ensures (rules_given w row read said)
           (c.left_behind-left.ensures stored (flat_map (rules_by w) (take i rows)) before.left);
@@ -35,8 +37,11 @@ loop-row-preserved g c = λ w right.
 pub returns-then-not-are_used_up : goal.returns-then-not-are_used_up
 returns-then-not-are_used_up g c = λ w right.
     let rows : List StoredCatalogue = c.as_slice-catalogue.result.now in
-    let all : take c.loop-row.row-index rows ≡ rows = take_all c.loop-row.row-index rows c.loop-row-test.false in
+    let all : take c.loop-row.row-index rows ≡ rows =
+    take_all c.loop-row.row-index rows c.loop-row-test.false in
     let before = c.loop-row.invariant w right in
-    rules_left w c.args.snapshot.now rows (option_copied c.loop-row.left) c.as_slice-catalogue.ensures
-    (c.are_numbered.ensures.0 c.if-not-are_numbered.false) (rw all at before.read) (rw all at before.left)
+    rules_left w c.args.snapshot.now rows (option_copied c.loop-row.left)
+    c.as_slice-catalogue.ensures
+    (c.are_numbered.ensures.0 c.if-not-are_numbered.false) (rw all at before.read)
+    (rw all at before.left)
     (λ e. let used : c.are_used_up.result ≡ true = c.are_used_up.ensures.1 e in cc)

@@ -11,6 +11,8 @@ use Rattle.desk_audit_texts.proofs.catalogue.catalogue_fault.Given as goal
 -- so far each body was read, and what is left comes after the rules of these
 abbrev pub invariant-loop-row : goal.invariant-loop-row
 invariant-loop-row g l = (w : Readings) → g.T.Texts.are_right w → record {
-  read : list_all (λ row. is_some (result_ok (w.catalogue row.body))) (take l.row-index l.catalogue) ≡ true;
-  left : IsLeft l.snapshot.rule (flat_map (rules_by w) (take l.row-index l.catalogue)) (option_copied l.left);
+  read : list_all (λ row. is_some (result_ok (w.catalogue row.body))) (take l.row-index l.catalogue)
+      ≡ true;
+  left : IsLeft l.snapshot.rule (flat_map (rules_by w) (take l.row-index l.catalogue))
+      (option_copied l.left);
 }

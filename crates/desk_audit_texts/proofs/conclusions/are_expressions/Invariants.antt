@@ -8,5 +8,6 @@ use Rattle.desk_audit_texts.proofs.conclusions.are_expressions.Given as goal
 abbrev pub invariant-loop-row : goal.invariant-loop-row
 invariant-loop-row g l =
     (w : Readings) → g.T.Texts.are_right w
-    → list_all (λ (row : StoredConclusion). w.is_expression Capitals row.expression) (drop l.row-index l.rows)
+    → list_all (λ (row : StoredConclusion). w.is_expression Capitals row.expression)
+    (drop l.row-index l.rows)
     ≡ list_all (λ (row : StoredConclusion). w.is_expression Capitals row.expression) l.rows

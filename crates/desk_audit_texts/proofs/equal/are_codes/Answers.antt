@@ -12,5 +12,6 @@ loop-code-preserved c =
     let split = led_by code codes c.loop-code.code-index c.loop-code-test.true c.code-item.is in
     let here : c.loop-code.rest.now ≡ (32 ∷ code) ++ behind = c.in-Some.ensures in (
       λ h. c.loop-code.invariant.0 (here ∙ ap (λ l. (32 ∷ code) ++ l) h ∙ sym split),
-      λ all. append_cancel_left (32 ∷ code) behind more (sym here ∙ c.loop-code.invariant.1 all ∙ split),
+      λ all. append_cancel_left (32 ∷ code) behind more
+          (sym here ∙ c.loop-code.invariant.1 all ∙ split),
     )

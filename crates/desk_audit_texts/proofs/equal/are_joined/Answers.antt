@@ -14,7 +14,8 @@ returns-in-Some-strip_prefix c =
     let joined : join_with_byte 32 c.args.codes.now ≡ first ++ led more =
     ap (join_with_byte 32) c.in-Some.ensures.cases.0 ∙ join_led first more in
     let here : text ≡ first ++ rest =
-    prefix_left text c.as_bytes.result.now (Some c.in-Some-strip_prefix.rest) c.in-Some-strip_prefix.ensures.cases
+    prefix_left text c.as_bytes.result.now (Some c.in-Some-strip_prefix.rest)
+    c.in-Some-strip_prefix.ensures.cases
     ∙ ap (λ p. p ++ rest) bytes in (
       λ h. here ∙ ap (λ l. first ++ l) (c.are_codes.ensures.0 h) ∙ sym joined,
       λ e. c.are_codes.ensures.1 (append_cancel_left first rest (led more) (sym here ∙ e ∙ joined)),
@@ -28,6 +29,7 @@ returns-in-None c =
     ap (join_with_byte 32) c.in-Some.ensures.cases.0 ∙ join_led first more in
     let bytes : c.as_bytes.result.now ≡ first = c.as_bytes.ensures.value ∙ c.as_str.ensures in (
       λ h. cc,
-      λ e. absurd (prefix_left c.args.text.now c.as_bytes.result.now None c.in-None.ensures.cases (led more)
+      λ e. absurd (prefix_left c.args.text.now c.as_bytes.result.now None c.in-None.ensures.cases
+          (led more)
           (e ∙ joined ∙ ap (λ p. p ++ led more) (sym bytes))),
     )

@@ -10,8 +10,11 @@ returns c =
     let text : List ℕ = c.args.text.now in
     let rest : List ℕ = c.in_ok-strip_prefix.field-0.now in
     let blank : text ≡ 32 ∷ rest =
-    prefix_left text (32 ∷ []) (Some c.in_ok-strip_prefix.field-0) c.in_ok-strip_prefix.ensures.cases in
-    let code = prefix_left rest c.as_bytes.result.now c.strip_prefix-2.result c.strip_prefix-2.ensures.cases in
+    prefix_left text (32 ∷ []) (Some c.in_ok-strip_prefix.field-0)
+    c.in_ok-strip_prefix.ensures.cases in
+    let code = prefix_left rest c.as_bytes.result.now c.strip_prefix-2.result
+    c.strip_prefix-2.ensures.cases in
     subst (λ (p : List ℕ). IsLeft text (32 ∷ p) (option_copied c.strip_prefix-2.result))
     (c.as_bytes.ensures.value ∙ c.as_str.ensures)
-    (left_on text (32 ∷ []) rest c.as_bytes.result.now (option_copied c.strip_prefix-2.result) blank code)
+    (left_on text (32 ∷ []) rest c.as_bytes.result.now (option_copied c.strip_prefix-2.result) blank
+    code)

@@ -7,6 +7,9 @@ use Rattle.desk_audit_texts.proofs.held.are_choices.Given as goal
 
 abbrev pub invariant-loop-row : goal.invariant-loop-row
 invariant-loop-row g l = record {
-  told : (w : Readings) → g.T.Texts.are_right w → IfSome l.told (λ before. is_choice w l.snapshot before.now ≡ true);
-  left : (w : Readings) → g.T.Texts.are_right w → list_all (is_choice w l.snapshot) (drop l.row-index l.row-items) ≡ list_all (is_choice w l.snapshot) l.snapshot.choice;
+  told : (w : Readings) → g.T.Texts.are_right w
+      → IfSome l.told (λ before. is_choice w l.snapshot before.now ≡ true);
+  left : (w : Readings) → g.T.Texts.are_right w
+      → list_all (is_choice w l.snapshot) (drop l.row-index l.row-items)
+      ≡ list_all (is_choice w l.snapshot) l.snapshot.choice;
 }

@@ -5,5 +5,7 @@ use Rattle.desk_audit_texts.proofs.held.terms_at.Given as goal
 
 abbrev pub invariant-loop-other : goal.invariant-loop-other
 invariant-loop-other l =
-    let terms : List StoredChoice → List (List ℕ) = λ rows. map (λ row. row.term) (filter (is_choice_of l.row.release l.row.document l.row.package_id) rows) in
+    let terms : List StoredChoice → List (List ℕ) =
+    λ rows. map (λ row. row.term)
+    (filter (is_choice_of l.row.release l.row.document l.row.package_id) rows) in
     l.terms ++ terms (drop l.other-index l.other-items) ≡ terms l.other-items

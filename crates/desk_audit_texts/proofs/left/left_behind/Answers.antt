@@ -8,6 +8,8 @@ use Rattle.desk_audit_texts.proofs.left.left_behind.Goals as goal
 pub returns : goal.returns
 returns g c = λ all front before.
     subst
-    (λ (number : ℤ). IsLeft all (front ++ map (g.R.Stored.stored number) c.args.items.now) (option_copied c.behind.result))
+    (λ (number : ℤ). IsLeft all (front ++ map (g.R.Stored.stored number) c.args.items.now)
+    (option_copied c.behind.result))
     (to_z-of_z w64 c.args.number c.ranges.number)
-    (left_on all front c.in_ok-left.field-0.now _ _ (rw c.in_ok-left.was at before) c.behind.ensures)
+    (left_on all front c.in_ok-left.field-0.now _ _ (rw c.in_ok-left.was at before)
+    c.behind.ensures)

@@ -2,4 +2,5 @@ use Rattle.std.proofs.Common.{◌≡◌, ◌++◌, map, drop}
 use Rattle.desk_audit_texts.proofs.places.places_of.Given as goal
 
 abbrev pub invariant-loop-release : goal.invariant-loop-release
-invariant-loop-release l = l.places.items ++ map (λ row. row.place) (drop l.release-index l.releases) ≡ map (λ row. row.place) l.releases
+invariant-loop-release l = l.places.items
+    ++ map (λ row. row.place) (drop l.release-index l.releases) ≡ map (λ row. row.place) l.releases

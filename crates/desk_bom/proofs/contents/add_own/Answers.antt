@@ -18,24 +18,35 @@ loop-entry-preserved c =
           record {
             packages = omega arith;
             files = omega arith;
-            rest = ap (λ v. v.items ++ own_files c.if-is.packages c.if-is.files rest) w.found-is ∙ ap (λ n. c.loop-entry.found.items ++ own_files n c.if-is.files rest) w.packages-is
+            rest = ap (λ v. v.items ++ own_files c.if-is.packages c.if-is.files rest) w.found-is
+                ∙ ap (λ n. c.loop-entry.found.items ++ own_files n c.if-is.files rest) w.packages-is
                 ∙ ap (λ n. c.loop-entry.found.items ++ own_files (p + 1) n rest) w.files-is
-                ∙ ap (λ l. c.loop-entry.found.items ++ l) (package_passed xs i _ c.loop-entry-test.true p f (sym c.is.ensures ∙ w.if-is.true)) ∙ c.loop-entry.invariant.rest;
+                ∙ ap (λ l. c.loop-entry.found.items ++ l)
+                (package_passed xs i _ c.loop-entry-test.true p f (sym c.is.ensures ∙ w.if-is.true))
+                ∙ c.loop-entry.invariant.rest;
           }
       | else-is+then-is-2+in_ok-onto_package w ↦
           record {
             packages = omega arith;
             files = omega arith;
-            rest = ap (λ v. v.items ++ own_files c.if-is.packages c.if-is.files rest) w.found-is ∙ ap (λ n. w.onto_package.new.found.items ++ own_files n c.if-is.files rest) w.packages-is
-                ∙ ap (λ n. w.onto_package.new.found.items ++ own_files p n rest) w.files-is ∙ w.in_ok-onto_package.ensures (own_files p (f + 1) rest)
-                ∙ ap (λ l. c.loop-entry.found.items ++ l) (file_passed xs i _ c.loop-entry-test.true p f (sym c.is.ensures ∙ w.if-is.false) (sym w.is-else-is.ensures ∙ w.if-is-2.true)) ∙ c.loop-entry.invariant.rest;
+            rest = ap (λ v. v.items ++ own_files c.if-is.packages c.if-is.files rest) w.found-is
+                ∙ ap (λ n. w.onto_package.new.found.items ++ own_files n c.if-is.files rest)
+                w.packages-is
+                ∙ ap (λ n. w.onto_package.new.found.items ++ own_files p n rest) w.files-is
+                ∙ w.in_ok-onto_package.ensures (own_files p (f + 1) rest)
+                ∙ ap (λ l. c.loop-entry.found.items ++ l)
+                (file_passed xs i _ c.loop-entry-test.true p f (sym c.is.ensures ∙ w.if-is.false)
+                (sym w.is-else-is.ensures ∙ w.if-is-2.true)) ∙ c.loop-entry.invariant.rest;
           }
       | else-is+else-is-2 w ↦
           record {
             packages = omega arith;
             files = omega arith;
-            rest = ap (λ v. v.items ++ own_files c.if-is.packages c.if-is.files rest) w.found-is ∙ ap (λ n. c.loop-entry.found.items ++ own_files n c.if-is.files rest) w.packages-is
+            rest = ap (λ v. v.items ++ own_files c.if-is.packages c.if-is.files rest) w.found-is
+                ∙ ap (λ n. c.loop-entry.found.items ++ own_files n c.if-is.files rest) w.packages-is
                 ∙ ap (λ n. c.loop-entry.found.items ++ own_files p n rest) w.files-is
-                ∙ ap (λ l. c.loop-entry.found.items ++ l) (other_passed xs i _ c.loop-entry-test.true p f (sym c.is.ensures ∙ w.if-is.false) (sym w.is-else-is.ensures ∙ w.if-is-2.false)) ∙ c.loop-entry.invariant.rest;
+                ∙ ap (λ l. c.loop-entry.found.items ++ l)
+                (other_passed xs i _ c.loop-entry-test.true p f (sym c.is.ensures ∙ w.if-is.false)
+                (sym w.is-else-is.ensures ∙ w.if-is-2.false)) ∙ c.loop-entry.invariant.rest;
           }
     ]

@@ -9,5 +9,7 @@ abbrev pub invariant-loop-entry : goal.invariant-loop-entry
 invariant-loop-entry l = record {
   packages : l.packages ≤ l.entry-index;
   files : l.files ≤ l.entry-index;
-  rest : l.found.items ++ own_files l.packages l.files (map entry_text (drop l.entry-index l.entries)) ≡ l.fn.found.items ++ own_files 0 0 (map entry_text l.entries);
+  rest : l.found.items ++ own_files l.packages l.files
+      (map entry_text (drop l.entry-index l.entries)) ≡ l.fn.found.items
+      ++ own_files 0 0 (map entry_text l.entries);
 }

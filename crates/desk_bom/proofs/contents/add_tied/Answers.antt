@@ -18,10 +18,14 @@ loop-edge-preserved c =
       same = c.loop-edge.invariant.same;
       rest = elim c.match-tie.branch [
         | in-Some+in_ok-push-in-Some w ↦
-            ap (λ v. v.items ++ rest) w.found-is ∙ ap (λ l. l ++ rest) w.in_ok-push-in-Some.ensures.items
-            ∙ kept_more edge_text edges i _ c.loop-edge-test.true (tie d) w.in-Some.arrow c.loop-edge.found.items (sym (c.tie.ensures d c.requires) ∙ w.in-Some.is) ∙ c.loop-edge.invariant.rest
+            ap (λ v. v.items ++ rest) w.found-is
+            ∙ ap (λ l. l ++ rest) w.in_ok-push-in-Some.ensures.items
+            ∙ kept_more edge_text edges i _ c.loop-edge-test.true (tie d) w.in-Some.arrow
+            c.loop-edge.found.items (sym (c.tie.ensures d c.requires) ∙ w.in-Some.is)
+            ∙ c.loop-edge.invariant.rest
         | in-None w ↦
             ap (λ v. v.items ++ rest) w.found-is
-            ∙ kept_over edge_text edges i _ c.loop-edge-test.true (tie d) c.loop-edge.found.items (sym (c.tie.ensures d c.requires) ∙ w.in-None.is) ∙ c.loop-edge.invariant.rest
+            ∙ kept_over edge_text edges i _ c.loop-edge-test.true (tie d) c.loop-edge.found.items
+            (sym (c.tie.ensures d c.requires) ∙ w.in-None.is) ∙ c.loop-edge.invariant.rest
       ];
     }

@@ -10,5 +10,7 @@ use Rattle.desk_bom.proofs.contents.add_tied.Given as goal
 abbrev pub invariant-loop-edge : goal.invariant-loop-edge
 invariant-loop-edge l = record {
   same : l.edges ≡ l.document.edges;
-  rest : l.found.items ++ filter_map (tie (document_text l.document)) (map edge_text (drop l.edge-index l.edges)) ≡ l.fn.found.items ++ filter_map (tie (document_text l.document)) (document_text l.document).edges;
+  rest : l.found.items ++ filter_map (tie (document_text l.document))
+      (map edge_text (drop l.edge-index l.edges)) ≡ l.fn.found.items
+      ++ filter_map (tie (document_text l.document)) (document_text l.document).edges;
 }

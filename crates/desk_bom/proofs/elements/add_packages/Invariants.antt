@@ -5,4 +5,5 @@ use Rattle.desk_base.specs.Borrowed.{texts}
 
 -- those so far were added
 abbrev pub invariant-loop-package : goal.invariant-loop-package
-invariant-loop-package l = texts l.ids.items ≡ texts l.fn.ids.items ++ map (λ p. p.id.now) (take l.package-index l.packages)
+invariant-loop-package l = texts l.ids.items ≡ texts l.fn.ids.items
+    ++ map (λ p. p.id.now) (take l.package-index l.packages)

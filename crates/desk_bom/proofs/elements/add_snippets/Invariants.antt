@@ -5,4 +5,5 @@ use Rattle.desk_base.specs.Borrowed.{texts}
 
 -- those so far were added
 abbrev pub invariant-loop-snippet : goal.invariant-loop-snippet
-invariant-loop-snippet l = texts l.ids.items ≡ texts l.fn.ids.items ++ map (λ p. p.id.now) (take l.snippet-index l.snippets)
+invariant-loop-snippet l = texts l.ids.items ≡ texts l.fn.ids.items
+    ++ map (λ p. p.id.now) (take l.snippet-index l.snippets)

@@ -10,5 +10,6 @@ use Rattle.desk_bom.proofs.shipping.is_described.Given as goal
 abbrev pub invariant-loop-edge : goal.invariant-loop-edge
 invariant-loop-edge l = record {
   same : l.edges ≡ l.document.edges;
-  rest : is_described (document_text l.document) ≡ list_any (describes (document_text l.document)) (map edge_text (drop l.edge-index l.edges));
+  rest : is_described (document_text l.document)
+      ≡ list_any (describes (document_text l.document)) (map edge_text (drop l.edge-index l.edges));
 }

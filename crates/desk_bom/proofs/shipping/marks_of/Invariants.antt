@@ -5,4 +5,5 @@ use Rattle.desk_bom.specs.Marks.{among}
 use Rattle.desk_bom.proofs.shipping.marks_of.Given as goal
 
 abbrev pub invariant-loop-package : goal.invariant-loop-package
-invariant-loop-package l = l.marks.items ≡ map (λ k. among l.reached.order.items (k + 1)) (range_with_len 0 l.package)
+invariant-loop-package l = l.marks.items
+    ≡ map (λ k. among l.reached.order.items (k + 1)) (range_with_len 0 l.package)

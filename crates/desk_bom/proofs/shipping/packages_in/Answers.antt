@@ -14,18 +14,27 @@ loop-place-preserved c =
     let packages = c.args.packages.now in
     let k = c.loop-place.place in
     let reached = λ (j : ℕ). among c.args.reached.now.order.items (j + 1) in
-    let has_id = λ (n : Named). n.id.now ≡ slice_index_or (map (λ (p : Package). p.id.now) packages) n.place [] in
+    let has_id = λ (n : Named). n.id.now
+    ≡ slice_index_or (map (λ (p : Package). p.id.now) packages) n.place [] in
     elim c.if-has.branch [
       | then-has+in_ok-push w ↦
           record {
-            places = ap (λ v. map (λ (n : Named). n.place) v.items) w.found-is ∙ ap (map (λ (n : Named). n.place)) w.in_ok-push.ensures.items ∙ map_push (λ (n : Named). n.place) c.loop-place.found.items _
-                ∙ range_kept reached k (map (λ (n : Named). n.place) c.loop-place.found.items) (sym c.has.ensures ∙ w.if-has.true) c.loop-place.invariant.places;
-            ids = subst (λ v. All has_id v.items) (sym w.found-is) (subst (All has_id) (sym w.in_ok-push.ensures.items)
-                (All-push has_id c.loop-place.found.items _ c.loop-place.invariant.ids (sym (get_or-map (λ (p : Package). p.id.now) packages k _ [] c.loop-place-test.true))));
+            places = ap (λ v. map (λ (n : Named). n.place) v.items) w.found-is
+                ∙ ap (map (λ (n : Named). n.place)) w.in_ok-push.ensures.items
+                ∙ map_push (λ (n : Named). n.place) c.loop-place.found.items _
+                ∙ range_kept reached k (map (λ (n : Named). n.place) c.loop-place.found.items)
+                (sym c.has.ensures ∙ w.if-has.true) c.loop-place.invariant.places;
+            ids = subst (λ v. All has_id v.items) (sym w.found-is)
+                (subst (All has_id) (sym w.in_ok-push.ensures.items)
+                (All-push has_id c.loop-place.found.items _ c.loop-place.invariant.ids
+                (sym (get_or-map (λ (p : Package). p.id.now) packages k _ []
+                c.loop-place-test.true))));
           }
       | else-has w ↦
           record {
-            places = ap (λ v. map (λ (n : Named). n.place) v.items) w.found-is ∙ range_over reached k (map (λ (n : Named). n.place) c.loop-place.found.items) (sym c.has.ensures ∙ w.if-has.false) c.loop-place.invariant.places;
+            places = ap (λ v. map (λ (n : Named). n.place) v.items) w.found-is
+                ∙ range_over reached k (map (λ (n : Named). n.place) c.loop-place.found.items)
+                (sym c.has.ensures ∙ w.if-has.false) c.loop-place.invariant.places;
             ids = subst (λ v. All has_id v.items) (sym w.found-is) c.loop-place.invariant.ids;
           }
     ]

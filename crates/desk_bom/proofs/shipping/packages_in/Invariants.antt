@@ -6,6 +6,8 @@ use Rattle.desk_bom.proofs.shipping.packages_in.Given as goal
 
 abbrev pub invariant-loop-place : goal.invariant-loop-place
 invariant-loop-place l = record {
-  places : map (λ n. n.place) l.found.items ≡ filter (λ k. among l.reached.order.items (k + 1)) (range_with_len 0 l.place);
-  ids : All (λ n. n.id.now ≡ slice_index_or (map (λ p. p.id.now) l.packages) n.place []) l.found.items;
+  places : map (λ n. n.place) l.found.items
+      ≡ filter (λ k. among l.reached.order.items (k + 1)) (range_with_len 0 l.place);
+  ids : All (λ n. n.id.now ≡ slice_index_or (map (λ p. p.id.now) l.packages) n.place [])
+      l.found.items;
 }

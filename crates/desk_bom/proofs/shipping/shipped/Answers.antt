@@ -17,7 +17,12 @@ returns c =
     let moved = c.sort_by_key.new.self.items in
     let reached = c.in_ok-reached.reached.order.items in
     let ids = subst (λ l. All (HasId l) named) c.as_slice.ensures c.in_ok-named.ensures.ids in
-    subst (AreShipped (document_text doc)) (sym (c.in_ok-places.ensures ∙ ap (map (λ (n : Named). n.place)) c.deref.ensures.value))
-    (are_shipped doc reached named moved (All-permutation (HasId doc.packages) named moved c.in_ok-sort_by_key.ensures.permutation ids)
-    (c.in_ok-sort_by_key.ensures.sorted (λ (n : Named). n.id) (always_returns_same _ (λ a r. r ≡ a.0.now.id) _ (λ a r q k. search rules)))
-    c.in_ok-reached.ensures (c.in_ok-named.ensures.places ∙ ap (λ l. filter (λ k. among reached (k + 1)) (range_with_len 0 (length l))) c.as_slice.ensures) c.in_ok-sort_by_key.ensures.permutation)
+    subst (AreShipped (document_text doc))
+    (sym (c.in_ok-places.ensures ∙ ap (map (λ (n : Named). n.place)) c.deref.ensures.value))
+    (are_shipped doc reached named moved
+    (All-permutation (HasId doc.packages) named moved c.in_ok-sort_by_key.ensures.permutation ids)
+    (c.in_ok-sort_by_key.ensures.sorted (λ (n : Named). n.id)
+    (always_returns_same _ (λ a r. r ≡ a.0.now.id) _ (λ a r q k. search rules)))
+    c.in_ok-reached.ensures (c.in_ok-named.ensures.places
+    ∙ ap (λ l. filter (λ k. among reached (k + 1)) (range_with_len 0 (length l)))
+    c.as_slice.ensures) c.in_ok-sort_by_key.ensures.permutation)

@@ -13,19 +13,27 @@ use Rattle.desk_bom.proofs.shipping.shipping.Goals as goal
 pub walk-requires-clause-sorted : goal.walk-requires-clause-sorted
 walk-requires-clause-sorted c =
     subst (IsNonDecreasingBy (λ (x : Arrow). x.from)) (sym c.deref.ensures.value)
-    (IsNonDecreasingBy-from_sort_by_key (λ (x : Arrow). x.from) c.sort_by_key.new.self.items c.in_ok-sort_by_key.ensures.sorted (λ a r q k. search rules))
+    (IsNonDecreasingBy-from_sort_by_key (λ (x : Arrow). x.from) c.sort_by_key.new.self.items
+    c.in_ok-sort_by_key.ensures.sorted (λ a r q k. search rules))
 
 pub walk-requires-clause-within : goal.walk-requires-clause-within
 walk-requires-clause-within c =
     let d = document_text c.args.document.now in
-    subst (λ l. All (λ (x : Arrow). x.to < length c.in_ok-reached.reached.marks.items) l) (sym c.deref.ensures.value)
-    (All-permutation (λ (x : Arrow). x.to < length c.in_ok-reached.reached.marks.items) c.in_ok-arrows.arrows.items c.sort_by_key.new.self.items c.in_ok-sort_by_key.ensures.permutation
-    (subst (λ l. All (λ (x : Arrow). x.to < length c.in_ok-reached.reached.marks.items) l) (sym c.in_ok-arrows.ensures)
-    (subst (λ n. All (λ (x : Arrow). x.to < n) (shipping_arrows d)) (sym (c.in_ok-reached.ensures.count ∙ c.in_ok-elements.ensures.count)) (arrows_within d))))
+    subst (λ l. All (λ (x : Arrow). x.to < length c.in_ok-reached.reached.marks.items) l)
+    (sym c.deref.ensures.value)
+    (All-permutation (λ (x : Arrow). x.to < length c.in_ok-reached.reached.marks.items)
+    c.in_ok-arrows.arrows.items c.sort_by_key.new.self.items c.in_ok-sort_by_key.ensures.permutation
+    (subst (λ l. All (λ (x : Arrow). x.to < length c.in_ok-reached.reached.marks.items) l)
+    (sym c.in_ok-arrows.ensures)
+    (subst (λ n. All (λ (x : Arrow). x.to < n) (shipping_arrows d))
+    (sym (c.in_ok-reached.ensures.count ∙ c.in_ok-elements.ensures.count)) (arrows_within d))))
 
 pub returns : goal.returns
 returns c =
     let d = document_text c.args.document.now in
-    least_same (is_start d) (among c.in_ok-reached.reached.order.items) (shipping_arrows d) c.sort_by_key.new.self.items (among c.walk.new.self.order.items) c.in_ok-reached.ensures.order
-    (subst (λ l. IsPermutation l c.sort_by_key.new.self.items) c.in_ok-arrows.ensures c.in_ok-sort_by_key.ensures.permutation)
-    (subst (λ l. IsLeastFrom (among c.in_ok-reached.reached.order.items) l (among c.walk.new.self.order.items)) c.deref.ensures.value c.in_ok-walk.ensures)
+    least_same (is_start d) (among c.in_ok-reached.reached.order.items) (shipping_arrows d)
+    c.sort_by_key.new.self.items (among c.walk.new.self.order.items) c.in_ok-reached.ensures.order
+    (subst (λ l. IsPermutation l c.sort_by_key.new.self.items) c.in_ok-arrows.ensures
+    c.in_ok-sort_by_key.ensures.permutation)
+    (subst (λ l. IsLeastFrom (among c.in_ok-reached.reached.order.items) l
+    (among c.walk.new.self.order.items)) c.deref.ensures.value c.in_ok-walk.ensures)

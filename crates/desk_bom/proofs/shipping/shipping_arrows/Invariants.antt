@@ -10,5 +10,6 @@ use Rattle.desk_bom.proofs.shipping.shipping_arrows.Given as goal
 abbrev pub invariant-loop-edge : goal.invariant-loop-edge
 invariant-loop-edge l = record {
   same : l.edges ≡ l.document.edges;
-  rest : l.arrows.items ++ filter_map (shipping_arrow (document_text l.document)) (map edge_text (drop l.edge-index l.edges)) ≡ shipping_arrows (document_text l.document);
+  rest : l.arrows.items ++ filter_map (shipping_arrow (document_text l.document))
+      (map edge_text (drop l.edge-index l.edges)) ≡ shipping_arrows (document_text l.document);
 }

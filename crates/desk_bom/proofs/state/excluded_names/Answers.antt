@@ -15,5 +15,7 @@ pub returns-in_ok-of-in-Some : goal.returns-in_ok-of-in-Some
 returns-in_ok-of-in-Some c = λ q.
     let names = c.in_ok-names-in-Some.names.items in
     let parted = ap texts c.deref.ensures.value ∙ c.in_ok-parts-in-Some.ensures in
-    let are = c.in_ok-names-in-Some.ensures ∙ ap (map (λ part. plain (trimmed part))) parted ∙ ap (λ text. excluded_names (value_text text)) (sym c.in-Some.is) in
-    ap (λ l. is_some (place_of q (texts l))) c.in_ok-of-in-Some.ensures ∙ is_some_place q (texts names) ∙ ap (list_any (λ name. bytes_eq name q)) are
+    let are = c.in_ok-names-in-Some.ensures ∙ ap (map (λ part. plain (trimmed part))) parted
+    ∙ ap (λ text. excluded_names (value_text text)) (sym c.in-Some.is) in
+    ap (λ l. is_some (place_of q (texts l))) c.in_ok-of-in-Some.ensures
+    ∙ is_some_place q (texts names) ∙ ap (list_any (λ name. bytes_eq name q)) are

@@ -7,4 +7,5 @@ use Rattle.desk_base.specs.Borrowed.{texts}
 
 -- those so far were added
 abbrev pub invariant-loop-part : goal.invariant-loop-part
-invariant-loop-part l = texts l.names.items ≡ map (λ part. plain (trimmed part)) (texts (take l.part-index l.parts))
+invariant-loop-part l = texts l.names.items
+    ≡ map (λ part. plain (trimmed part)) (texts (take l.part-index l.parts))

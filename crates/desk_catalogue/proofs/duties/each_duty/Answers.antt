@@ -15,14 +15,25 @@ use Rattle.desk_base.specs.Borrowed.{texts}
 
 pub returns-then-not-branch : goal.returns-then-not-branch
 returns-then-not-branch c =
-    let read = ap (λ v. duty_at c.loop-i.i (view v)) (sym c.index-values-i.is) ∙ subst (Gives (duty_at c.loop-i.i (view c.index-values-i.result)) (λ text. text.now)) c.in-Ok.is c.duty_at.ensures in
-    let there = ap not (sym (has_text c.loop-i.duties.keys c.in-Ok.code.now)) ∙ sym c.in_ok-insert-in-Ok.ensures.added ∙ c.if-not-branch.true in
-    sym (step_twice duty_at is_among (Twice part.Duty) (λ before code. put_new code before) (texts c.loop-i.duties.keys) c.args.values.now c.loop-i.i c.index-values-i.result c.in-Ok.code.now c.loop-i-test.true read there ∙ c.loop-i.invariant)
+    let read = ap (λ v. duty_at c.loop-i.i (view v)) (sym c.index-values-i.is)
+    ∙ subst (Gives (duty_at c.loop-i.i (view c.index-values-i.result)) (λ text. text.now))
+    c.in-Ok.is c.duty_at.ensures in
+    let there = ap not (sym (has_text c.loop-i.duties.keys c.in-Ok.code.now))
+    ∙ sym c.in_ok-insert-in-Ok.ensures.added ∙ c.if-not-branch.true in
+    sym (step_twice duty_at is_among (Twice part.Duty) (λ before code. put_new code before)
+    (texts c.loop-i.duties.keys) c.args.values.now c.loop-i.i c.index-values-i.result
+    c.in-Ok.code.now c.loop-i-test.true read there ∙ c.loop-i.invariant)
 
 pub loop-i-preserved : goal.loop-i-preserved
 loop-i-preserved c =
-    let read = ap (λ v. duty_at c.loop-i.i (view v)) (sym c.index-values-i.is) ∙ subst (Gives (duty_at c.loop-i.i (view c.index-values-i.result)) (λ text. text.now)) c.in-Ok.is c.duty_at.ensures in
-    let new = ap not (sym (has_text c.loop-i.duties.keys c.in-Ok.code.now)) ∙ sym c.in_ok-insert-in-Ok.ensures.added ∙ c.if-not-branch.false in
-    let put = ap texts c.in_ok-insert-in-Ok.ensures.keys ∙ texts-insert_key c.loop-i.duties.keys c.in-Ok.code in
-    step_added duty_at is_among (Twice part.Duty) (λ before code. put_new code before) (texts c.loop-i.duties.keys) c.args.values.now c.loop-i.i c.index-values-i.result c.in-Ok.code.now c.loop-i-test.true read new (texts c.insert.new.self.keys) put
+    let read = ap (λ v. duty_at c.loop-i.i (view v)) (sym c.index-values-i.is)
+    ∙ subst (Gives (duty_at c.loop-i.i (view c.index-values-i.result)) (λ text. text.now))
+    c.in-Ok.is c.duty_at.ensures in
+    let new = ap not (sym (has_text c.loop-i.duties.keys c.in-Ok.code.now))
+    ∙ sym c.in_ok-insert-in-Ok.ensures.added ∙ c.if-not-branch.false in
+    let put = ap texts c.in_ok-insert-in-Ok.ensures.keys
+    ∙ texts-insert_key c.loop-i.duties.keys c.in-Ok.code in
+    step_added duty_at is_among (Twice part.Duty) (λ before code. put_new code before)
+    (texts c.loop-i.duties.keys) c.args.values.now c.loop-i.i c.index-values-i.result
+    c.in-Ok.code.now c.loop-i-test.true read new (texts c.insert.new.self.keys) put
     ∙ c.loop-i.invariant

@@ -6,4 +6,5 @@ use Rattle.desk_base.specs.Borrowed.{texts_in}
 
 -- the forms so far, with those of the rest, are those of all
 abbrev pub invariant-loop-i : goal.invariant-loop-i
-invariant-loop-i l = each with_form (texts_in l.forms) l.i (items_view (drop l.i l.values)) ≡ each with_form [] 0 (items_view l.values)
+invariant-loop-i l = each with_form (texts_in l.forms) l.i (items_view (drop l.i l.values))
+    ≡ each with_form [] 0 (items_view l.values)

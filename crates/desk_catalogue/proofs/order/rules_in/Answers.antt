@@ -6,4 +6,5 @@ use Rattle.desk_model.specs.Keys.{rule_order}
 
 pub of-requires : goal.of-requires
 of-requires c =
-    subst (IsStrictlySortedBy rule_order) (sym c.in_ok-rules.ensures) (entries_in_order c.args.rules.entries c.len-count.ensures.ordered)
+    subst (IsStrictlySortedBy rule_order) (sym c.in_ok-rules.ensures)
+    (entries_in_order c.args.rules.entries c.len-count.ensures.ordered)

@@ -6,7 +6,8 @@ use Rattle.desk_base.specs.Borrowed.{texts, texts_in}
 
 -- the texts that are left complete the set when they are added
 abbrev pub invariant-loop-last : goal.invariant-loop-last
-invariant-loop-last l = put_texts (texts_in l.listed) (texts l.set.keys) ≡ sorted_set (texts_in l.fn.listed)
+invariant-loop-last l = put_texts (texts_in l.listed) (texts l.set.keys)
+    ≡ sorted_set (texts_in l.fn.listed)
 
 abbrev pub decreases-loop-last : goal.decreases-loop-last
 decreases-loop-last l = vec_len l.listed

@@ -11,5 +11,8 @@ returns-in-Ok c =
     let term = c.args.term.now in
     let rest = c.in-Ok.rest.now in
     let key = c.as_bytes-2.ensures.value ∙ c.as_str.ensures in
-    let cut : text ≡ term.key ++ rest = sym c.as_bytes.ensures.value ∙ c.in-Ok.ensures.ok ∙ ap (λ k. k ++ rest) key in
-    c.side_behind_key.ensures ∙ side_behind text term.key rest ((if term.plus then codes "+" else []) ++ printed_exception term.exception) cut ∙ ap (slice_cmp nat_cmp text) (printed term)
+    let cut : text ≡ term.key ++ rest = sym c.as_bytes.ensures.value ∙ c.in-Ok.ensures.ok
+    ∙ ap (λ k. k ++ rest) key in
+    c.side_behind_key.ensures ∙ side_behind text term.key rest
+    ((if term.plus then codes "+" else []) ++ printed_exception term.exception) cut
+    ∙ ap (slice_cmp nat_cmp text) (printed term)

@@ -6,4 +6,5 @@ use Rattle.desk_catalogue.proofs.rules.are_duties.Given as goal
 use Rattle.desk_base.specs.Borrowed.{texts}
 
 abbrev pub invariant-loop-code : goal.invariant-loop-code
-invariant-loop-code l = list_all (is_among (codes_in l.duties)) (texts (drop l.code-index l.listed)) ≡ list_all (is_among (codes_in l.duties)) (texts l.listed)
+invariant-loop-code l = list_all (is_among (codes_in l.duties)) (texts (drop l.code-index l.listed))
+    ≡ list_all (is_among (codes_in l.duties)) (texts l.listed)

@@ -10,7 +10,10 @@ returns-in-Some c = λ terms h.
     let forms = c.args.known.now.forms in
     let duties = codes_in c.args.known.now.duties in
     let texts = rule_texts_in c.in-Ok.written in
-    let written = subst (Gives (rule_written c.args.index (view c.args.value.now)) rule_texts_in) c.in-Ok.is c.in_ok-written.ensures in
-    if_ok_along c.rule_of.result (rule_of forms duties c.args.index texts c.in-Some.term) (rule_at terms forms duties c.args.index (view c.args.value.now))
-    (rule_found terms forms duties c.args.index (view c.args.value.now) texts c.in-Some.term written (sym c.in-Some.is ∙ c.in_ok-term.ensures terms h))
+    let written = subst (Gives (rule_written c.args.index (view c.args.value.now)) rule_texts_in)
+    c.in-Ok.is c.in_ok-written.ensures in
+    if_ok_along c.rule_of.result (rule_of forms duties c.args.index texts c.in-Some.term)
+    (rule_at terms forms duties c.args.index (view c.args.value.now))
+    (rule_found terms forms duties c.args.index (view c.args.value.now) texts c.in-Some.term written
+    (sym c.in-Some.is ∙ c.in_ok-term.ensures terms h))
     c.rule_of.ensures

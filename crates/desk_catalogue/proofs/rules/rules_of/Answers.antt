@@ -12,5 +12,6 @@ returns-in-Ok c = λ terms h.
     let forms = c.args.known.now.forms in
     let duties = codes_in c.args.known.now.duties in
     let entries = each (with_rule terms forms duties) [] 0 in
-    gives_along c.each_rule.result (entries (items_view c.in-Ok.values.now)) (rules_of terms forms duties (get_member (codes "rule") (table_view c.args.table.now))) rules_in
+    gives_along c.each_rule.result (entries (items_view c.in-Ok.values.now))
+    (rules_of terms forms duties (get_member (codes "rule") (table_view c.args.table.now))) rules_in
     (sym (ap (λ t. then_read t entries) c.in-Ok.ensures)) (c.each_rule.ensures terms h)

@@ -6,4 +6,6 @@ use Rattle.desk_catalogue.proofs.texts.each_text.Given as goal
 
 -- the texts so far, with those of the rest, are those of all, and the set has the ids so far
 abbrev pub invariant-loop-value : goal.invariant-loop-value
-invariant-loop-value l = (each with_text l.texts (length l.texts) (items_view l.value-iterator.rest.items) ≡ each with_text [] 0 (items_view l.fn.values.items)) × HasIds l.texts l.seen
+invariant-loop-value l = (each with_text l.texts (length l.texts)
+    (items_view l.value-iterator.rest.items) ≡ each with_text [] 0 (items_view l.fn.values.items))
+    × HasIds l.texts l.seen

@@ -6,4 +6,5 @@ use Rattle.desk_base.specs.Borrowed.{texts_in}
 
 -- the texts so far, and those of the rest, are those of all
 abbrev pub invariant-loop-value : goal.invariant-loop-value
-invariant-loop-value l = option_map (λ more. texts_in l.texts ++ more) (strings (items_view (drop l.value-index l.values))) ≡ strings (items_view l.values)
+invariant-loop-value l = option_map (λ more. texts_in l.texts ++ more)
+    (strings (items_view (drop l.value-index l.values))) ≡ strings (items_view l.values)

@@ -9,12 +9,15 @@ use Rattle.toml.proofs.Views.{view-lookup}
 use Rattle.desk_catalogue.proofs.values.take_member.Goals as goal
 
 pub returns-clause-value : goal.returns-clause-value
-returns-clause-value c = ap (option_map view) c.remove.ensures.value ∙ view-lookup c.args.key.now c.args.table.now.entries
+returns-clause-value c = ap (option_map view) c.remove.ensures.value
+    ∙ view-lookup c.args.key.now c.args.table.now.entries
 
 pub returns-clause-others : goal.returns-clause-others
 returns-clause-others c other is_other =
     let old = c.args.table.now in
     let new = c.remove.new.self in
     sym (view-lookup other new.entries)
-    ∙ ap (option_map view) (btree_map_updates_text c.args.key.now old new None c.remove.ensures.updates other ∙ cond-false (bytes_eq c.args.key.now other) None (get_by_text old other) is_other)
+    ∙ ap (option_map view) (btree_map_updates_text c.args.key.now old new None
+    c.remove.ensures.updates other
+    ∙ cond-false (bytes_eq c.args.key.now other) None (get_by_text old other) is_other)
     ∙ view-lookup other old.entries

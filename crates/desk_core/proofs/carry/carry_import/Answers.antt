@@ -5,15 +5,23 @@ use Rattle.desk_core.proofs.carry.carry_import.Goals as goal
 
 pub returns-clause-minds : goal.returns-clause-minds
 returns-clause-minds g c =
-    minds_carried g.S.Store.stands (g.S.Store.seen c.args.store.now) (g.S.Store.seen c.import.new.store) (g.S.Store.seen c.carry_plan.new.store)
-    c.in_ok-decided.decided c.carry_plan.result c.in_ok-decided.ensures.kept.0 c.in_ok-decided.ensures.kept.1 c.carry_plan.ensures.carries
+    minds_carried g.S.Store.stands (g.S.Store.seen c.args.store.now)
+    (g.S.Store.seen c.import.new.store) (g.S.Store.seen c.carry_plan.new.store)
+    c.in_ok-decided.decided c.carry_plan.result c.in_ok-decided.ensures.kept.0
+    c.in_ok-decided.ensures.kept.1 c.carry_plan.ensures.carries
 
 pub returns-clause-decides : goal.returns-clause-decides
 returns-clause-decides g c = λ w right.
-    decides_carried g.S.Store.stands w (Import c.args.bytes c.args.profile) (g.S.Store.seen c.args.store.now) (g.S.Store.seen c.import.new.store) (g.S.Store.seen c.carry_plan.new.store)
-    c.in_ok-decided.decided c.carry_plan.result c.in_ok-decided.ensures.kept.0 c.in_ok-decided.ensures.kept.1 (c.in_ok-decided.ensures.plan w right) c.carry_plan.ensures.carries
+    decides_carried g.S.Store.stands w (Import c.args.bytes c.args.profile)
+    (g.S.Store.seen c.args.store.now) (g.S.Store.seen c.import.new.store)
+    (g.S.Store.seen c.carry_plan.new.store)
+    c.in_ok-decided.decided c.carry_plan.result c.in_ok-decided.ensures.kept.0
+    c.in_ok-decided.ensures.kept.1 (c.in_ok-decided.ensures.plan w right)
+    c.carry_plan.ensures.carries
 
 pub returns-clause-alone : goal.returns-clause-alone
 returns-clause-alone g c = λ w right.
-    alone_carried g.S.Store.stands (g.S.Store.seen c.import.new.store) (g.S.Store.seen c.carry_plan.new.store) (refused_alone w (Import c.args.bytes c.args.profile))
-    c.in_ok-decided.decided c.carry_plan.result (c.in_ok-decided.ensures.alone w right) c.carry_plan.ensures.carries
+    alone_carried g.S.Store.stands (g.S.Store.seen c.import.new.store)
+    (g.S.Store.seen c.carry_plan.new.store) (refused_alone w (Import c.args.bytes c.args.profile))
+    c.in_ok-decided.decided c.carry_plan.result (c.in_ok-decided.ensures.alone w right)
+    c.carry_plan.ensures.carries

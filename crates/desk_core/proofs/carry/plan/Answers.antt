@@ -1,7 +1,8 @@
 use Rattle.desk_core.proofs.carry.plan.Goals as goal
 
 pub returns-in-OpenRelease-clause-alone : goal.returns-in-OpenRelease-clause-alone
-returns-in-OpenRelease-clause-alone g c = λ w right. rw c.in-OpenRelease.is (c.open_release.ensures.alone w)
+returns-in-OpenRelease-clause-alone g c = λ w right. rw c.in-OpenRelease.is
+    (c.open_release.ensures.alone w)
 
 pub returns-in-Attach-clause-plan : goal.returns-in-Attach-clause-plan
 returns-in-Attach-clause-plan g c = λ w right. rw c.in-Attach.is (c.attach.ensures.plan w)

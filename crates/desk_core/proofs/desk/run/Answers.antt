@@ -21,7 +21,8 @@ loop-command-preserved g c =
     let command : Command = c.command-item.result in
     let outcome : Outcome = c.apply_one.result in
     let lt : length os < length cs = omega (arith, before.count, c.loop-command-test.true) in
-    let at : command ≡ get_or cs (length os) command = subst (λ (k : ℕ). command ≡ get_or cs k command) (sym before.count) c.command-item.is in
+    let at : command ≡ get_or cs (length os) command =
+    subst (λ (k : ℕ). command ≡ get_or cs k command) (sym before.count) c.command-item.is in
     let items = c.push_reserved.ensures.items in
     let one = c.apply_one.ensures in
     let first = one.honest in
@@ -29,7 +30,8 @@ loop-command-preserved g c =
     let mid = g.D.Desk.seen c.loop-command.desk in
     let new = g.D.Desk.seen c.apply_one.new.desk in
     let after : (h : List Command) → List Command = λ h. history_after h cs os in
-    let grown : (h : List Command) → history_after h cs c.push_reserved.new.self.items ≡ history_after h cs (os ++ outcome ∷ []) = λ h. ap (history_after h cs) items in
+    let grown : (h : List Command) → history_after h cs c.push_reserved.new.self.items
+    ≡ history_after h cs (os ++ outcome ∷ []) = λ h. ap (history_after h cs) items in
     record {
       count = omega (arith, ap length items, length-push os outcome, before.count);
       len = omega (arith, c.push_reserved.ensures.len, before.len);
@@ -39,19 +41,34 @@ loop-command-preserved g c =
           let parts = none_pushed is_kept os outcome (ap (list_any is_kept) (sym items) ∙ none) in
           spared_then old mid new (before.keeps parts.0) (one.keeps parts.1);
       outlasts = outlasts_then old mid new first before.outlasts one.outlasts;
-      alone = λ w right. subst (AllSpareStore w cs) (sym items) (AllSpareStore-push w cs os command outcome lt at (before.alone w right) (one.alone w right));
-      faults = subst (MayAllBecome g.D.Desk.tells) (sym items) (MayAllBecome-push g.D.Desk.tells os outcome before.faults one.fault);
-      answers = λ w right clean h ok e. subst (AreAnswers w h cs) (sym items) (AreAnswers-push w h cs os command outcome lt at (before.answers w right (first clean) h ok e)
-          (one.answer w right clean (after h) (before.history w right (first clean) h ok e) (before.content w right (first clean) h ok e)));
-      content = λ w right clean h ok e. subst (λ (k : List Command). new.holds (tables w k)) (sym (grown h ∙ history_after-push h cs os command outcome lt at))
-          (one.content w right clean (after h) (before.history w right (first clean) h ok e) (before.content w right (first clean) h ok e));
-      history = λ w right clean h ok e. subst (IsHistory w) (sym (grown h ∙ history_after-push h cs os command outcome lt at)) (IsHistory-with w (after h) command outcome (before.history w right (first clean) h ok e)
-          (one.answer w right clean (after h) (before.history w right (first clean) h ok e) (before.content w right (first clean) h ok e)));
+      alone = λ w right. subst (AllSpareStore w cs) (sym items)
+          (AllSpareStore-push w cs os command outcome lt at (before.alone w right)
+          (one.alone w right));
+      faults = subst (MayAllBecome g.D.Desk.tells) (sym items)
+          (MayAllBecome-push g.D.Desk.tells os outcome before.faults one.fault);
+      answers = λ w right clean h ok e. subst (AreAnswers w h cs) (sym items)
+          (AreAnswers-push w h cs os command outcome lt at
+          (before.answers w right (first clean) h ok e)
+          (one.answer w right clean (after h) (before.history w right (first clean) h ok e)
+          (before.content w right (first clean) h ok e)));
+      content = λ w right clean h ok e. subst (λ (k : List Command). new.holds (tables w k))
+          (sym (grown h ∙ history_after-push h cs os command outcome lt at))
+          (one.content w right clean (after h) (before.history w right (first clean) h ok e)
+          (before.content w right (first clean) h ok e));
+      history = λ w right clean h ok e. subst (IsHistory w)
+          (sym (grown h ∙ history_after-push h cs os command outcome lt at))
+          (IsHistory-with w (after h) command outcome (before.history w right (first clean) h ok e)
+          (one.answer w right clean (after h) (before.history w right (first clean) h ok e)
+          (before.content w right (first clean) h ok e)));
       secures = λ all w right clean h ok e s.
-          let parts = all_pushed is_answered os outcome (ap (list_all is_answered) (sym items) ∙ all) in
+          let parts = all_pushed is_answered os outcome
+          (ap (list_all is_answered) (sym items) ∙ all) in
           let past = before.history w right (first clean) h ok e in
           let held = before.content w right (first clean) h ok e in
-          subst (λ (k : List Command). Secures g.D.Desk.stands (tables w k) new) (sym (grown h ∙ history_after-push h cs os command outcome lt at))
-          (secures_after g.D.Desk.stands w command mid new (after h) outcome parts.1 (one.stays parts.1 w right clean (after h) past held)
-          (one.left w right clean (after h) past held) (before.secures parts.0 w right (first clean) h ok e s));
+          subst (λ (k : List Command). Secures g.D.Desk.stands (tables w k) new)
+          (sym (grown h ∙ history_after-push h cs os command outcome lt at))
+          (secures_after g.D.Desk.stands w command mid new (after h) outcome parts.1
+          (one.stays parts.1 w right clean (after h) past held)
+          (one.left w right clean (after h) past held)
+          (before.secures parts.0 w right (first clean) h ok e s));
     }

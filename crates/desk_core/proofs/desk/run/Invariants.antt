@@ -23,9 +23,14 @@ invariant-loop-command g l =
       outlasts : Outlasts old new;
       alone : (w : Readings) → g.D.Desk.are_right w → AllSpareStore w l.commands l.outcomes.items;
       faults : MayAllBecome g.D.Desk.tells l.outcomes.items;
-      answers : InHistory g.D.Desk.are_right (λ w h. AreAnswers w h l.commands l.outcomes.items) old new;
-      content : InHistory g.D.Desk.are_right (λ w h. new.holds (tables w (history_after h l.commands l.outcomes.items))) old new;
-      history : InHistory g.D.Desk.are_right (λ w h. IsHistory w (history_after h l.commands l.outcomes.items)) old new;
+      answers : InHistory g.D.Desk.are_right (λ w h. AreAnswers w h l.commands l.outcomes.items) old
+          new;
+      content : InHistory g.D.Desk.are_right
+          (λ w h. new.holds (tables w (history_after h l.commands l.outcomes.items))) old new;
+      history : InHistory g.D.Desk.are_right
+          (λ w h. IsHistory w (history_after h l.commands l.outcomes.items)) old new;
       secures : list_all is_answered l.outcomes.items ≡ true → InHistory g.D.Desk.are_right
-          (λ w h. Secures g.D.Desk.stands (tables w h) old → Secures g.D.Desk.stands (tables w (history_after h l.commands l.outcomes.items)) new) old new;
+          (λ w h. Secures g.D.Desk.stands (tables w h) old
+          → Secures g.D.Desk.stands (tables w (history_after h l.commands l.outcomes.items)) new)
+          old new;
     }

@@ -15,15 +15,21 @@ use Rattle.desk_duties.proofs.freeze.freeze_open.Goals as goal
 pub returns-then-is_empty-clause-plan : goal.returns-then-is_empty-clause-plan
 returns-then-is_empty-clause-plan g c = λ w right h t held.
     let r : List ℕ = c.args.release.now in
-    let are : c.in_ok-attached.attached.items ≡ attached_to t.attached r = c.in_ok-attached.ensures.found h t held ∙ ap (attached_to t.attached) c.as_str.ensures in
-    let len : length c.in_ok-attached.attached.items ≡ vec_len c.in_ok-attached.attached = omega (arith, c.in_ok-attached.attached.ok) in
+    let are : c.in_ok-attached.attached.items ≡ attached_to t.attached r =
+    c.in_ok-attached.ensures.found h t held ∙ ap (attached_to t.attached) c.as_str.ensures in
+    let len : length c.in_ok-attached.attached.items ≡ vec_len c.in_ok-attached.attached =
+    omega (arith, c.in_ok-attached.attached.ok) in
     let none : (length (attached_to t.attached r) == 0) ≡ true =
-    ap (λ (xs : List AttachedRow). length xs == 0) (sym are) ∙ (ap (λ (n : ℕ). n == 0) len ∙ sym c.if-is_empty.ensures) in
-    subst (IsPlan (freeze_open_found w t r c.args.form.now) (freeze_change_found w t r c.args.form.now c.args.day)) (sym c.refused.ensures) (nothing_attached w t r c.args.form.now none)
+    ap (λ (xs : List AttachedRow). length xs == 0) (sym are)
+    ∙ (ap (λ (n : ℕ). n == 0) len ∙ sym c.if-is_empty.ensures) in
+    subst (IsPlan (freeze_open_found w t r c.args.form.now)
+    (freeze_change_found w t r c.args.form.now c.args.day)) (sym c.refused.ensures)
+    (nothing_attached w t r c.args.form.now none)
 
 pub returns-in-Some-clause-kept : goal.returns-in-Some-clause-kept
 returns-in-Some-clause-kept g c = (
-  same_then_same _ _ _ c.in_ok-attached.ensures.kept (same_then_same _ _ _ c.in_ok-packages.ensures.kept c.in_ok-refusal.ensures.kept),
+  same_then_same _ _ _ c.in_ok-attached.ensures.kept
+      (same_then_same _ _ _ c.in_ok-packages.ensures.kept c.in_ok-refusal.ensures.kept),
   subst IsSound (sym c.refused-in-Some.ensures) refl,
 )
 
@@ -36,13 +42,21 @@ returns-in-Some-clause-plan g c = λ w right h t held.
     let h2 = three.kept.kept.spared.honest h in
     let t1 = one.kept.kept.spared.holds t held in
     let rows : List AttachedRow = c.as_slice.result.now in
-    let are : rows ≡ attached_to t.attached r = c.as_slice.ensures.value ∙ (one.found (two.kept.kept.spared.honest h2) t held ∙ ap (attached_to t.attached) c.as_str.ensures) in
+    let are : rows ≡ attached_to t.attached r = c.as_slice.ensures.value
+    ∙ (one.found (two.kept.kept.spared.honest h2) t held
+    ∙ ap (attached_to t.attached) c.as_str.ensures) in
     let some : nat_lt 0 (length (attached_to t.attached r)) ≡ true =
-    ap (λ (xs : List AttachedRow). nat_lt 0 (length xs)) (sym are) ∙ filled (length rows) (ap (λ (n : ℕ). n == 0) c.as_slice.ensures.len ∙ sym c.if-is_empty.ensures) in
+    ap (λ (xs : List AttachedRow). nat_lt 0 (length xs)) (sym are)
+    ∙ filled (length rows) (ap (λ (n : ℕ). n == 0) c.as_slice.ensures.len
+    ∙ sym c.if-is_empty.ensures) in
     let ps : List PackageRow = c.as_slice-2.result.now in
-    let shipped : ps ≡ shipped_found t r = c.as_slice-2.ensures.value ∙ (two.found h2 t t1 ∙ ap (λ (xs : List AttachedRow). shipped_of xs t.packages) are) in
-    subst (IsPlan (freeze_open_found w t r c.args.form.now) (freeze_change_found w t r c.args.form.now c.args.day)) (sym c.refused-in-Some.ensures)
-    (freeze_refused w t r c.args.form.now ps (record { frozen = c.new.result; owed = c.new-2.result }) c.freeze_packages.new.gathered c.in_ok-refusal.field-0 c.in-Some.refusal some shipped
+    let shipped : ps ≡ shipped_found t r = c.as_slice-2.ensures.value
+    ∙ (two.found h2 t t1 ∙ ap (λ (xs : List AttachedRow). shipped_of xs t.packages) are) in
+    subst (IsPlan (freeze_open_found w t r c.args.form.now)
+    (freeze_change_found w t r c.args.form.now c.args.day)) (sym c.refused-in-Some.ensures)
+    (freeze_refused w t r c.args.form.now ps
+    (record { frozen = c.new.result; owed = c.new-2.result }) c.freeze_packages.new.gathered
+    c.in_ok-refusal.field-0 c.in-Some.refusal some shipped
     (three.gathered w right h t (two.kept.kept.spared.holds t t1)) c.in-Some.is)
 
 pub returns-clause-plan : goal.returns-clause-plan
@@ -53,27 +67,40 @@ returns-clause-plan g c = λ w right.
     let r : List ℕ = c.args.release.now in
     let form : List ℕ = c.args.form.now in
     let new = c.freeze_packages.new.gathered in
-    plan_after (g.S.Store.seen c.args.store.now) (g.S.Store.seen c.freeze_packages.new.store) (g.S.Store.seen c.freeze_gathered.new.store)
+    plan_after (g.S.Store.seen c.args.store.now) (g.S.Store.seen c.freeze_packages.new.store)
+    (g.S.Store.seen c.freeze_gathered.new.store)
     (λ t. freeze_fits (length t.duty) (length new.owed.items)) (λ t. freeze_open_found w t r form)
-    (λ t. froze_as t r c.args.day new.frozen.items new.owed.items) (λ t. freeze_change_found w t r form c.args.day)
+    (λ t. froze_as t r c.args.day new.frozen.items new.owed.items)
+    (λ t. freeze_change_found w t r form c.args.day)
     c.freeze_gathered.result
-    (same_then_same _ _ _ one.kept (same_then_same _ _ _ two.kept three.kept)) c.freeze_gathered.ensures.kept
+    (same_then_same _ _ _ one.kept (same_then_same _ _ _ two.kept three.kept))
+    c.freeze_gathered.ensures.kept
     (λ h t held.
     let h2 = three.kept.kept.spared.honest h in
     let t1 = one.kept.kept.spared.holds t held in
     let rows : List AttachedRow = c.as_slice.result.now in
-    let are : rows ≡ attached_to t.attached r = c.as_slice.ensures.value ∙ (one.found (two.kept.kept.spared.honest h2) t held ∙ ap (attached_to t.attached) c.as_str.ensures) in
+    let are : rows ≡ attached_to t.attached r = c.as_slice.ensures.value
+    ∙ (one.found (two.kept.kept.spared.honest h2) t held
+    ∙ ap (attached_to t.attached) c.as_str.ensures) in
     let some : nat_lt 0 (length (attached_to t.attached r)) ≡ true =
-    ap (λ (xs : List AttachedRow). nat_lt 0 (length xs)) (sym are) ∙ filled (length rows) (ap (λ (n : ℕ). n == 0) c.as_slice.ensures.len ∙ sym c.if-is_empty.ensures) in
+    ap (λ (xs : List AttachedRow). nat_lt 0 (length xs)) (sym are)
+    ∙ filled (length rows) (ap (λ (n : ℕ). n == 0) c.as_slice.ensures.len
+    ∙ sym c.if-is_empty.ensures) in
     let ps : List PackageRow = c.as_slice-2.result.now in
-    let shipped : ps ≡ shipped_found t r = c.as_slice-2.ensures.value ∙ (two.found h2 t t1 ∙ ap (λ (xs : List AttachedRow). shipped_of xs t.packages) are) in
+    let shipped : ps ≡ shipped_found t r = c.as_slice-2.ensures.value
+    ∙ (two.found h2 t t1 ∙ ap (λ (xs : List AttachedRow). shipped_of xs t.packages) are) in
     let fits : Fits w t r form c.args.day new =
-    freeze_fitting w t r form c.args.day ps (record { frozen = c.new.result; owed = c.new-2.result }) new c.in_ok-refusal.field-0 some shipped c.new.ensures.items c.new-2.ensures.items
+    freeze_fitting w t r form c.args.day ps
+    (record { frozen = c.new.result; owed = c.new-2.result }) new c.in_ok-refusal.field-0 some
+    shipped c.new.ensures.items c.new-2.ensures.items
     (three.gathered w right h t (two.kept.kept.spared.holds t t1)) c.in_default.is in
     (fits.answer, fits.rows))
     c.freeze_gathered.ensures.plan
 
 pub returns-clause-kept : goal.returns-clause-kept
 returns-clause-kept g c =
-    plans_after (g.S.Store.seen c.args.store.now) (g.S.Store.seen c.freeze_packages.new.store) (g.S.Store.seen c.freeze_gathered.new.store) c.freeze_gathered.result
-    (same_then_same _ _ _ c.in_ok-attached.ensures.kept (same_then_same _ _ _ c.in_ok-packages.ensures.kept c.in_ok-refusal.ensures.kept)) c.freeze_gathered.ensures.kept
+    plans_after (g.S.Store.seen c.args.store.now) (g.S.Store.seen c.freeze_packages.new.store)
+    (g.S.Store.seen c.freeze_gathered.new.store) c.freeze_gathered.result
+    (same_then_same _ _ _ c.in_ok-attached.ensures.kept
+    (same_then_same _ _ _ c.in_ok-packages.ensures.kept c.in_ok-refusal.ensures.kept))
+    c.freeze_gathered.ensures.kept

@@ -10,5 +10,7 @@ invariant-loop-term g l =
     let new = g.S.Store.seen l.store in
     record {
       same : Same old new;
-      rest : (w : Readings) → g.T.Texts.are_right w → OfRows (λ t. first_unadopted w t.adoption l.document (drop l.term-index l.terms) ≡ first_unadopted w t.adoption l.document l.terms) old new;
+      rest : (w : Readings) → g.T.Texts.are_right w
+          → OfRows (λ t. first_unadopted w t.adoption l.document (drop l.term-index l.terms)
+          ≡ first_unadopted w t.adoption l.document l.terms) old new;
     }

@@ -13,11 +13,13 @@ returns-in-Some-clause-gathered g c =
     let ps : List PackageRow = c.args.packages.now in
     let i : ℕ = c.loop-row.row-index in
     let p : PackageRow = c.row-item.result in
-    let split : drop i ps ≡ p ∷ drop (i + 1) ps = drop_item ps i p c.loop-row-test.true c.row-item.is in
+    let split : drop i ps ≡ p ∷ drop (i + 1) ps =
+    drop_item ps i p c.loop-row-test.true c.row-item.is in
     let one = c.in_ok-refusal.ensures in
     λ w right h t held.
     sym (c.loop-row.invariant.gathered w right (one.kept.kept.spared.honest h) t held).walked
-    ∙ walk_fails w t form r (drop i ps) (drop (i + 1) ps) p c.loop-row.gathered c.freeze_package.new.gathered c.in_ok-refusal.field-0 c.in-Some.refusal split
+    ∙ walk_fails w t form r (drop i ps) (drop (i + 1) ps) p c.loop-row.gathered
+    c.freeze_package.new.gathered c.in_ok-refusal.field-0 c.in-Some.refusal split
     (one.gathered w right h t (c.loop-row.invariant.same.kept.spared.holds t held)) c.in-Some.is
 
 pub loop-row-preserved : goal.loop-row-preserved
@@ -33,15 +35,24 @@ loop-row-preserved g c =
     record {
       same = same_then_same _ _ _ c.loop-row.invariant.same one.kept;
       gathered = λ w right h t held.
-          let before = c.loop-row.invariant.gathered w right (one.kept.kept.spared.honest h) t held in
-          let on : PackagesOn w t form r (drop i ps) rest p c.loop-row.gathered c.freeze_package.new.gathered =
-          packages_on w t form r (drop i ps) rest p c.loop-row.gathered c.freeze_package.new.gathered c.in_ok-refusal.field-0 split
-          (one.gathered w right h t (c.loop-row.invariant.same.kept.spared.holds t held)) c.in_default.is in
+          let before = c.loop-row.invariant.gathered w right (one.kept.kept.spared.honest h) t
+          held in
+          let on : PackagesOn w t form r (drop i
+          ps) rest p c.loop-row.gathered c.freeze_package.new.gathered =
+          packages_on w t form r (drop i ps) rest p c.loop-row.gathered
+          c.freeze_package.new.gathered c.in_ok-refusal.field-0 split
+          (one.gathered w right h t (c.loop-row.invariant.same.kept.spared.holds t held))
+          c.in_default.is in
           record {
             walked = sym on.walked ∙ before.walked;
-            frozen = more_of c.loop-row.gathered.frozen.items c.freeze_package.new.gathered.frozen.items _
-                (frozen_for w t.adoption (rules_found t) form r (choice_found t r) (drop i ps)) (frozen_for w t.adoption (rules_found t) form r (choice_found t r) rest) _ on.new_frozen on.frozen before.frozen;
+            frozen = more_of c.loop-row.gathered.frozen.items
+                c.freeze_package.new.gathered.frozen.items _
+                (frozen_for w t.adoption (rules_found t) form r (choice_found t r) (drop i ps))
+                (frozen_for w t.adoption (rules_found t) form r (choice_found t r) rest) _
+                on.new_frozen on.frozen before.frozen;
             owed = more_of c.loop-row.gathered.owed.items c.freeze_package.new.gathered.owed.items _
-                (owed_for w t.adoption (rules_found t) form r (choice_found t r) (drop i ps)) (owed_for w t.adoption (rules_found t) form r (choice_found t r) rest) _ on.new_owed on.owed before.owed;
+                (owed_for w t.adoption (rules_found t) form r (choice_found t r) (drop i ps))
+                (owed_for w t.adoption (rules_found t) form r (choice_found t r) rest) _ on.new_owed
+                on.owed before.owed;
           };
     }

@@ -14,8 +14,18 @@ invariant-loop-row g l =
     record {
       same : Same old new;
       gathered : (w : Readings) → g.T.Texts.are_right w → OfRows (λ t. record {
-        walked : walk w t.adoption (rules_found t) l.freezing.form.now (conclusion_found w t) (choice_found t l.freezing.release.now) rest ≡ walk w t.adoption (rules_found t) l.freezing.form.now (conclusion_found w t) (choice_found t l.freezing.release.now) l.packages;
-        frozen : l.gathered.frozen.items ++ frozen_for w t.adoption (rules_found t) l.freezing.form.now l.freezing.release.now (choice_found t l.freezing.release.now) rest ≡ l.fn.gathered.frozen.items ++ frozen_for w t.adoption (rules_found t) l.freezing.form.now l.freezing.release.now (choice_found t l.freezing.release.now) l.packages;
-        owed : l.gathered.owed.items ++ owed_for w t.adoption (rules_found t) l.freezing.form.now l.freezing.release.now (choice_found t l.freezing.release.now) rest ≡ l.fn.gathered.owed.items ++ owed_for w t.adoption (rules_found t) l.freezing.form.now l.freezing.release.now (choice_found t l.freezing.release.now) l.packages;
+        walked : walk w t.adoption (rules_found t) l.freezing.form.now (conclusion_found w t)
+            (choice_found t l.freezing.release.now) rest
+            ≡ walk w t.adoption (rules_found t) l.freezing.form.now (conclusion_found w t)
+            (choice_found t l.freezing.release.now) l.packages;
+        frozen : l.gathered.frozen.items
+            ++ frozen_for w t.adoption (rules_found t) l.freezing.form.now l.freezing.release.now
+            (choice_found t l.freezing.release.now) rest ≡ l.fn.gathered.frozen.items
+            ++ frozen_for w t.adoption (rules_found t) l.freezing.form.now l.freezing.release.now
+            (choice_found t l.freezing.release.now) l.packages;
+        owed : l.gathered.owed.items ++ owed_for w t.adoption (rules_found t) l.freezing.form.now
+            l.freezing.release.now (choice_found t l.freezing.release.now) rest
+            ≡ l.fn.gathered.owed.items ++ owed_for w t.adoption (rules_found t) l.freezing.form.now
+            l.freezing.release.now (choice_found t l.freezing.release.now) l.packages;
       }) old new;
     }

@@ -15,11 +15,14 @@ returns-in-Some-clause-gathered g c =
     let terms : List (List ℕ) = c.args.terms.now in
     let i : ℕ = c.loop-term.term-index in
     let term : List ℕ = c.term-item.result in
-    let split : drop i terms ≡ term ∷ drop (i + 1) terms = drop_item terms i term c.loop-term-test.true c.term-item.is in
+    let split : drop i terms ≡ term ∷ drop (i + 1) terms =
+    drop_item terms i term c.loop-term-test.true c.term-item.is in
     let one = c.in_ok-refusal.ensures in
     λ w right h t held.
-    sym {a = first_unruled w t.adoption (rules_found t) form p (drop i terms)} (c.loop-term.invariant.gathered w right (one.kept.kept.spared.honest h) t held).unruled
-    ∙ terms_fail w t.adoption (rules_found t) form r p (drop i terms) (drop (i + 1) terms) term c.loop-term.gathered c.freeze_term.new.gathered c.in_ok-refusal.field-0 c.in-Some.refusal split
+    sym {a = first_unruled w t.adoption (rules_found t) form p (drop i terms)}
+    (c.loop-term.invariant.gathered w right (one.kept.kept.spared.honest h) t held).unruled
+    ∙ terms_fail w t.adoption (rules_found t) form r p (drop i terms) (drop (i + 1) terms) term
+    c.loop-term.gathered c.freeze_term.new.gathered c.in_ok-refusal.field-0 c.in-Some.refusal split
     (one.gathered w right h t (c.loop-term.invariant.same.kept.spared.holds t held)) c.in-Some.is
 
 pub loop-term-preserved : goal.loop-term-preserved
@@ -31,20 +34,30 @@ loop-term-preserved g c =
     let i : ℕ = c.loop-term.term-index in
     let term : List ℕ = c.term-item.result in
     let rest : List (List ℕ) = drop (i + 1) terms in
-    let split : drop i terms ≡ term ∷ rest = drop_item terms i term c.loop-term-test.true c.term-item.is in
+    let split : drop i terms ≡ term ∷ rest =
+    drop_item terms i term c.loop-term-test.true c.term-item.is in
     let one = c.in_ok-refusal.ensures in
     record {
       same = same_then_same _ _ _ c.loop-term.invariant.same one.kept;
       gathered = λ w right h t held.
-          let before = c.loop-term.invariant.gathered w right (one.kept.kept.spared.honest h) t held in
-          let on : TermsOn w t.adoption (rules_found t) form r p (drop i terms) rest term c.loop-term.gathered c.freeze_term.new.gathered =
-          terms_on w t.adoption (rules_found t) form r p (drop i terms) rest term c.loop-term.gathered c.freeze_term.new.gathered c.in_ok-refusal.field-0 split
-          (one.gathered w right h t (c.loop-term.invariant.same.kept.spared.holds t held)) c.in_default.is in
+          let before = c.loop-term.invariant.gathered w right (one.kept.kept.spared.honest h) t
+          held in
+          let on : TermsOn w t.adoption (rules_found t) form r p (drop i
+          terms) rest term c.loop-term.gathered c.freeze_term.new.gathered =
+          terms_on w t.adoption (rules_found t) form r p (drop i terms) rest term
+          c.loop-term.gathered c.freeze_term.new.gathered c.in_ok-refusal.field-0 split
+          (one.gathered w right h t (c.loop-term.invariant.same.kept.spared.holds t held))
+          c.in_default.is in
           record {
             unruled = sym on.unruled ∙ before.unruled;
-            frozen = more_of c.loop-term.gathered.frozen.items c.freeze_term.new.gathered.frozen.items _
-                (frozen_for_terms w t.adoption (rules_found t) form r p (drop i terms)) (frozen_for_terms w t.adoption (rules_found t) form r p rest) _ on.new_frozen on.frozen before.frozen;
+            frozen = more_of c.loop-term.gathered.frozen.items
+                c.freeze_term.new.gathered.frozen.items _
+                (frozen_for_terms w t.adoption (rules_found t) form r p (drop i terms))
+                (frozen_for_terms w t.adoption (rules_found t) form r p rest) _ on.new_frozen
+                on.frozen before.frozen;
             owed = more_of c.loop-term.gathered.owed.items c.freeze_term.new.gathered.owed.items _
-                (owed_for_terms w t.adoption (rules_found t) form r p (drop i terms)) (owed_for_terms w t.adoption (rules_found t) form r p rest) _ on.new_owed on.owed before.owed;
+                (owed_for_terms w t.adoption (rules_found t) form r p (drop i terms))
+                (owed_for_terms w t.adoption (rules_found t) form r p rest) _ on.new_owed on.owed
+                before.owed;
           };
     }

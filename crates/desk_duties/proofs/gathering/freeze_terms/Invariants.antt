@@ -14,8 +14,16 @@ invariant-loop-term g l =
     record {
       same : Same old new;
       gathered : (w : Readings) → g.T.Texts.are_right w → OfRows (λ t. record {
-        unruled : first_unruled w t.adoption (rules_found t) l.freezing.form.now l.row rest ≡ first_unruled w t.adoption (rules_found t) l.freezing.form.now l.row l.terms;
-        frozen : l.gathered.frozen.items ++ frozen_for_terms w t.adoption (rules_found t) l.freezing.form.now l.freezing.release.now l.row rest ≡ l.fn.gathered.frozen.items ++ frozen_for_terms w t.adoption (rules_found t) l.freezing.form.now l.freezing.release.now l.row l.terms;
-        owed : l.gathered.owed.items ++ owed_for_terms w t.adoption (rules_found t) l.freezing.form.now l.freezing.release.now l.row rest ≡ l.fn.gathered.owed.items ++ owed_for_terms w t.adoption (rules_found t) l.freezing.form.now l.freezing.release.now l.row l.terms;
+        unruled : first_unruled w t.adoption (rules_found t) l.freezing.form.now l.row rest
+            ≡ first_unruled w t.adoption (rules_found t) l.freezing.form.now l.row l.terms;
+        frozen : l.gathered.frozen.items
+            ++ frozen_for_terms w t.adoption (rules_found t) l.freezing.form.now
+            l.freezing.release.now l.row rest ≡ l.fn.gathered.frozen.items
+            ++ frozen_for_terms w t.adoption (rules_found t) l.freezing.form.now
+            l.freezing.release.now l.row l.terms;
+        owed : l.gathered.owed.items ++ owed_for_terms w t.adoption (rules_found t)
+            l.freezing.form.now l.freezing.release.now l.row rest ≡ l.fn.gathered.owed.items
+            ++ owed_for_terms w t.adoption (rules_found t) l.freezing.form.now
+            l.freezing.release.now l.row l.terms;
       }) old new;
     }

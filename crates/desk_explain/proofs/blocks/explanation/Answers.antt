@@ -7,8 +7,11 @@ use Rattle.desk_explain.proofs.blocks.explanation.Goals as goal
 
 pub loop-entry-preserved : goal.loop-entry-preserved
 loop-entry-preserved c =
-    joined_at block c.args.entries.now c.loop-entry.entry-index _ (string_bytes c.loop-entry.text) (string_bytes c.add_block.new.text)
+    joined_at block c.args.entries.now c.loop-entry.entry-index _ (string_bytes c.loop-entry.text)
+    (string_bytes c.add_block.new.text)
     c.loop-entry-test.true c.loop-entry.invariant c.in_ok-add_block.ensures
 
 pub returns : goal.returns
-returns c = c.loop-entry.invariant ∙ ap (flat_map block) (take_all c.loop-entry.entry-index c.args.entries.now c.loop-entry-test.false)
+returns c = c.loop-entry.invariant
+    ∙ ap (flat_map block) (take_all c.loop-entry.entry-index c.args.entries.now
+    c.loop-entry-test.false)

@@ -11,11 +11,14 @@ loop-entry-preserved c =
     elim c.if-eq.branch [
       | then-eq+in_ok-push w ↦
           ap (λ v. v.items) w.found-is
-          ∙ passing_at p c.args.table.now c.loop-entry.entry-index _ c.loop-entry-test.true c.args.found.now.items c.loop-entry.found.items
-          c.loop-entry.invariant w.push.new.self.items (sym w.if-eq.ensures) w.in_ok-push.ensures.items
+          ∙ passing_at p c.args.table.now c.loop-entry.entry-index _ c.loop-entry-test.true
+          c.args.found.now.items c.loop-entry.found.items
+          c.loop-entry.invariant w.push.new.self.items (sym w.if-eq.ensures)
+          w.in_ok-push.ensures.items
       | else-eq w ↦
           ap (λ v. v.items) w.found-is
-          ∙ failing_at p c.args.table.now c.loop-entry.entry-index _ c.loop-entry-test.true c.args.found.now.items c.loop-entry.found.items
+          ∙ failing_at p c.args.table.now c.loop-entry.entry-index _ c.loop-entry-test.true
+          c.args.found.now.items c.loop-entry.found.items
           c.loop-entry.invariant (sym w.if-eq.ensures)
     ]
 

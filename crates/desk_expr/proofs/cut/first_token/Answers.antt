@@ -16,8 +16,10 @@ returns-clause-some c =
       blanks = take n rest;
       only_blanks = c.blanks_end-skipped.ensures.only;
       cut = sym (take-append-drop n rest) ∙ ap (λ l. take n rest ++ l) (sym outer.back ∙ sym whole);
-      start = ap (λ k. c.args.place + k) (sym (length-take-le n rest c.blanks_end-skipped.ensures.cut.0));
+      start = ap (λ k. c.args.place + k)
+          (sym (length-take-le n rest c.blanks_end-skipped.ensures.cut.0));
       end = ap (λ k. c.args.place + n + k) (sym inner.front_len);
-      piece = subst (λ x. IsPiece x c.split_at-2.result.1.now) (sym inner.front) (subst (λ x. IsPiece (take m from) x) (sym inner.back) c.piece_end-size.ensures.piece);
+      piece = subst (λ x. IsPiece x c.split_at-2.result.1.now) (sym inner.front)
+          (subst (λ x. IsPiece (take m from) x) (sym inner.back) c.piece_end-size.ensures.piece);
       kind = c.kind_by.ensures;
     }

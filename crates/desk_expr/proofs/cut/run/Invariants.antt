@@ -4,7 +4,11 @@ use Rattle.desk_expr.specs.Tokens.{is_run_byte}
 use Rattle.desk_expr.proofs.cut.run.Given as goal
 
 abbrev pub invariant-loop-n : goal.invariant-loop-n
-invariant-loop-n l = record { within : l.n ≤ length l.bytes; run : (i : ℕ) → i < l.n → IsTrue (is_run_byte (get_or l.bytes i 0)) }
+invariant-loop-n l = record {
+  within : l.n ≤ length l.bytes;
+  run : (i : ℕ) → i < l.n
+      → IsTrue (is_run_byte (get_or l.bytes i 0));
+}
 
 abbrev pub decreases-loop-n : goal.decreases-loop-n
 decreases-loop-n l = length l.bytes - l.n

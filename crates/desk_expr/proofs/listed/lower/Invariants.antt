@@ -7,7 +7,8 @@ abbrev pub invariant-loop-low : goal.invariant-loop-low
 invariant-loop-low l = record {
   ordered : l.low ≤ l.high;
   within : l.high ≤ length l.own;
-  left : (n : ℕ) × (l.high - l.low ≤ n) × (lower_by n l.own l.term l.low l.high ≡ lower_in l.own l.term);
+  left : (n : ℕ) × (l.high - l.low ≤ n)
+      × (lower_by n l.own l.term l.low l.high ≡ lower_in l.own l.term);
 }
 
 abbrev pub decreases-loop-low : goal.decreases-loop-low

@@ -19,12 +19,19 @@ pub returns-clause-terms : goal.returns-clause-terms
 returns-clause-terms c =
     let is = dedup_is _ _ _ c.dedup.ensures.filtered in
     let moved = c.in_ok-sort.ensures.permutation in
-    let ordered = IsStrictlySortedBy-dedup total-law matches_eq-law c.sort.new.self.items c.in_ok-sort.ensures.sorted in
-    let got : c.collect_terms.new.terms.items ≡ leaves c.args.expr.now = c.in_ok-collect_terms.ensures.added ∙ ap (λ l. l ++ leaves c.args.expr.now) c.new-terms.ensures.items in
+    let ordered = IsStrictlySortedBy-dedup total-law matches_eq-law c.sort.new.self.items
+    c.in_ok-sort.ensures.sorted in
+    let got : c.collect_terms.new.terms.items ≡ leaves c.args.expr.now =
+    c.in_ok-collect_terms.ensures.added
+    ∙ ap (λ l. l ++ leaves c.args.expr.now) c.new-terms.ensures.items in
     record {
       members = λ t. (
-        (λ h. subst (λ l. Contains l t) got (Contains-permutation _ _ t (IsPermutation-sym _ _ moved) (Contains-from_dedup _ _ t (subst (λ l. Contains l t) is h)))),
-        (λ h. subst (λ l. Contains l t) (sym is) (Contains-dedup laws-law same c.sort.new.self.items t (Contains-permutation _ _ t moved (subst (λ l. Contains l t) (sym got) h)))),
+        (λ h. subst (λ l. Contains l t) got
+            (Contains-permutation _ _ t (IsPermutation-sym _ _ moved)
+            (Contains-from_dedup _ _ t (subst (λ l. Contains l t) is h)))),
+        (λ h. subst (λ l. Contains l t) (sym is)
+            (Contains-dedup laws-law same c.sort.new.self.items t
+            (Contains-permutation _ _ t moved (subst (λ l. Contains l t) (sym got) h)))),
       );
       ordered = subst (IsStrictlySortedBy term_order) (sym is) ordered;
     }
@@ -32,5 +39,8 @@ returns-clause-terms c =
 pub returns-clause-well_formed : goal.returns-clause-well_formed
 returns-clause-well_formed c =
     let is = dedup_is _ _ _ c.dedup.ensures.filtered in
-    let none = subst (All (λ t. IsTrue (is_term t))) (sym c.new-terms.ensures.items) (λ k d lt. absurd (omega arith)) in
-    rw is (All-dedup _ (λ t. IsTrue (is_term t)) _ (All-permutation (λ t. IsTrue (is_term t)) _ _ c.in_ok-sort.ensures.permutation (c.in_ok-collect_terms.ensures.well_formed none)))
+    let none = subst (All (λ t. IsTrue (is_term t))) (sym c.new-terms.ensures.items)
+    (λ k d lt. absurd (omega arith)) in
+    rw is (All-dedup _ (λ t. IsTrue (is_term t)) _
+    (All-permutation (λ t. IsTrue (is_term t)) _ _ c.in_ok-sort.ensures.permutation
+    (c.in_ok-collect_terms.ensures.well_formed none)))

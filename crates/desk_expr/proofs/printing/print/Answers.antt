@@ -7,5 +7,7 @@ use Rattle.desk_expr.proofs.printing.print.Goals as goal
 
 pub returns-clause-spells : goal.returns-clause-spells
 returns-clause-spells c =
-    let is : string_bytes c.add_to.new.text ≡ printed c.args.expr.now = c.in_ok-add_to.ensures.text ∙ ap (λ l. l ++ printed c.args.expr.now) c.new-text.ensures.bytes in
-    subst (λ l. Spells l c.args.expr.now) (sym is) (printed_spells c.args.expr.now c.in_ok-add_to.ensures.well_formed)
+    let is : string_bytes c.add_to.new.text ≡ printed c.args.expr.now = c.in_ok-add_to.ensures.text
+    ∙ ap (λ l. l ++ printed c.args.expr.now) c.new-text.ensures.bytes in
+    subst (λ l. Spells l c.args.expr.now) (sym is)
+    (printed_spells c.args.expr.now c.in_ok-add_to.ensures.well_formed)

@@ -4,7 +4,11 @@ use Rattle.desk_expr.proofs.truth.check_choice.Given as goal
 
 -- no term before the place can go
 abbrev pub invariant-loop-from : goal.invariant-loop-from
-invariant-loop-from l = record { within : l.from ≤ length l.chosen; kept : (j : ℕ) → j < l.from → CanGo l.chosen l.expr j → ⊥ }
+invariant-loop-from l = record {
+  within : l.from ≤ length l.chosen;
+  kept : (j : ℕ) → j < l.from
+      → CanGo l.chosen l.expr j → ⊥;
+}
 
 abbrev pub decreases-loop-from : goal.decreases-loop-from
 decreases-loop-from l = length l.chosen - l.from

@@ -7,8 +7,11 @@ use Rattle.desk_expr.proofs.truth.first_to_go.Goals as goal
 
 pub returns-in_err-first-clause-none : goal.returns-in_err-first-clause-none
 returns-in_err-first-clause-none c =
-    subst (λ r. IfNone r ((j place : ℕ) → slice_get c.args.candidates.now j ≡ Some place → CanGo c.args.listed.chosen.now c.args.expr.now place → ⊥)) (sym c.from_residual.ensures)
-    (λ j place at go. c.in_err-first.ensures.none j (slice_get_within c.args.candidates.now j place at) ((c.holds_without-marks.ensures j place go.0 at go.1).1 go.2))
+    subst (λ r. IfNone r ((j place : ℕ) → slice_get c.args.candidates.now j ≡ Some place
+    → CanGo c.args.listed.chosen.now c.args.expr.now place → ⊥)) (sym c.from_residual.ensures)
+    (λ j place at go. c.in_err-first.ensures.none j
+    (slice_get_within c.args.candidates.now j place at)
+    ((c.holds_without-marks.ensures j place go.0 at go.1).1 go.2))
 
 pub returns-clause-found : goal.returns-clause-found
 returns-clause-found c =
@@ -23,5 +26,6 @@ returns-clause-found c =
       k = k;
       at = at;
       goes = (term.0, term.1, (c.holds_without-marks.ensures k place term.0 at term.1).0 found.1);
-      first = λ j p before at' go. c.in_ok-first.ensures.first j before ((c.holds_without-marks.ensures j p go.0 at' go.1).1 go.2);
+      first = λ j p before at' go. c.in_ok-first.ensures.first j before
+          ((c.holds_without-marks.ensures j p go.0 at' go.1).1 go.2);
     }

@@ -7,6 +7,7 @@ use Rattle.desk_expr.proofs.truth.others.Given as goal
 -- the bits below the index are right for the candidates there, and no bit is set from it on
 abbrev pub invariant-loop-k : goal.invariant-loop-k
 invariant-loop-k l = record {
-  told : (j place : ℕ) (gone : Term) → j < l.k → slice_get l.candidates j ≡ Some place → slice_get l.chosen place ≡ Some gone → (bit_at l.marks j ≡ 1) ↔ (l.term ≢ gone);
+  told : (j place : ℕ) (gone : Term) → j < l.k → slice_get l.candidates j ≡ Some place
+      → slice_get l.chosen place ≡ Some gone → (bit_at l.marks j ≡ 1) ↔ (l.term ≢ gone);
   unset : (j : ℕ) → l.k < j + 1 → bit_at l.marks j ≡ 0;
 }

@@ -10,4 +10,5 @@ split_at-requires c =
 
 pub new-requires : goal.new-requires
 new-requires c =
-    or_later_is_term c.args.text.now c.in_ok-key.key (c.in_ok-key.ensures.ok ∙ ap folded c.split_at.ensures.front) c.requires
+    or_later_is_term c.args.text.now c.in_ok-key.key
+    (c.in_ok-key.ensures.ok ∙ ap folded c.split_at.ensures.front) c.requires

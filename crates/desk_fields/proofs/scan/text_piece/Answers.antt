@@ -17,8 +17,11 @@ returns-then-is_empty-clause-ok c =
       piece = text front o.0 value [];
       end = Nothing;
       begins = record {
-        cut = subst (λ m. c.args.text.now ≡ bytes_of (text front o.0 value []) ++ m) (sym none) (text_cut c.args.text.now front o.0 c.args.inner.now value c.in-Some.more.now [] [] o.2 c.in-Some.ensures.some.0 none);
-        ends = subst (λ m. Ends (bytes_of (text front o.0 value [])) Nothing m) (sym none) (last_closed front o.0 value);
+        cut = subst (λ m. c.args.text.now ≡ bytes_of (text front o.0 value []) ++ m) (sym none)
+            (text_cut c.args.text.now front o.0 c.args.inner.now value c.in-Some.more.now [] [] o.2
+            c.in-Some.ensures.some.0 none);
+        ends = subst (λ m. Ends (bytes_of (text front o.0 value [])) Nothing m) (sym none)
+            (last_closed front o.0 value);
         piece = (c.requires.tagged, o.1, c.in-Some.ensures.some.1, refl);
       };
       next = ap (λ n. c.args.line + n + 1) c.line_feeds-feeds.ensures.value;
@@ -39,7 +42,8 @@ returns-clause-ok c =
       piece = text front o.0 value tail;
       end = end;
       begins = record {
-        cut = text_cut c.args.text.now front o.0 c.args.inner.now value c.in-Some.more.now tail (end_bytes end ++ rest) o.2 c.in-Some.ensures.some.0 line.cut;
+        cut = text_cut c.args.text.now front o.0 c.args.inner.now value c.in-Some.more.now tail
+            (end_bytes end ++ rest) o.2 c.in-Some.ensures.some.0 line.cut;
         ends = ends_closed front o.0 value tail end rest line.ends;
         piece = (c.requires.tagged, o.1, c.in-Some.ensures.some.1, blank);
       };

@@ -8,4 +8,5 @@ use Rattle.desk_base.specs.Bytes.{is_blank}
 pub returns-clause-cut : goal.returns-clause-cut
 returns-clause-cut c =
     let is = c.as_bytes.ensures.value in
-    subst (IsCharBoundary c.args.text.now) (sym (c.blanks.ensures ∙ ap (prefix_len is_blank) is)) (blanks_cut c.args.text.now c.utf8.text)
+    subst (IsCharBoundary c.args.text.now) (sym (c.blanks.ensures ∙ ap (prefix_len is_blank) is))
+    (blanks_cut c.args.text.now c.utf8.text)

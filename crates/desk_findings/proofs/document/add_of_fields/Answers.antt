@@ -15,11 +15,16 @@ loop-entry-preserved c =
       same = c.loop-entry.invariant.same;
       told = c.in_ok-add_of_field.ensures.told;
       rest = λ reads is.
-          field_more (field_findings reads (state_in c.args.known.now.states.items) (document_text c.args.document.now)) c.loop-entry.section c.section_after-section.result p c.if-is.packages c.as_slice-entries.result.now c.loop-entry.entry-index _ c.loop-entry.found.items c.add_of_field.new.found.items c.loop-entry-test.true
+          field_more (field_findings reads (state_in c.args.known.now.states.items)
+          (document_text c.args.document.now)) c.loop-entry.section c.section_after-section.result p
+          c.if-is.packages c.as_slice-entries.result.now c.loop-entry.entry-index _
+          c.loop-entry.found.items c.add_of_field.new.found.items c.loop-entry-test.true
           c.section_after-section.ensures
           (elim c.if-is.branch [
-            | then-is w ↦ w.packages-is ∙ ap (λ b. if b then p + 1 else p) (sym w.if-is.true ∙ c.is.ensures)
-            | else-is w ↦ w.packages-is ∙ ap (λ b. if b then p + 1 else p) (sym w.if-is.false ∙ c.is.ensures)
+            | then-is w ↦ w.packages-is ∙ ap (λ b. if b then p + 1 else p)
+                (sym w.if-is.true ∙ c.is.ensures)
+            | else-is w ↦ w.packages-is ∙ ap (λ b. if b then p + 1 else p)
+                (sym w.if-is.false ∙ c.is.ensures)
           ])
           (c.in_ok-add_of_field.ensures.found reads is c.requires)
           ∙ c.loop-entry.invariant.rest reads is;

@@ -18,6 +18,10 @@ invariant-loop-entry l = record {
   same : l.entries ≡ l.document.entries;
   told : IfSome l.last (IsTold l.known.profile l.known.defined);
   rest : (reads : List ℕ → Option Tree) → IsReading l.known.profile reads
-      → l.found.items ++ flat_map (field_findings reads (state_in l.known.states.items) (document_text l.document)) (fields_in l.section l.packages (map entry_text (drop l.entry-index l.entries)))
-      ≡ l.fn.found.items ++ flat_map (field_findings reads (state_in l.known.states.items) (document_text l.document)) (fields_in sections.Document 0 (map entry_text l.entries));
+      → l.found.items ++ flat_map (field_findings reads (state_in l.known.states.items)
+      (document_text l.document)) (fields_in l.section l.packages
+      (map entry_text (drop l.entry-index l.entries)))
+      ≡ l.fn.found.items ++ flat_map
+      (field_findings reads (state_in l.known.states.items) (document_text l.document))
+      (fields_in sections.Document 0 (map entry_text l.entries));
 }

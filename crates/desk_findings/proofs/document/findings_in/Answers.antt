@@ -11,6 +11,9 @@ pub returns : goal.returns
 returns c = λ reads is. record {
   state = state_in c.in_ok-known.known.states.items;
   states = c.in_ok-known.ensures.states;
-  each = subst (λ l. IsPermutation l c.sort_unstable_by_key.new.self.items) (c.in_ok-found.ensures reads (subst (λ p. IsReading p reads) (sym c.in_ok-known.ensures.profile) is)) c.sort_unstable_by_key.ensures.permutation;
-  ordered = c.sort_unstable_by_key.ensures.sorted (λ (f : Finding). finding_key f) (always_returns_same _ (λ a r. r ≡ finding_key a.0.now) _ (λ a r q k. search rules));
+  each = subst (λ l. IsPermutation l c.sort_unstable_by_key.new.self.items)
+      (c.in_ok-found.ensures reads (subst (λ p. IsReading p reads)
+      (sym c.in_ok-known.ensures.profile) is)) c.sort_unstable_by_key.ensures.permutation;
+  ordered = c.sort_unstable_by_key.ensures.sorted (λ (f : Finding). finding_key f)
+      (always_returns_same _ (λ a r. r ≡ finding_key a.0.now) _ (λ a r q k. search rules));
 }

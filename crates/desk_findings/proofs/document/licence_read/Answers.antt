@@ -10,5 +10,6 @@ returns-in_ok-uses_undefined_in-in-Some c =
     let same = same_tag c.args.tag tags.PackageConcluded in
     record {
       bad = λ reads is. ap is_none (sym c.in-Some.is ∙ c.in_ok-expr.ensures reads is);
-      undefined = λ reads is d known. c.in_ok-uses_undefined_in-in-Some.ensures d known ∙ ap (λ o. same && uses_undefined d o) (sym c.in-Some.is ∙ c.in_ok-expr.ensures reads is);
+      undefined = λ reads is d known. c.in_ok-uses_undefined_in-in-Some.ensures d known
+          ∙ ap (λ o. same && uses_undefined d o) (sym c.in-Some.is ∙ c.in_ok-expr.ensures reads is);
     }

@@ -8,5 +8,6 @@ use Rattle.desk_findings.proofs.document.states_in.Given as goal
 abbrev pub invariant-loop-place : goal.invariant-loop-place
 invariant-loop-place l = record {
   count : length l.states.items ≡ l.place;
-  states : (k : ℕ) → k < l.place → IsState (document_text l.document) k (slice_index_or l.states.items k state.Absent);
+  states : (k : ℕ) → k < l.place
+      → IsState (document_text l.document) k (slice_index_or l.states.items k state.Absent);
 }

@@ -7,10 +7,13 @@ use Rattle.desk_findings.proofs.expression.is_undefined.Goals as goal
 pub returns-in-Some : goal.returns-in-Some
 returns-in-Some c = λ d known.
     let key = c.as_str-key.ensures in
-    ap not (c.contains.ensures ∙ known c.as_str-key.result.now ∙ ap (λ k. list_any (λ x. bytes_eq x.id k) d.extracted) key)
-    ∙ ap (λ b. b && not (list_any (λ x. bytes_eq x.id c.args.term.now.key) d.extracted)) (sym (ap (λ k. starts_with nat_eq k (codes "LicenseRef-")) (sym key) ∙ c.in-Some.ensures.some))
+    ap not (c.contains.ensures ∙ known c.as_str-key.result.now
+    ∙ ap (λ k. list_any (λ x. bytes_eq x.id k) d.extracted) key)
+    ∙ ap (λ b. b && not (list_any (λ x. bytes_eq x.id c.args.term.now.key) d.extracted))
+    (sym (ap (λ k. starts_with nat_eq k (codes "LicenseRef-")) (sym key) ∙ c.in-Some.ensures.some))
 
 pub returns-in-None : goal.returns-in-None
 returns-in-None c = λ d known.
     let key = c.as_str-key.ensures in
-    ap (λ b. b && not (list_any (λ x. bytes_eq x.id c.args.term.now.key) d.extracted)) (sym (ap (λ k. starts_with nat_eq k (codes "LicenseRef-")) (sym key) ∙ c.in-None.ensures.none))
+    ap (λ b. b && not (list_any (λ x. bytes_eq x.id c.args.term.now.key) d.extracted))
+    (sym (ap (λ k. starts_with nat_eq k (codes "LicenseRef-")) (sym key) ∙ c.in-None.ensures.none))

@@ -6,4 +6,5 @@ use Rattle.desk_findings.specs.Findings.{missing_of_extracted}
 use Rattle.desk_findings.proofs.missing.add_of_extracted.Given as goal
 
 abbrev pub invariant-loop-licence : goal.invariant-loop-licence
-invariant-loop-licence l = l.found.items ≡ l.fn.found.items ++ flat_map missing_of_extracted (map extracted_text (take l.licence-index l.extracted))
+invariant-loop-licence l = l.found.items ≡ l.fn.found.items
+    ++ flat_map missing_of_extracted (map extracted_text (take l.licence-index l.extracted))

@@ -6,4 +6,5 @@ use Rattle.desk_findings.specs.Findings.{missing_of_package}
 use Rattle.desk_findings.proofs.missing.add_of_packages.Given as goal
 
 abbrev pub invariant-loop-package : goal.invariant-loop-package
-invariant-loop-package l = l.found.items ≡ l.fn.found.items ++ flat_map missing_of_package (map package_text (take l.package-index l.packages))
+invariant-loop-package l = l.found.items ≡ l.fn.found.items
+    ++ flat_map missing_of_package (map package_text (take l.package-index l.packages))

@@ -1,4 +1,9 @@
-use Rattle.desk_history_laws.proofs.Rights.{same_terms_told, same_reference, same_catalogue, same_document, same_licence, same_adopted, same_licence_id, same_exception, same_licence_text, same_fault, same_expression, same_verdict, same_alternatives, same_listed_terms, same_cheapest, same_findings}
+use Rattle.desk_history_laws.proofs.Rights.{same_terms_told, same_reference, same_catalogue}
+use Rattle.desk_history_laws.proofs.Rights.{same_document, same_licence, same_adopted}
+use Rattle.desk_history_laws.proofs.Rights.{same_licence_id, same_exception, same_licence_text}
+use Rattle.desk_history_laws.proofs.Rights.{same_fault, same_expression, same_verdict}
+use Rattle.desk_history_laws.proofs.Rights.{same_alternatives, same_listed_terms, same_cheapest}
+use Rattle.desk_history_laws.proofs.Rights.{same_findings}
 use Rattle.desk_history_laws.proofs.readings.one_right_reading.Goals as goal
 
 pub returns-clause-terms : goal.returns-clause-terms

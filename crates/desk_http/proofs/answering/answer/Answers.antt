@@ -8,5 +8,7 @@ returns-in-Bytes g c = λ bytes x.
     let y = subst (IsReceived bytes) c.in-Bytes.is x in
     let read = c.wanted_by-wanted.ensures in (
       y.0,
-      c.reply_for.ensures bytes (closed read.0) (y.1 read.0 (subst (λ (l : List ℕ). IsFraming l read.0) c.as_slice.ensures.value read.1)) read.2,
+      c.reply_for.ensures bytes (closed read.0)
+          (y.1 read.0 (subst (λ (l : List ℕ). IsFraming l read.0) c.as_slice.ensures.value read.1))
+          read.2,
     )

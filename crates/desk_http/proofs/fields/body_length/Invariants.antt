@@ -6,4 +6,6 @@ use Rattle.desk_http.specs.Fields.{length_from, unsaid}
 use Rattle.desk_http.proofs.fields.body_length.Given as goal
 
 abbrev pub invariant-loop-field : goal.invariant-loop-field
-invariant-loop-field l = length_from l.said (map (header_bytes l.head) (drop l.field-index l.fields)) ≡ length_from unsaid (map (header_bytes l.head) l.fields)
+invariant-loop-field l = length_from l.said
+    (map (header_bytes l.head) (drop l.field-index l.fields))
+    ≡ length_from unsaid (map (header_bytes l.head) l.fields)

@@ -6,4 +6,6 @@ use Rattle.desk_http.specs.Fields.{has_field}
 use Rattle.desk_http.proofs.fields.is_encoded.Given as goal
 
 abbrev pub invariant-loop-field : goal.invariant-loop-field
-invariant-loop-field l = has_field (codes "transfer-encoding") (map (header_bytes l.head) (drop l.field-index l.fields)) ≡ has_field (codes "transfer-encoding") (map (header_bytes l.head) l.fields)
+invariant-loop-field l = has_field (codes "transfer-encoding")
+    (map (header_bytes l.head) (drop l.field-index l.fields))
+    ≡ has_field (codes "transfer-encoding") (map (header_bytes l.head) l.fields)

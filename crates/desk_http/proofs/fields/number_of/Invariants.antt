@@ -4,4 +4,7 @@ use Rattle.desk_http.specs.Fields.{number_from}
 use Rattle.desk_http.proofs.fields.number_of.Given as goal
 
 abbrev pub invariant-loop-b : goal.invariant-loop-b
-invariant-loop-b l = record { same : number_from l.n (drop l.b-index l.text) ≡ number_from 0 l.text; small : l.n < 10 ^ l.b-index }
+invariant-loop-b l = record {
+  same : number_from l.n (drop l.b-index l.text) ≡ number_from 0 l.text;
+  small : l.n < 10 ^ l.b-index;
+}

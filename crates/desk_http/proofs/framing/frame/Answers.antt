@@ -22,22 +22,32 @@ returns-in-Ok-Complete c =
     let path = c.of-in-Ok-Complete.ensures ∙ found.1.path in
     record {
       reading =
-          IsFraming-found bytes front c.parse_request.new.headers head c.of.result.now c.of-in-Ok-Complete.result.now
-          (framed c.judge.result) c.front_of-front.ensures.front c.front_of-front.ensures.most within (omega arith)
+          IsFraming-found bytes front c.parse_request.new.headers head c.of.result.now
+          c.of-in-Ok-Complete.result.now
+          (framed c.judge.result) c.front_of-front.ensures.front c.front_of-front.ensures.most
+          within (omega arith)
           found method path (rw rest at c.judge.ensures.reading);
       awaits =
-          IsAwaited-found bytes front c.parse_request.new.headers head c.of.result.now c.of-in-Ok-Complete.result.now
-          c.judge.result c.front_of-front.ensures.front c.front_of-front.ensures.most within (omega arith)
+          IsAwaited-found bytes front c.parse_request.new.headers head c.of.result.now
+          c.of-in-Ok-Complete.result.now
+          c.judge.result c.front_of-front.ensures.front c.front_of-front.ensures.most within
+          (omega arith)
           found method path (rw rest at c.judge.ensures.awaits);
     }
 
 pub returns-else-bytes-lt-HEAD_BYTES-clause-reading : goal.returns-else-bytes-lt-HEAD_BYTES-clause-reading
 returns-else-bytes-lt-HEAD_BYTES-clause-reading c =
-    let none = rw c.front_of-front.ensures.front at (rw c.in-Ok-Partial.field-0-is at c.in-Ok-Partial.ensures.partial) in
-    inr (HasNoHead-front c.args.bytes.now c.if-bytes-lt-HEAD_BYTES.false none, (refl, inl c.if-bytes-lt-HEAD_BYTES.false))
+    let none = rw c.front_of-front.ensures.front at
+    (rw c.in-Ok-Partial.field-0-is at c.in-Ok-Partial.ensures.partial) in
+    inr (
+      HasNoHead-front c.args.bytes.now c.if-bytes-lt-HEAD_BYTES.false none,
+      (refl, inl c.if-bytes-lt-HEAD_BYTES.false),
+    )
 
 pub returns-in-Err-clause-reading : goal.returns-in-Err-clause-reading
 returns-in-Err-clause-reading c =
-    let front : RequestOverflows head_fields (take head_bytes c.args.bytes.now) = rw c.front_of-front.ensures.front at c.in-Err.ensures.no_room in
-    let over : RequestOverflows head_fields c.args.bytes.now = RequestOverflows-front head_fields head_bytes c.args.bytes.now front in
+    let front : RequestOverflows head_fields (take head_bytes c.args.bytes.now) =
+    rw c.front_of-front.ensures.front at c.in-Err.ensures.no_room in
+    let over : RequestOverflows head_fields c.args.bytes.now =
+    RequestOverflows-front head_fields head_bytes c.args.bytes.now front in
     inr (HasNoHead-over c.args.bytes.now over, (refl, inr over))

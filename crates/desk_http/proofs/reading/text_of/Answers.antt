@@ -5,7 +5,10 @@ use Rattle.std.proofs.lemmas.Str.{IsUtf8-from_is_utf8, is_utf8-from_IsUtf8}
 use Rattle.desk_http.proofs.reading.text_of.Goals as goal
 
 pub returns-in-Ok : goal.returns-in-Ok
-returns-in-Ok c = (is_utf8-from_IsUtf8 c.args.bytes.now c.in-Ok.ensures.cases.1, c.in-Ok.ensures.cases.0)
+returns-in-Ok c = (
+  is_utf8-from_IsUtf8 c.args.bytes.now c.in-Ok.ensures.cases.1,
+  c.in-Ok.ensures.cases.0,
+)
 
 pub returns-in-Err : goal.returns-in-Err
 returns-in-Err c =

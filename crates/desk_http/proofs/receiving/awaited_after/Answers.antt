@@ -17,12 +17,15 @@ apart f g is other same = other (sym (ap framed is) ∙ same)
 
 pub returns-then-not-is_due : goal.returns-then-not-is_due
 returns-then-not-is_due c = λ front e x.
-    IsAwaited-undue front c.args.came.now c.args.bytes.now c.args.awaited e (c.is_due.ensures c.if-not-is_due.true) x
+    IsAwaited-undue front c.args.came.now c.args.bytes.now c.args.awaited e
+    (c.is_due.ensures c.if-not-is_due.true) x
 
 pub returns-in-Bad : goal.returns-in-Bad
 returns-in-Bad c = λ front e x more s y.
-    IsAsked-of c.args.bytes.now more (framed c.frame.result) s c.frame.ensures.reading (apart c.frame.result _ c.in-Bad.is (bad_is_whole _)) y
+    IsAsked-of c.args.bytes.now more (framed c.frame.result) s c.frame.ensures.reading
+    (apart c.frame.result _ c.in-Bad.is (bad_is_whole _)) y
 
 pub returns-in-Whole : goal.returns-in-Whole
 returns-in-Whole c = λ front e x more s y.
-    IsAsked-of c.args.bytes.now more (framed c.frame.result) s c.frame.ensures.reading (apart c.frame.result _ c.in-Whole.is (whole_is_whole _ _ _ _)) y
+    IsAsked-of c.args.bytes.now more (framed c.frame.result) s c.frame.ensures.reading
+    (apart c.frame.result _ c.in-Whole.is (whole_is_whole _ _ _ _)) y

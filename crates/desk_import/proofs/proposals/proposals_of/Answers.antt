@@ -14,8 +14,11 @@ returns c = λ reads is.
     let packages : c.as_slice.result.now ≡ c.args.document.now.packages = c.as_slice.ensures in
     let marks = c.as_slice-2.ensures.value in
     let Found : Proposals → List Package → List Bool → Type 0 =
-    λ found ps bs. (found.standings.items ≡ standings_of reads (map package_text ps) bs) × AreLines reads c.args.number (map package_text ps) found.standings.items (string_bytes found.lines) in
+    λ found ps bs. (found.standings.items ≡ standings_of reads (map package_text ps) bs)
+    × AreLines reads c.args.number (map package_text ps) found.standings.items
+    (string_bytes found.lines) in
     IfOk-weaker c.proposals_for.result _ _
-    (λ found h. let there = subst (λ ps. Found found ps c.in_ok-marks.marks.items) packages (subst (λ bs. Found found c.as_slice.result.now bs) marks h) in
+    (λ found h. let there = subst (λ ps. Found found ps c.in_ok-marks.marks.items) packages
+    (subst (λ bs. Found found c.as_slice.result.now bs) marks h) in
     ((c.in_ok-marks.marks.items, c.in_ok-marks.ensures, there.0), there.1))
     (c.proposals_for.ensures reads is)

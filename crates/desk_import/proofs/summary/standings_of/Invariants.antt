@@ -8,4 +8,5 @@ use Rattle.desk_import.proofs.summary.standings_of.Given as goal
 
 abbrev pub invariant-loop-text : goal.invariant-loop-text
 invariant-loop-text l = (reads : List ℕ → Option Tree) → IsReading l.profile reads
-    → l.found.items ++ standings_of reads (map package_text (drop l.text-index l.packages)) l.rest ≡ standings_of reads (map package_text l.packages) l.marks
+    → l.found.items ++ standings_of reads (map package_text (drop l.text-index l.packages)) l.rest
+    ≡ standings_of reads (map package_text l.packages) l.marks

@@ -9,11 +9,16 @@ use Rattle.desk_import.proofs.writing.put_steps.Goals as goal
 
 pub returns-in-Err-clause-err : goal.returns-in-Err-clause-err
 returns-in-Err-clause-err c =
-    stopped_at c.args.steps.now c.loop-step.step-index c.step-item.result c.in-Err.fault c.loop-step-test.true c.loop-step.invariant.pass
-    (subst (λ s. (c.in-Err.fault ≡ faults.Memory) ⊎ Fails (step_text s) c.in-Err.fault) c.step-item.is c.in-Err.ensures.err)
+    stopped_at c.args.steps.now c.loop-step.step-index c.step-item.result c.in-Err.fault
+    c.loop-step-test.true c.loop-step.invariant.pass
+    (subst (λ s. (c.in-Err.fault ≡ faults.Memory) ⊎ Fails (step_text s) c.in-Err.fault)
+    c.step-item.is c.in-Err.ensures.err)
 
 pub loop-step-preserved : goal.loop-step-preserved
 loop-step-preserved c =
-    put_more (string_bytes c.args.out.now) (string_bytes c.loop-step.out) (string_bytes c.put_step.new.out) c.args.steps.now c.loop-step.step-index c.step-item.result c.loop-step-test.true c.loop-step.invariant
-    (c.in-Ok.ensures.ok ∙ ap (λ s. string_bytes c.loop-step.out ++ text_of_lines (lines_in (step_text s))) c.step-item.is)
+    put_more (string_bytes c.args.out.now) (string_bytes c.loop-step.out)
+    (string_bytes c.put_step.new.out) c.args.steps.now c.loop-step.step-index c.step-item.result
+    c.loop-step-test.true c.loop-step.invariant
+    (c.in-Ok.ensures.ok ∙ ap (λ s. string_bytes c.loop-step.out
+    ++ text_of_lines (lines_in (step_text s))) c.step-item.is)
     (subst (λ s. Passes (step_text s)) c.step-item.is c.in-Ok.ensures.passes)

@@ -6,4 +6,5 @@ use Rattle.desk_import.proofs.writing.put_steps.Given as goal
 
 -- the steps so far were written
 abbrev pub invariant-loop-step : goal.invariant-loop-step
-invariant-loop-step l = IsPut (string_bytes l.fn.out) (map step_text (take l.step-index l.steps)) (string_bytes l.out)
+invariant-loop-step l = IsPut (string_bytes l.fn.out) (map step_text (take l.step-index l.steps))
+    (string_bytes l.out)

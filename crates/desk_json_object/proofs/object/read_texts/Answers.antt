@@ -13,34 +13,44 @@ use Rattle.desk_json_object.proofs.object.read_texts.Goals as goal
 pub returns-in_err-token-clause-err : goal.returns-in_err-token-clause-err
 returns-in_err-token-clause-err c = λ refused.
     let l = c.items in
-    let going : (after_end_array l.reader ≡ None) × (c.take_end_array.new.self ≡ l.reader) = grind arith in
+    let going : (after_end_array l.reader ≡ None) × (c.take_end_array.new.self ≡ l.reader) =
+    grind arith in
     let empty : c.take_end_array.new.self ≡ [] = grind arith in
-    let none : data_at c.args.depth l.reader ≡ None = rw (← going.1, empty) (ap (converted of_json) (value_is c.args.depth [])) in
-    l.invariant.3 ∙ ap (parse_map (joined l.invariant.2)) (item_refused c.args.depth l.invariant.0 l.reader going.0 none)
+    let none : data_at c.args.depth l.reader ≡ None =
+    rw (← going.1, empty) (ap (converted of_json) (value_is c.args.depth [])) in
+    l.invariant.3 ∙ ap (parse_map (joined l.invariant.2))
+    (item_refused c.args.depth l.invariant.0 l.reader going.0 none)
 
 pub returns-in_err-texts-clause-err : goal.returns-in_err-texts-clause-err
 returns-in_err-texts-clause-err c = λ refused.
     let l = c.items in
-    let going : (after_end_array l.reader ≡ None) × (c.take_end_array.new.self ≡ l.reader) = grind arith in
+    let going : (after_end_array l.reader ≡ None) × (c.take_end_array.new.self ≡ l.reader) =
+    grind arith in
     let begun : l.reader ≡ token_of c.in_ok-token.token ∷ c.next.new.self = grind arith in
-    let none : data_at c.args.depth l.reader ≡ None = ap (data_at c.args.depth) begun ∙ c.in_err-texts.ensures.err (grind arith) in
-    l.invariant.3 ∙ ap (parse_map (joined l.invariant.2)) (item_refused c.args.depth l.invariant.0 l.reader going.0 none)
+    let none : data_at c.args.depth l.reader ≡ None = ap (data_at c.args.depth) begun
+    ∙ c.in_err-texts.ensures.err (grind arith) in
+    l.invariant.3 ∙ ap (parse_map (joined l.invariant.2))
+    (item_refused c.args.depth l.invariant.0 l.reader going.0 none)
 
 pub items-preserved : goal.items-preserved
 items-preserved c =
     let l = c.items in
     let n = l.invariant.0 in
     let before = l.invariant.2 in
-    let going : (after_end_array l.reader ≡ None) × (c.take_end_array.new.self ≡ l.reader) = grind arith in
+    let going : (after_end_array l.reader ≡ None) × (c.take_end_array.new.self ≡ l.reader) =
+    grind arith in
     let begun : l.reader ≡ token_of c.in_ok-token.token ∷ c.next.new.self = grind arith in
     let taken = c.in_ok-texts.ensures.ok before l.invariant.4 in
     let rest = c.with_item.new.reader in
-    let less : length rest < length l.reader = omega (arith, ap length begun, c.in_ok-texts.ensures.left) in
-    let turn = item_taken c.args.depth n l.reader rest taken.0 (omega (arith, l.invariant.1)) going.0 (ap (data_at c.args.depth) begun ∙ taken.1) in (
+    let less : length rest < length l.reader =
+    omega (arith, ap length begun, c.in_ok-texts.ensures.left) in
+    let turn = item_taken c.args.depth n l.reader rest taken.0 (omega (arith, l.invariant.1))
+    going.0 (ap (data_at c.args.depth) begun ∙ taken.1) in (
       n - 1,
       omega (arith, l.invariant.1),
       joined before (item taken.0 no_items),
-      l.invariant.3 ∙ ap (parse_map (joined before)) turn ∙ joined_on before taken.0 (items_in c.args.depth (n - 1) rest),
+      l.invariant.3 ∙ ap (parse_map (joined before)) turn
+          ∙ joined_on before taken.0 (items_in c.args.depth (n - 1) rest),
       taken.2,
       omega (arith, l.invariant.5),
     )
@@ -48,5 +58,11 @@ items-preserved c =
 pub returns-clause-ok : goal.returns-clause-ok
 returns-clause-ok c =
     let l = c.items in
-    let rest = c.take_end_array.new.self in
-    (l.invariant.2, l.invariant.3 ∙ ap (parse_map (joined l.invariant.2)) (items_ended c.args.depth l.invariant.0 l.reader rest l.invariant.1 (grind arith)) ∙ ap (λ ds. Some (ds, rest)) (joined_none l.invariant.2), l.invariant.4)
+    let rest = c.take_end_array.new.self in (
+      l.invariant.2,
+      l.invariant.3
+          ∙ ap (parse_map (joined l.invariant.2))
+          (items_ended c.args.depth l.invariant.0 l.reader rest l.invariant.1 (grind arith))
+          ∙ ap (λ ds. Some (ds, rest)) (joined_none l.invariant.2),
+      l.invariant.4,
+    )

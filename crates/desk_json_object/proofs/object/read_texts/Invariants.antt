@@ -9,7 +9,8 @@ use Rattle.desk_json_object.proofs.object.read_texts.Given as goal
 abbrev pub invariant-items : goal.invariant-items
 invariant-items l =
     (turns : ℕ) × (length l.reader ≤ turns) × (before : Items)
-    × (items_at l.depth l.initial.reader ≡ parse_map (joined before) (items_in l.depth turns l.reader))
+    × (items_at l.depth l.initial.reader
+    ≡ parse_map (joined before) (items_in l.depth turns l.reader))
     × AreKept before l.texts
     × (length l.reader ≤ length l.initial.reader)
 

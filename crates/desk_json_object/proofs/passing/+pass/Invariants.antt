@@ -29,7 +29,8 @@ decreases-pass_items-items l = length l.reader
 abbrev pub invariant-pass_members-members : goal.invariant-pass_members-members
 invariant-pass_members-members l =
     (turns : ℕ) × (length l.reader ≤ turns)
-    × ((before : Members) → (found : Members) × (members_at before l.depth l.initial.reader ≡ members_in found l.depth turns l.reader))
+    × ((before : Members) → (found : Members)
+    × (members_at before l.depth l.initial.reader ≡ members_in found l.depth turns l.reader))
     × (length l.reader ≤ length l.initial.reader)
 
 abbrev pub decreases-pass_members-members : goal.decreases-pass_members-members

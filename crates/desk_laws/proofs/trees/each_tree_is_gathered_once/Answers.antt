@@ -7,7 +7,10 @@ pub returns : goal.returns
 returns c =
     let one = c.right_reader_exists.ensures in
     record {
-      gathering = λ files. (gathered one.0 files, λ r right. ap (λ s. gathered s files) (c.one_reader.ensures r one.0 right one.1));
+      gathering = λ files. (
+        gathered one.0 files,
+        λ r right. ap (λ s. gathered s files) (c.one_reader.ensures r one.0 right one.1),
+      );
       survey = λ files. (
         flaws_of one.0 files,
         infos_sifted one.0 (kept files),

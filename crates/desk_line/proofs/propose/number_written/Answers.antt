@@ -5,4 +5,5 @@ use Rattle.desk_line.proofs.propose.number_written.Goals as goal
 
 pub returns : goal.returns
 returns c = c.ok.ensures.value ∙ number_parsed 32 c.args.text.now
-    (λ bs r. ParsesUnsigned 32 10 bs r × ExplainsUnsignedError 10 bs r × HasUnsignedDigitsIfOk bs r) c.parse.result (λ t r is. is.0) c.parse.ensures.value
+    (λ bs r. ParsesUnsigned 32 10 bs r × ExplainsUnsignedError 10 bs r × HasUnsignedDigitsIfOk bs r)
+    c.parse.result (λ t r is. is.0) c.parse.ensures.value

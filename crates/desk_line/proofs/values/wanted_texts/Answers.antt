@@ -5,7 +5,9 @@ use Rattle.desk_line.proofs.values.wanted_texts.Goals as goal
 
 pub returns-in_ok-copied-in-Some : goal.returns-in_ok-copied-in-Some
 returns-in_ok-copied-in-Some c =
-    sym (ap Some c.in_ok-copied-in-Some.ensures ∙ (c.in-Some.ensures ∙ raw_values-rows (found_of c.args.matches.now) c.args.id.now))
+    sym (ap Some c.in_ok-copied-in-Some.ensures
+    ∙ (c.in-Some.ensures ∙ raw_values-rows (found_of c.args.matches.now) c.args.id.now))
 
 pub returns-in-None : goal.returns-in-None
-returns-in-None c = sym (c.in-None.ensures ∙ raw_values-rows (found_of c.args.matches.now) c.args.id.now)
+returns-in-None c = sym (c.in-None.ensures
+    ∙ raw_values-rows (found_of c.args.matches.now) c.args.id.now)

@@ -5,4 +5,5 @@ use Rattle.desk_lists.proofs.columns.add_each_shown.Given as goal
 
 -- each cell before the index
 abbrev pub invariant-loop-cell : goal.invariant-loop-cell
-invariant-loop-cell l = l.text.items ≡ l.initial.text.items ++ flat_map shown (take l.cell-index l.cells)
+invariant-loop-cell l = l.text.items ≡ l.initial.text.items
+    ++ flat_map shown (take l.cell-index l.cells)

@@ -6,8 +6,10 @@ use Rattle.desk_lists.proofs.Lists.{drop_item}
 use Rattle.desk_lists.proofs.columns.widths.Goals as goal
 
 -- one more row
-widened_more : (rows : List (List (List ℕ))) (i : ℕ) (row cells : List (List ℕ)) (before known after all : List ℕ) → i < length rows
-    → row ≡ get_or rows i row → widths_with before (drop i rows) ≡ all → known ≡ before → cells ≡ row → after ≡ widened known cells
+widened_more : (rows : List (List (List ℕ))) (i : ℕ) (row cells : List (List ℕ))
+    (before known after all : List ℕ) → i < length rows
+    → row ≡ get_or rows i row → widths_with before (drop i rows) ≡ all → known ≡ before
+    → cells ≡ row → after ≡ widened known cells
     → widths_with after (drop (i + 1) rows) ≡ all
 widened_more rows i row cells before known after all inside at so_far same given made =
     ap (λ (ws : List ℕ). widths_with ws (drop (i + 1) rows)) (made ∙ ap₂ widened same given)
@@ -15,9 +17,12 @@ widened_more rows i row cells before known after all inside at so_far same given
 
 pub loop-row-preserved : goal.loop-row-preserved
 loop-row-preserved c =
-    widened_more _ c.loop-row.row-index c.row-item.result _ c.loop-row.found.items _ _ _ c.loop-row-test.true c.row-item.is c.loop-row.invariant
-    c.as_slice-in-loop-row.ensures.value c.as_slice-in-loop-row-2.ensures c.in_ok-found-in-len1-up-2.ensures
+    widened_more _ c.loop-row.row-index c.row-item.result _ c.loop-row.found.items _ _ _
+    c.loop-row-test.true c.row-item.is c.loop-row.invariant
+    c.as_slice-in-loop-row.ensures.value c.as_slice-in-loop-row-2.ensures
+    c.in_ok-found-in-len1-up-2.ensures
 
 pub returns-after-loop-row : goal.returns-after-loop-row
 returns-after-loop-row c =
-    sym (at_drop_all (widths_with c.loop-row.found.items) _ c.loop-row.row-index c.loop-row-test.false) ∙ c.loop-row.invariant
+    sym (at_drop_all (widths_with c.loop-row.found.items) _ c.loop-row.row-index
+    c.loop-row-test.false) ∙ c.loop-row.invariant

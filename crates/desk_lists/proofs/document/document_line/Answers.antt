@@ -13,8 +13,10 @@ returns c = λ reads are.
     let read_by = simp number at c.profile_at.ensures in
     let said = c.in_ok-said.said in (
       said,
-      subst (λ (b : List ℕ). IsSaid reads (profile_at c.args.snapshot.now c.args.row.now.number) b said) c.as_slice.ensures
-          (subst (λ (p : Profile). IsSaid reads p c.as_slice.result.now said) read_by (c.in_ok-said.ensures reads are)),
+      subst (λ (b : List ℕ). IsSaid reads (profile_at c.args.snapshot.now c.args.row.now.number) b
+          said) c.as_slice.ensures
+          (subst (λ (p : Profile). IsSaid reads p c.as_slice.result.now said) read_by
+          (c.in_ok-said.ensures reads are)),
       (λ i. record {
         number = number i;
         name = said.name;

@@ -12,11 +12,14 @@ loop-row-preserved c =
     elim c.if-is_wanted.branch [
       | then-is_wanted+in_ok-duty_line+in_ok-push w ↦
           ap (λ v. v.items) w.lines-is
-          ∙ passing_more f p rows c.loop-row.row-index c.row-item.result c.loop-row-test.true c.row-item.is c.loop-row.lines.items
-          c.loop-row.invariant w.push.new.self.items w.in_ok-duty_line.field-0 (sym c.is_wanted.ensures ∙ w.if-is_wanted.true)
+          ∙ passing_more f p rows c.loop-row.row-index c.row-item.result c.loop-row-test.true
+          c.row-item.is c.loop-row.lines.items
+          c.loop-row.invariant w.push.new.self.items w.in_ok-duty_line.field-0
+          (sym c.is_wanted.ensures ∙ w.if-is_wanted.true)
           w.in_ok-duty_line.ensures w.in_ok-push.ensures.items
       | else-is_wanted w ↦
           ap (λ v. v.items) w.lines-is
-          ∙ failing_more f p rows c.loop-row.row-index c.row-item.result c.loop-row-test.true c.row-item.is c.loop-row.lines.items
+          ∙ failing_more f p rows c.loop-row.row-index c.row-item.result c.loop-row-test.true
+          c.row-item.is c.loop-row.lines.items
           c.loop-row.invariant (sym c.is_wanted.ensures ∙ w.if-is_wanted.false)
     ]

@@ -15,12 +15,16 @@ invariant_of-result c =
     let order : IsStrictWeakOrder (below_by held_order) = ranks_by held_total (λ (x : Held). x) in
     record {
       ascending = ascends-sorted (below_by held_order) order c.sort_by.new.self.items
-          (c.in_ok-sort_by.ensures.sorted (below_by held_order) order (always_returns_same _ _ _ (λ a r f k. search rules)));
+          (c.in_ok-sort_by.ensures.sorted (below_by held_order) order
+          (always_returns_same _ _ _ (λ a r f k. search rules)));
     }
 
 pub returns : goal.returns
 returns c =
-    let same : IsPermutation (duties_held c.in_ok-rows.rows.items) (duties_held c.sort_by.new.self.items) =
-    IsPermutation-map (λ (row : Held). row.duty.now) c.in_ok-rows.rows.items c.sort_by.new.self.items c.in_ok-sort_by.ensures.permutation in
-    let P : List StoredDuty → Type 0 = λ duties. IsPermutation duties (duties_held c.sort_by.new.self.items) in
+    let same : IsPermutation (duties_held c.in_ok-rows.rows.items) (duties_held
+    c.sort_by.new.self.items) =
+    IsPermutation-map (λ (row : Held). row.duty.now) c.in_ok-rows.rows.items
+    c.sort_by.new.self.items c.in_ok-sort_by.ensures.permutation in
+    let P : List StoredDuty → Type 0 =
+    λ duties. IsPermutation duties (duties_held c.sort_by.new.self.items) in
     subst P c.in_ok-rows.ensures same

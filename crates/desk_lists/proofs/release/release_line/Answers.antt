@@ -9,8 +9,10 @@ returns c =
     let row = c.args.release.now in
     let place_is : to_z w64 (of_z w64 row.place) ≡ row.place = search rules in
     let revision_is : to_z w64 (of_z w64 row.revision) ≡ row.revision = search rules in
-    let totals : c.totals_of-duties.result ≡ totals_among (duties_held c.args.held.now.rows.items) row.name =
-    c.totals_of-duties.ensures ∙ ap (totals_among (duties_held c.args.held.now.rows.items)) c.as_str.ensures in
+    let totals : c.totals_of-duties.result ≡ totals_among (duties_held
+    c.args.held.now.rows.items) row.name =
+    c.totals_of-duties.ensures ∙ ap (totals_among (duties_held c.args.held.now.rows.items))
+    c.as_str.ensures in
     (λ i. record {
       name = c.in_ok-clone.ensures.cases i;
       place = place_is i;

@@ -10,16 +10,20 @@ use Rattle.desk_lists.specs.declared.held.Held.{Held}
 use Rattle.desk_lists.proofs.Counting.{count_by-filter, length-filter_map}
 use Rattle.desk_lists.proofs.release.totals_of.Goals as goal
 
-in_state : (release : List ℕ) (held rows : List Held) → rows ≡ filter (is_held_by release) held → (s : DutyState)
-    → count_by (λ (row : Held). bytes_eq row.duty.now.state (duty_state_name s)) rows ≡ count_by (is_duty_in release s) (duties_held held)
+in_state : (release : List ℕ) (held rows : List Held) → rows ≡ filter (is_held_by release) held
+    → (s : DutyState)
+    → count_by (λ (row : Held). bytes_eq row.duty.now.state (duty_state_name s)) rows
+    ≡ count_by (is_duty_in release s) (duties_held held)
 in_state release held rows e s =
     ap (count_by (λ (row : Held). bytes_eq row.duty.now.state (duty_state_name s))) e
-    ∙ count_by-filter (λ (row : Held). row.duty.now) (is_duty_of release) (λ row. bytes_eq row.state (duty_state_name s)) held
+    ∙ count_by-filter (λ (row : Held). row.duty.now) (is_duty_of release)
+    (λ row. bytes_eq row.state (duty_state_name s)) held
 
 all : (release : List ℕ) (held rows : List Held) → rows ≡ filter (is_held_by release) held
     → length rows ≡ count_by (is_duty_of release) (duties_held held)
 all release held rows e =
-    ap length e ∙ length-filter_map (λ (row : Held). row.duty.now) (is_duty_of release) (is_duty_of release) held
+    ap length e ∙ length-filter_map (λ (row : Held). row.duty.now) (is_duty_of release)
+    (is_duty_of release) held
 
 pub returns : goal.returns
 returns c =
@@ -30,4 +34,10 @@ returns c =
     let met_is = c.count_in-2.ensures ∙ part state.Met in
     let waived_is = c.count_in-3.ensures ∙ part state.Waived in
     let withdrawn_is = c.count_in-4.ensures ∙ part state.Withdrawn in
-    (λ i. record { raised = among i; still_open = still_open_is i; met = met_is i; waived = waived_is i; withdrawn = withdrawn_is i })
+    (λ i. record {
+      raised = among i;
+      still_open = still_open_is i;
+      met = met_is i;
+      waived = waived_is i;
+      withdrawn = withdrawn_is i;
+    })

@@ -7,6 +7,7 @@ use Rattle.desk_lists.proofs.table.csv_text.Given as goal
 -- a record for each row before the index
 abbrev pub invariant-loop-row : goal.invariant-loop-row
 invariant-loop-row l = record {
-  text : text_written (λ v. Some v.items) l.writer ≡ Some (flat_map record_text (take l.row-index l.rows));
+  text : text_written (λ v. Some v.items) l.writer
+      ≡ Some (flat_map record_text (take l.row-index l.rows));
   ready : is_between_rows l.writer;
 }

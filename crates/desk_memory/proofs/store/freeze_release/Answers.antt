@@ -15,13 +15,30 @@ pub returns : goal.returns
 returns c =
     let name = c.args.name.now in
     let rows = c.args.releases.now.rows in
-    let written = run_changed (is_release name) (release_side name) (λ row. texts_meet row.name name) (with_release_state Frozen c.args.revision) rows.items c.as_slice.result.now c.deref_mut.result.now c.freeze_rows.new.rows c.run_of-run.result.start c.run_of-run.result.end c.run_of-run.ensures c.as_slice.ensures.value c.deref_mut.ensures.value c.freeze_rows.ensures in
-    with_items_is rows _ (same_count (is_release name) (with_release_state Frozen c.args.revision) rows.items _ written ∙ sym rows.ok.0) ∙ written
+    let written = run_changed (is_release name) (release_side name)
+    (λ row. texts_meet row.name name) (with_release_state Frozen c.args.revision) rows.items
+    c.as_slice.result.now c.deref_mut.result.now c.freeze_rows.new.rows c.run_of-run.result.start
+    c.run_of-run.result.end c.run_of-run.ensures c.as_slice.ensures.value c.deref_mut.ensures.value
+    c.freeze_rows.ensures in
+    with_items_is rows _ (same_count (is_release name) (with_release_state Frozen c.args.revision)
+    rows.items _ written ∙ sym rows.ok.0) ∙ written
 
 pub invariant_of-releases : goal.invariant_of-releases
 invariant_of-releases c =
     let name = c.args.name.now in
     let rows = c.args.releases.now.rows in
-    let written = run_changed (is_release name) (release_side name) (λ row. texts_meet row.name name) (with_release_state Frozen c.args.revision) rows.items c.as_slice.result.now c.deref_mut.result.now c.freeze_rows.new.rows c.run_of-run.result.start c.run_of-run.result.end c.run_of-run.ensures c.as_slice.ensures.value c.deref_mut.ensures.value c.freeze_rows.ensures in
-    let items = with_items_is rows _ (same_count (is_release name) (with_release_state Frozen c.args.revision) rows.items _ written ∙ sym rows.ok.0) ∙ written in
-    record { ascending = ap (ascends (below_by release_order)) items ∙ (ascends-updated (below_by release_order) (is_release name) (with_release_state Frozen c.args.revision) (record { first = λ x y. refl; second = λ x y. refl }) rows.items ∙ c.args.releases.now.ascending) }
+    let written = run_changed (is_release name) (release_side name)
+    (λ row. texts_meet row.name name) (with_release_state Frozen c.args.revision) rows.items
+    c.as_slice.result.now c.deref_mut.result.now c.freeze_rows.new.rows c.run_of-run.result.start
+    c.run_of-run.result.end c.run_of-run.ensures c.as_slice.ensures.value c.deref_mut.ensures.value
+    c.freeze_rows.ensures in
+    let items = with_items_is rows _
+    (same_count (is_release name) (with_release_state Frozen c.args.revision) rows.items _ written
+    ∙ sym rows.ok.0) ∙ written in
+    record {
+      ascending = ap (ascends (below_by release_order)) items
+          ∙ (ascends-updated (below_by release_order) (is_release name)
+          (with_release_state Frozen c.args.revision)
+          (record { first = λ x y. refl; second = λ x y. refl }) rows.items
+          ∙ c.args.releases.now.ascending);
+    }

@@ -12,8 +12,10 @@ use Rattle.desk_memory_rows.proofs.choices.drop_holders.Goals as goal
 
 pub run_in-requires : goal.run_in-requires
 run_in-requires c =
-    ap (ascends (below_by choice_order)) (c.as_slice.ensures.value ∙ ap (λ (b : Vec ChoiceRow Global). b.items) c.block-item.is)
-    ∙ block_ascends (below_by choice_order) c.among-block-items.result.now c.loop-block.block-index c.block-item.result c.loop-block-test.true c.loop-block.invariant.ascending
+    ap (ascends (below_by choice_order))
+    (c.as_slice.ensures.value ∙ ap (λ (b : Vec ChoiceRow Global). b.items) c.block-item.is)
+    ∙ block_ascends (below_by choice_order) c.among-block-items.result.now c.loop-block.block-index
+    c.block-item.result c.loop-block-test.true c.loop-block.invariant.ascending
 
 pub loop-block-preserved : goal.loop-block-preserved
 loop-block-preserved c =
@@ -23,13 +25,19 @@ loop-block-preserved c =
     let rest = filter at (rows_in (drop (i + 1) bs)) in
     let place = c.in-Some.place in
     let all = rows_in c.loop-block.holders.blocks.items in
-    let here = c.run_in.ensures ∙ (ap (λ name. filter (is_choice_in name) c.as_slice.result.now) c.as_str.ensures ∙ ap (filter at) (c.as_slice.ensures.value ∙ ap (λ (b : Vec ChoiceRow Global). b.items) c.block-item.is)) in
+    let here = c.run_in.ensures ∙ (ap (λ name. filter (is_choice_in name) c.as_slice.result.now)
+    c.as_str.ensures ∙ ap (filter at)
+    (c.as_slice.ensures.value ∙ ap (λ (b : Vec ChoiceRow Global). b.items) c.block-item.is)) in
     record {
       left =
           ap (letting_go place rest) c.drop_choices.ensures
           ∙ (let_go_both place c.run_in.result.now rest all
-          ∙ (ap (λ rows. letting_go place rows all) (ap (λ rows. rows ++ rest) here ∙ sym (filter_split at bs i c.block-item.result c.loop-block-test.true)) ∙ c.loop-block.invariant.left));
-      ascending = rest_ascends (below_by choice_order) bs i c.block-item.result c.loop-block-test.true c.loop-block.invariant.ascending;
+          ∙ (ap (λ rows. letting_go place rows all)
+          (ap (λ rows. rows ++ rest) here
+          ∙ sym (filter_split at bs i c.block-item.result c.loop-block-test.true))
+          ∙ c.loop-block.invariant.left));
+      ascending = rest_ascends (below_by choice_order) bs i c.block-item.result
+          c.loop-block-test.true c.loop-block.invariant.ascending;
     }
 
 pub returns : goal.returns
@@ -37,5 +45,9 @@ returns c =
     let at = is_choice_in c.args.release.now in
     let place = c.in-Some.place in
     let all = rows_in c.loop-block.holders.blocks.items in
-    sym (ap (λ (bs : List (Vec ChoiceRow Global)). letting_go place (filter at (rows_in bs)) all) (drop_rest c.loop-block.block-index c.among-block-items.result.now c.loop-block-test.false) ∙ let_go_none place all)
-    ∙ (c.loop-block.invariant.left ∙ ap (λ o. leaving o (filter at (rows_in c.args.rows.now.blocks.items)) (rows_in c.args.holders.now.blocks.items)) (sym c.in-Some.is))
+    sym (ap (λ (bs : List (Vec ChoiceRow Global)). letting_go place (filter at (rows_in bs)) all)
+    (drop_rest c.loop-block.block-index c.among-block-items.result.now c.loop-block-test.false)
+    ∙ let_go_none place all)
+    ∙ (c.loop-block.invariant.left
+    ∙ ap (λ o. leaving o (filter at (rows_in c.args.rows.now.blocks.items))
+    (rows_in c.args.holders.now.blocks.items)) (sym c.in-Some.is))

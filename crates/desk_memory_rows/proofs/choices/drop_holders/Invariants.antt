@@ -8,7 +8,9 @@ use Rattle.desk_memory_rows.proofs.choices.drop_holders.Given as goal
 
 abbrev pub invariant-loop-block : goal.invariant-loop-block
 invariant-loop-block l = record {
-  left : letting_go l.place (filter (is_choice_in l.release) (rows_in (drop l.block-index l.block-items))) (rows_in l.holders.blocks.items)
-      ≡ letting_go l.place (filter (is_choice_in l.release) (rows_in l.rows.blocks.items)) (rows_in l.fn.holders.blocks.items);
+  left : letting_go l.place (filter (is_choice_in l.release)
+      (rows_in (drop l.block-index l.block-items))) (rows_in l.holders.blocks.items)
+      ≡ letting_go l.place (filter (is_choice_in l.release) (rows_in l.rows.blocks.items))
+      (rows_in l.fn.holders.blocks.items);
   ascending : ascends (below_by choice_order) (rows_in (drop l.block-index l.block-items)) ≡ true;
 }

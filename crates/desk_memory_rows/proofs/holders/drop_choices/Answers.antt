@@ -13,9 +13,13 @@ loop-row-preserved c =
     let all = rows_in c.loop-row.holders.blocks.items in
     ap (letting_go place rest) (c.drop_choice.ensures ∙ let_go_one place row all)
     ∙ (let_go_both place (row ∷ []) rest all
-    ∙ (ap (λ rows. letting_go place rows all) (row_at c.args.rows.now c.loop-row.row-index row c.loop-row-test.true c.row-item.is) ∙ c.loop-row.invariant))
+    ∙ (ap (λ rows. letting_go place rows all)
+    (row_at c.args.rows.now c.loop-row.row-index row c.loop-row-test.true c.row-item.is)
+    ∙ c.loop-row.invariant))
 
 pub returns : goal.returns
 returns c =
     let all = rows_in c.loop-row.holders.blocks.items in
-    sym (ap (λ rows. letting_go c.args.place rows all) (drop_rest c.loop-row.row-index c.args.rows.now c.loop-row-test.false) ∙ let_go_none c.args.place all) ∙ c.loop-row.invariant
+    sym (ap (λ rows. letting_go c.args.place rows all)
+    (drop_rest c.loop-row.row-index c.args.rows.now c.loop-row-test.false)
+    ∙ let_go_none c.args.place all) ∙ c.loop-row.invariant

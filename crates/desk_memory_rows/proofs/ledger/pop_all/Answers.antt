@@ -12,13 +12,19 @@ loop-place-preserved c = record {
       let places : List Place = c.args.places.now in
       let i : ℕ = c.loop-place.place-index in
       let none : Place = record { duty = 0; state = IsOpen } in
-      let split : drop i places ≡ slice_index_or places i none ∷ drop (suc i) places = drop_get places i none c.loop-place-test.true in
-      remains_less before c.loop-place.groups.items c.pop_change.new.groups.items (slice_index_or places i none) (drop (i + 1) places)
-      (subst (λ (ps : List Place). Remains before ps c.loop-place.groups.items) (split ∙ ap (λ (k : ℕ). slice_index_or places i none ∷ drop k places) (sym (add-one i))) (c.loop-place.invariant.undone before changes told old))
+      let split : drop i places ≡ slice_index_or places i none ∷ drop (suc i) places =
+      drop_get places i none c.loop-place-test.true in
+      remains_less before c.loop-place.groups.items c.pop_change.new.groups.items
+      (slice_index_or places i none) (drop (i + 1) places)
+      (subst (λ (ps : List Place). Remains before ps c.loop-place.groups.items)
+      (split ∙ ap (λ (k : ℕ). slice_index_or places i none ∷ drop k places) (sym (add-one i)))
+      (c.loop-place.invariant.undone before changes told old))
       c.pop_change.ensures.undone;
 }
 
 pub returns-clause-undone : goal.returns-clause-undone
 returns-clause-undone c = λ before changes told old.
     remains_none before c.loop-place.groups.items
-    (subst (λ (ps : List Place). Remains before ps c.loop-place.groups.items) (drop_over c.args.places.now c.loop-place.place-index c.loop-place-test.false) (c.loop-place.invariant.undone before changes told old))
+    (subst (λ (ps : List Place). Remains before ps c.loop-place.groups.items)
+    (drop_over c.args.places.now c.loop-place.place-index c.loop-place-test.false)
+    (c.loop-place.invariant.undone before changes told old))

@@ -8,5 +8,7 @@ use Rattle.desk_memory_rows.proofs.ledger.pop_all.Given as goal
 abbrev pub invariant-loop-place : goal.invariant-loop-place
 invariant-loop-place l = record {
   len : vec_len l.groups ≡ vec_len l.fn.groups;
-  undone : (before : List (List ChangeRow)) (changes : List ChangeRow) → map place_of changes ≡ l.places → l.fn.groups.items ≡ pushed changes before → Remains before (drop l.place-index l.places) l.groups.items;
+  undone : (before : List (List ChangeRow)) (changes : List ChangeRow)
+      → map place_of changes ≡ l.places → l.fn.groups.items ≡ pushed changes before
+      → Remains before (drop l.place-index l.places) l.groups.items;
 }

@@ -9,6 +9,10 @@ returns-clause-undone c = λ before change e.
     let groups : List (List ChangeRow) = c.args.groups.now.items in
     let group : List ChangeRow = c.index_mut-group.result.now in
     let lt : c.args.place < length groups = omega (arith, c.args.groups.now.ok.0, c.requires) in
-    let rows : c.into_vec-rows.result.items ≡ group = c.into_vec-rows.ensures ∙ c.replace.ensures.value in
-    undo_more groups before c.args.place change group c.from_vec.result e (get_some groups c.args.place group lt c.index_mut-group.ensures.value)
-    (c.from_vec.ensures ∙ (c.pop.ensures.rest ∙ popped c.into_vec-rows.result.items group c.into_vec-rows.result.len rows c.into_vec-rows.result.ok.0))
+    let rows : c.into_vec-rows.result.items ≡ group = c.into_vec-rows.ensures
+    ∙ c.replace.ensures.value in
+    undo_more groups before c.args.place change group c.from_vec.result e
+    (get_some groups c.args.place group lt c.index_mut-group.ensures.value)
+    (c.from_vec.ensures ∙ (c.pop.ensures.rest
+    ∙ popped c.into_vec-rows.result.items group c.into_vec-rows.result.len rows
+    c.into_vec-rows.result.ok.0))

@@ -7,8 +7,11 @@ use Rattle.desk_memory_rows.proofs.ledger.push_change.Goals as goal
 
 pub returns-clause-ok : goal.returns-clause-ok
 returns-clause-ok c =
-    let lt : c.args.place < length c.args.groups.now.items = omega (arith, c.args.groups.now.ok.0, c.requires) in
+    let lt : c.args.place < length c.args.groups.now.items =
+    omega (arith, c.args.groups.now.ok.0, c.requires) in
     on_ok_weaker c.push.result
     (λ is. ap (λ (g : List ChangeRow). slice_set c.args.groups.now.items c.args.place g) is
-    ∙ set_more c.args.groups.now.items c.args.place c.index_mut-group.result.now c.args.change (get_some c.args.groups.now.items c.args.place c.index_mut-group.result.now lt c.index_mut-group.ensures.value))
+    ∙ set_more c.args.groups.now.items c.args.place c.index_mut-group.result.now c.args.change
+    (get_some c.args.groups.now.items c.args.place c.index_mut-group.result.now lt
+    c.index_mut-group.ensures.value))
     c.push.ensures.ok

@@ -5,6 +5,9 @@ use Rattle.desk_memory_rows.proofs.ledger.set_state.Goals as goal
 
 pub returns-clause-state : goal.returns-clause-state
 returns-clause-state c =
-    let lt : c.args.place < length c.args.rows.now.items = omega (arith, c.args.rows.now.ok.0, c.requires.place) in
-    sym (updated_place (with_duty_state c.args.state) 1 c.args.place c.args.rows.now.items c.index_mut-row.result.now c.requires.numbered
-    (get_some c.args.rows.now.items c.args.place c.index_mut-row.result.now lt c.index_mut-row.ensures.value))
+    let lt : c.args.place < length c.args.rows.now.items =
+    omega (arith, c.args.rows.now.ok.0, c.requires.place) in
+    sym (updated_place (with_duty_state c.args.state) 1 c.args.place c.args.rows.now.items
+    c.index_mut-row.result.now c.requires.numbered
+    (get_some c.args.rows.now.items c.args.place c.index_mut-row.result.now lt
+    c.index_mut-row.ensures.value))

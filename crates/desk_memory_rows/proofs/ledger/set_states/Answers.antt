@@ -14,11 +14,16 @@ loop-left-preserved c =
     let left : ℕ = c.loop-left.left in
     let none : Place = record { duty = 0; state = IsOpen } in
     let place : Place = slice_index_or places (left - 1) none in
-    let lt : left - 1 < length places = omega (arith, c.loop-left.invariant.within, c.loop-left-test.true) in
+    let lt : left - 1 < length places =
+    omega (arith, c.loop-left.invariant.within, c.loop-left-test.true) in
     let next : left ≡ suc (left - 1) = omega (arith, c.loop-left-test.true) in
     record {
       within = omega (arith, c.loop-left.invariant.within);
       len = c.set_state.ensures.len ∙ c.loop-left.invariant.len;
-      numbers = ap (numbered 1) c.set_state.ensures.state ∙ numbered-updated (with_duty_state place.state) (λ row. refl) (1 + (place.duty - 1)) 1 c.loop-left.rows.items c.loop-left.invariant.numbers;
-      set = set_next _ places (left - 1) left none c.loop-left.rows.items c.args.rows.now.items c.set_state.new.rows.items c.requires.within lt next c.set_state.ensures.state c.loop-left.invariant.set;
+      numbers = ap (numbered 1) c.set_state.ensures.state
+          ∙ numbered-updated (with_duty_state place.state) (λ row. refl) (1 + (place.duty - 1)) 1
+          c.loop-left.rows.items c.loop-left.invariant.numbers;
+      set = set_next _ places (left - 1) left none c.loop-left.rows.items c.args.rows.now.items
+          c.set_state.new.rows.items c.requires.within lt next c.set_state.ensures.state
+          c.loop-left.invariant.set;
     }

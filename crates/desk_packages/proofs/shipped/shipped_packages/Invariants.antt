@@ -9,5 +9,6 @@ invariant-loop-row g l =
     let new = g.S.Store.seen l.store in
     record {
       same : Same old new;
-      all : OfRows (λ t. l.all.items ++ shipped_of (drop l.row-index l.attached) t.packages ≡ shipped_of l.attached t.packages) old new;
+      all : OfRows (λ t. l.all.items ++ shipped_of (drop l.row-index l.attached) t.packages
+          ≡ shipped_of l.attached t.packages) old new;
     }

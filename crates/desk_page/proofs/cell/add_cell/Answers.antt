@@ -7,11 +7,13 @@ returns-in-Name c = rw c.in-Name.is c.add_framed.ensures
 
 pub returns-in-Anchor : goal.returns-in-Anchor
 unfolding anchor_cell
-returns-in-Anchor c = rw c.in-Anchor.is (simp (c.from.ensures, c.from-in-Anchor.ensures) at c.add_paired.ensures)
+returns-in-Anchor c = rw c.in-Anchor.is
+    (simp (c.from.ensures, c.from-in-Anchor.ensures) at c.add_paired.ensures)
 
 pub returns-in-Link : goal.returns-in-Link
 unfolding link_cell
-returns-in-Link c = rw c.in-Link.is (simp (c.from-in-Link.ensures, c.from-in-Link-2.ensures) at c.add_paired-in-Link.ensures)
+returns-in-Link c = rw c.in-Link.is
+    (simp (c.from-in-Link.ensures, c.from-in-Link-2.ensures) at c.add_paired-in-Link.ensures)
 
 pub returns-in-Count : goal.returns-in-Count
 unfolding number_cell

@@ -5,4 +5,5 @@ use Rattle.desk_page.proofs.cell.add_row.Given as goal
 
 -- the cells before the index
 abbrev pub invariant-loop-cell : goal.invariant-loop-cell
-invariant-loop-cell l = string_bytes l.text ≡ string_bytes l.initial.text ++ row_text (map cell_of (take l.cell-index l.cells))
+invariant-loop-cell l = string_bytes l.text ≡ string_bytes l.initial.text
+    ++ row_text (map cell_of (take l.cell-index l.cells))

@@ -6,4 +6,5 @@ use Rattle.desk_page.proofs.cell.add_rule_lines.Given as goal
 
 -- a line for each rule before the index
 abbrev pub invariant-loop-rule : goal.invariant-loop-rule
-invariant-loop-rule l = string_bytes l.text ≡ string_bytes l.initial.text ++ flat_map rule_line (take l.rule-index l.rules)
+invariant-loop-rule l = string_bytes l.text ≡ string_bytes l.initial.text
+    ++ flat_map rule_line (take l.rule-index l.rules)

@@ -7,6 +7,9 @@ use Rattle.desk_page.proofs.duties.add_changes.Goals as goal
 
 pub loop-steps-preserved : goal.loop-steps-preserved
 loop-steps-preserved c =
-    joined_more (flat_map change_row) c.args.changes.now c.loop-steps.steps-index c.steps-item.result (string_bytes c.args.text.now)
-    (string_bytes c.loop-steps.text) (string_bytes c.add_duty_changes.new.text) c.loop-steps-test.true c.steps-item.is c.loop-steps.invariant
-    (c.in_ok-add_duty_changes.ensures ∙ ap (λ rows. string_bytes c.loop-steps.text ++ flat_map change_row rows) c.as_slice.ensures)
+    joined_more (flat_map change_row) c.args.changes.now c.loop-steps.steps-index
+    c.steps-item.result (string_bytes c.args.text.now)
+    (string_bytes c.loop-steps.text) (string_bytes c.add_duty_changes.new.text)
+    c.loop-steps-test.true c.steps-item.is c.loop-steps.invariant
+    (c.in_ok-add_duty_changes.ensures
+    ∙ ap (λ rows. string_bytes c.loop-steps.text ++ flat_map change_row rows) c.as_slice.ensures)

@@ -6,4 +6,5 @@ use Rattle.desk_page.proofs.duties.add_duties.Given as goal
 
 -- a row for each duty before the index
 abbrev pub invariant-loop-duty : goal.invariant-loop-duty
-invariant-loop-duty l = string_bytes l.text ≡ string_bytes l.initial.text ++ flat_map duty_row (take l.duty-index l.duties)
+invariant-loop-duty l = string_bytes l.text ≡ string_bytes l.initial.text
+    ++ flat_map duty_row (take l.duty-index l.duties)

@@ -12,5 +12,6 @@ nothing_more (duty ∷ duties) = refl
 pub returns : goal.returns
 returns c =
     let text = string_bytes c.loop-steps.text in
-    let none = at_drop_all (waiver_rows c.loop-steps.rest.now) c.args.changes.now c.loop-steps.steps-index c.loop-steps-test.false ∙ nothing_more c.loop-steps.rest.now in
+    let none = at_drop_all (waiver_rows c.loop-steps.rest.now) c.args.changes.now
+    c.loop-steps.steps-index c.loop-steps-test.false ∙ nothing_more c.loop-steps.rest.now in
     sym (append-nil text) ∙ ap (λ rows. text ++ rows) (sym none) ∙ c.loop-steps.invariant

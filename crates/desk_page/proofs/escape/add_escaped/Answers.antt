@@ -10,8 +10,10 @@ use Rattle.desk_page.proofs.escape.add_escaped.Goals as goal
 pub returns : goal.returns
 unfolding escaped
 returns c =
-    let t = YieldsList-end (YieldsList-from_chars c.args.value.now c.utf8.value cc) c.loop-ch.yielded _ c.loop-ch.yielded_by _ _ c.in-None.is c.next.ensures.steps in
-    c.loop-ch.invariant ∙ ap (λ cs. string_bytes c.args.text.now ++ flat_map shown_char cs) (sym (map-id c.loop-ch.yielded) ∙ t.0)
+    let t = YieldsList-end (YieldsList-from_chars c.args.value.now c.utf8.value cc)
+    c.loop-ch.yielded _ c.loop-ch.yielded_by _ _ c.in-None.is c.next.ensures.steps in
+    c.loop-ch.invariant ∙ ap (λ cs. string_bytes c.args.text.now ++ flat_map shown_char cs)
+    (sym (map-id c.loop-ch.yielded) ∙ t.0)
 
 pub loop-ch-preserved : goal.loop-ch-preserved
 loop-ch-preserved c =

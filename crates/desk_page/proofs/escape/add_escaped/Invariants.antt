@@ -6,4 +6,5 @@ use Rattle.desk_page.proofs.escape.add_escaped.Given as goal
 
 -- each character so far
 abbrev pub invariant-loop-ch : goal.invariant-loop-ch
-invariant-loop-ch l = string_bytes l.text ≡ string_bytes l.initial.text ++ flat_map shown_char l.yielded
+invariant-loop-ch l = string_bytes l.text ≡ string_bytes l.initial.text
+    ++ flat_map shown_char l.yielded

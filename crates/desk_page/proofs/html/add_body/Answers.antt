@@ -5,4 +5,5 @@ use Rattle.desk_page.proofs.html.add_body.Goals as goal
 
 pub returns-in-None : goal.returns-in-None
 unfolding body_text
-returns-in-None c = rw c.in-None.is (added c.push_str.result (string_bytes c.push_str.new.self) _ _ c.push_str.ensures.bytes)
+returns-in-None c = rw c.in-None.is
+    (added c.push_str.result (string_bytes c.push_str.new.self) _ _ c.push_str.ensures.bytes)

@@ -6,4 +6,5 @@ use Rattle.desk_page.proofs.html.add_texts.Given as goal
 
 -- a notice for each text before the index
 abbrev pub invariant-loop-given : goal.invariant-loop-given
-invariant-loop-given l = string_bytes l.text ≡ string_bytes l.initial.text ++ flat_map notice (take l.given-index l.texts)
+invariant-loop-given l = string_bytes l.text ≡ string_bytes l.initial.text
+    ++ flat_map notice (take l.given-index l.texts)

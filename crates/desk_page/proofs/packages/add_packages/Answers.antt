@@ -5,5 +5,7 @@ use Rattle.desk_page.proofs.packages.add_packages.Goals as goal
 
 pub loop-line-preserved : goal.loop-line-preserved
 loop-line-preserved c =
-    joined_more package_row c.args.lines.now c.loop-line.line-index c.line-item.result (string_bytes c.args.text.now) (string_bytes c.loop-line.text)
-    (string_bytes c.add_package.new.text) c.loop-line-test.true c.line-item.is c.loop-line.invariant c.in_ok-add_package.ensures
+    joined_more package_row c.args.lines.now c.loop-line.line-index c.line-item.result
+    (string_bytes c.args.text.now) (string_bytes c.loop-line.text)
+    (string_bytes c.add_package.new.text) c.loop-line-test.true c.line-item.is c.loop-line.invariant
+    c.in_ok-add_package.ensures

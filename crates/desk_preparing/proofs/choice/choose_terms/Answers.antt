@@ -8,9 +8,12 @@ use Rattle.desk_preparing.proofs.choice.choose_terms.Goals as goal
 
 pub returns-in-Nowhere-clause-plan : goal.returns-in-Nowhere-clause-plan
 returns-in-Nowhere-clause-plan g c = λ w right h t held.
-    subst (IsPlan (choose_found w t c.args.release.now c.args.document c.args.package_id.now c.args.terms.now)
-    (chosen_change c.args.release.now c.args.document c.args.package_id.now (sorted_set c.args.terms.now))) (sym c.refused.ensures)
-    (subst (IsFound t c.args.release.now c.args.document c.args.package_id.now) c.in-Nowhere.is (c.in_ok-refusal.ensures.found h t held) w c.args.terms.now)
+    subst (IsPlan (choose_found w t c.args.release.now c.args.document c.args.package_id.now
+    c.args.terms.now)
+    (chosen_change c.args.release.now c.args.document c.args.package_id.now
+    (sorted_set c.args.terms.now))) (sym c.refused.ensures)
+    (subst (IsFound t c.args.release.now c.args.document c.args.package_id.now) c.in-Nowhere.is
+    (c.in_ok-refusal.ensures.found h t held) w c.args.terms.now)
 
 pub returns-in-Here-clause-plan : goal.returns-in-Here-clause-plan
 returns-in-Here-clause-plan g c = λ w right.
@@ -19,9 +22,12 @@ returns-in-Here-clause-plan g c = λ w right.
     let p = c.args.package_id.now in
     let terms = c.args.terms.now in
     let place = c.in-Here.place in
-    plan_after (g.S.Store.seen c.args.store.now) (g.S.Store.seen c.find_place.new.store) (g.S.Store.seen c.choose_here.new.store)
-    (λ t. choose_for w terms (conclusion_found w t place.row) place.row) (λ t. choose_found w t r d p terms)
-    (λ t. chosen_change r place.document p (sorted_set terms)) (λ t. chosen_change r d p (sorted_set terms))
+    plan_after (g.S.Store.seen c.args.store.now) (g.S.Store.seen c.find_place.new.store)
+    (g.S.Store.seen c.choose_here.new.store)
+    (λ t. choose_for w terms (conclusion_found w t place.row) place.row)
+    (λ t. choose_found w t r d p terms)
+    (λ t. chosen_change r place.document p (sorted_set terms))
+    (λ t. chosen_change r d p (sorted_set terms))
     c.choose_here.result c.in_ok-refusal.ensures.kept c.choose_here.ensures.kept
     (λ h t held.
     let there = subst (IsFound t r d p) c.in-Here.is (c.in_ok-refusal.ensures.found h t held) in
@@ -29,4 +35,5 @@ returns-in-Here-clause-plan g c = λ w right.
     (c.choose_here.ensures.plan w right)
 
 pub returns-in-Here-clause-kept : goal.returns-in-Here-clause-kept
-returns-in-Here-clause-kept g c = plans_after _ _ _ c.choose_here.result c.in_ok-refusal.ensures.kept c.choose_here.ensures.kept
+returns-in-Here-clause-kept g c = plans_after _ _ _ c.choose_here.result
+    c.in_ok-refusal.ensures.kept c.choose_here.ensures.kept

@@ -13,11 +13,15 @@ returns-clause-found g c = λ h t held.
     let d : ℕ = c.args.document in
     let e : package_found t d c.args.package_id.now ≡ Some c.in-Some.row =
     ap (package_found t d) (sym c.as_str.ensures)
-    ∙ (ap (λ (n : ℕ). package_found t n c.as_str.result.now) (sym c.from.ensures) ∙ (sym (one.found (two.kept.kept.spared.honest h) t held) ∙ c.in-Some.is)) in
-    let a : list_any (is_attachment c.args.release.now d) t.attached ≡ c.in_ok-is_attached.is_attached =
+    ∙ (ap (λ (n : ℕ). package_found t n c.as_str.result.now) (sym c.from.ensures)
+    ∙ (sym (one.found (two.kept.kept.spared.honest h) t held) ∙ c.in-Some.is)) in
+    let a : list_any (is_attachment c.args.release.now
+    d) t.attached ≡ c.in_ok-is_attached.is_attached =
     ap (λ (r : List ℕ). list_any (is_attachment r d) t.attached) (sym c.as_str-2.ensures)
-    ∙ (ap (λ (n : ℕ). list_any (is_attachment c.as_str-2.result.now n) t.attached) (sym c.from-2.ensures) ∙ sym (two.found h t (one.kept.kept.spared.holds t held))) in
-    is_found t c.args.release.now d c.args.package_id.now c.args.state c.in_ok-is_attached.is_attached
+    ∙ (ap (λ (n : ℕ). list_any (is_attachment c.as_str-2.result.now n) t.attached)
+    (sym c.from-2.ensures) ∙ sym (two.found h t (one.kept.kept.spared.holds t held))) in
+    is_found t c.args.release.now d c.args.package_id.now c.args.state
+    c.in_ok-is_attached.is_attached
     (record { document = d; row = c.in-Some.row }) c.open_place.result c.open_place.ensures refl
     (λ w terms.
     found_at w terms t c.args.state c.args.release.now d c.args.package_id.now c.in-Some.row e

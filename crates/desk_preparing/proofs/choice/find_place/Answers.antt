@@ -9,7 +9,8 @@ returns-clause-found g c =
     let one = c.in_ok-state.ensures in
     let two = c.in_ok-number.ensures in
     let d = c.args.document in
-    found_after (g.S.Store.seen c.args.store.now) (g.S.Store.seen c.number_of.new.store) (g.S.Store.seen c.find_in.new.store)
+    found_after (g.S.Store.seen c.args.store.now) (g.S.Store.seen c.number_of.new.store)
+    (g.S.Store.seen c.find_in.new.store)
     c.args.release.now c.in-Some-2.number d c.args.package_id.now c.in-Some.state c.find_in.result
     (same_then_same _ _ _ one.kept two.kept) c.find_in.ensures.kept
     (subst (λ (o : Option ℕ). IfSome o (λ n. n ≡ d)) c.in-Some-2.is two.same)

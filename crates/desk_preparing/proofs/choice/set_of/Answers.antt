@@ -19,7 +19,8 @@ loop-i-preserved c =
     let place : ℕ = c.loop-i.i - 1 in
     let set = texts c.loop-i.set.keys in
     let next : suc place ≡ c.loop-i.i = omega arith in
-    ap (put_texts (take place terms)) (ap texts c.in_ok-insert.ensures.keys ∙ texts-insert_key c.loop-i.set.keys c.at.result)
+    ap (put_texts (take place terms))
+    (ap texts c.in_ok-insert.ensures.keys ∙ texts-insert_key c.loop-i.set.keys c.at.result)
     ∙ (ap (λ term. put_texts (take place terms) (put_new term set)) c.at.ensures
     ∙ (sym (put_texts-take terms place [] set (omega arith))
     ∙ (ap (λ n. put_texts (take n terms) set) next ∙ c.loop-i.invariant)))

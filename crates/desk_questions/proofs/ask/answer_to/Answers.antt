@@ -10,16 +10,20 @@ pub returns-in-Changes-clause-answer : goal.returns-in-Changes-clause-answer
 returns-in-Changes-clause-answer g c = λ w right. rw c.in-Changes.is (c.changes.ensures.answer w)
 
 pub returns-in-Findings-clause-answer : goal.returns-in-Findings-clause-answer
-returns-in-Findings-clause-answer g c = λ w right. rw c.in-Findings.is (c.findings.ensures.answer w right)
+returns-in-Findings-clause-answer g c = λ w right. rw c.in-Findings.is
+    (c.findings.ensures.answer w right)
 
 pub returns-in-Cheapest-clause-answer : goal.returns-in-Cheapest-clause-answer
-returns-in-Cheapest-clause-answer g c = λ w right. rw c.in-Cheapest.is (c.cheapest.ensures.answer w right)
+returns-in-Cheapest-clause-answer g c = λ w right. rw c.in-Cheapest.is
+    (c.cheapest.ensures.answer w right)
 
 pub returns-in-Releases-clause-answer : goal.returns-in-Releases-clause-answer
 returns-in-Releases-clause-answer g c = λ w right. rw c.in-Releases.is (c.releases.ensures.answer w)
 
 pub returns-in-Documents-clause-answer : goal.returns-in-Documents-clause-answer
-returns-in-Documents-clause-answer g c = λ w right. rw c.in-Documents.is (c.documents.ensures.answer w)
+returns-in-Documents-clause-answer g c = λ w right. rw c.in-Documents.is
+    (c.documents.ensures.answer w)
 
 pub returns-in-OpenDuties-clause-answer : goal.returns-in-OpenDuties-clause-answer
-returns-in-OpenDuties-clause-answer g c = λ w right. rw c.in-OpenDuties.is (c.open_duties.ensures.answer w)
+returns-in-OpenDuties-clause-answer g c = λ w right. rw c.in-OpenDuties.is
+    (c.open_duties.ensures.answer w)

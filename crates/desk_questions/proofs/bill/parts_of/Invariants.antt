@@ -8,4 +8,5 @@ use Rattle.desk_questions.proofs.bill.parts_of.Given as goal
 abbrev pub invariant-loop-row : goal.invariant-loop-row
 invariant-loop-row g l =
     (l.lines ≡ map (bill_line l.frozen.rows.items l.release) l.yielded)
-    × ((w : Readings) → g.T.Texts.are_right w → AreNamed w (flat_map (package_texts w l.frozen.rows.items l.release) l.yielded) l.named)
+    × ((w : Readings) → g.T.Texts.are_right w
+    → AreNamed w (flat_map (package_texts w l.frozen.rows.items l.release) l.yielded) l.named)

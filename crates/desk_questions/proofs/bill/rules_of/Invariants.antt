@@ -4,4 +4,5 @@ use Rattle.desk_questions.specs.Billing.{is_of}
 use Rattle.desk_questions.proofs.bill.rules_of.Given as goal
 
 abbrev pub invariant-loop-row : goal.invariant-loop-row
-invariant-loop-row l = l.rules ≡ map (λ row. row.rule) (filter (is_of l.key) (take l.row-index l.rows))
+invariant-loop-row l = l.rules
+    ≡ map (λ row. row.rule) (filter (is_of l.key) (take l.row-index l.rows))

@@ -8,12 +8,19 @@ use Rattle.desk_questions.proofs.listing.cheapest.Goals as goal
 
 pub returns-in-Ok-clause-answer : goal.returns-in-Ok-clause-answer
 returns-in-Ok-clause-answer g c = λ w right.
-    told_after (g.S.Store.seen c.args.store.now) (g.S.Store.seen c.package_of.new.store) (g.S.Store.seen c.priced_for.new.store)
-    (λ t. priced_found w t c.args.form.now c.in-Ok.row) (λ t. queried_from w t (query.Cheapest c.args.document c.args.package_id.now c.args.form.now)) c.priced_for.result
+    told_after (g.S.Store.seen c.args.store.now) (g.S.Store.seen c.package_of.new.store)
+    (g.S.Store.seen c.priced_for.new.store)
+    (λ t. priced_found w t c.args.form.now c.in-Ok.row)
+    (λ t. queried_from w t (query.Cheapest c.args.document c.args.package_id.now c.args.form.now))
+    c.priced_for.result
     c.in_ok-row.ensures.kept c.priced_for.ensures.kept
-    (λ h t held. found_as (priced_found w t c.args.form.now) c.in_ok-row.field-0 (Ok c.in-Ok.row) _ c.in-Ok.is (c.in_ok-row.ensures.found h t held (priced_found w t c.args.form.now) ∙ cheapest_told w t c.args.document c.args.package_id.now c.args.form.now))
+    (λ h t held. found_as (priced_found w t c.args.form.now) c.in_ok-row.field-0 (Ok c.in-Ok.row) _
+    c.in-Ok.is (c.in_ok-row.ensures.found h t held (priced_found w t c.args.form.now)
+    ∙ cheapest_told w t c.args.document c.args.package_id.now c.args.form.now))
     (c.priced_for.ensures.answer w right)
 
 pub returns-in-Err-clause-answer : goal.returns-in-Err-clause-answer
 returns-in-Err-clause-answer g c = λ w right h t held.
-    found_as (priced_found w t c.args.form.now) c.in_ok-row.field-0 (Err c.in-Err.refusal) _ c.in-Err.is (c.in_ok-row.ensures.found h t held (priced_found w t c.args.form.now) ∙ cheapest_told w t c.args.document c.args.package_id.now c.args.form.now)
+    found_as (priced_found w t c.args.form.now) c.in_ok-row.field-0 (Err c.in-Err.refusal) _
+    c.in-Err.is (c.in_ok-row.ensures.found h t held (priced_found w t c.args.form.now)
+    ∙ cheapest_told w t c.args.document c.args.package_id.now c.args.form.now)

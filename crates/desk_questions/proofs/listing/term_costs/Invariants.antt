@@ -10,5 +10,6 @@ abbrev pub invariant-loop-term : goal.invariant-loop-term
 invariant-loop-term g l =
     SoFar
     (λ old new. (w : Readings) → g.T.Texts.are_right w
-    → OfRows (λ t. l.costs.items ≡ map (term_cost w t.adoption (rules_found t) l.form l.document) (take l.term-index l.terms)) old new)
+    → OfRows (λ t. l.costs.items ≡ map (term_cost w t.adoption (rules_found t) l.form l.document)
+    (take l.term-index l.terms)) old new)
     (g.S.Store.seen l.fn.store) (g.S.Store.seen l.store)

@@ -8,4 +8,6 @@ pub returns-clause-answer : goal.returns-clause-answer
 returns-clause-answer g c = λ w h t held.
     let heads = c.in_ok-heads.ensures in
     let lines = c.in_ok-document_lines.ensures in
-    ap answered.Documents (lines.lines h t (heads.kept.kept.spared.holds t held) ∙ (ap (map (head_line t)) (heads.found (lines.kept.kept.spared.honest h) t held) ∙ headed t t.document))
+    ap answered.Documents (lines.lines h t (heads.kept.kept.spared.holds t held)
+    ∙ (ap (map (head_line t)) (heads.found (lines.kept.kept.spared.honest h) t held)
+    ∙ headed t t.document))

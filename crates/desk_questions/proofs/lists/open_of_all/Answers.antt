@@ -12,15 +12,21 @@ loop-release-preserved g c =
     record {
       same = same_then_same _ _ _ before.same one.kept;
       found =
-          list_more open_found c.args.releases.now c.loop-release.release-index c.release-item.result
-          c.loop-release.duties.items c.append.new.self.items (λ t. flat_map (open_found t) c.args.releases.now) _ _ _ c.loop-release-test.true c.release-item.is
-          before.same one.kept (λ h t held. c.in_ok-append.ensures.items ∙ ap (λ more. c.loop-release.duties.items ++ more) (one.found h t held)) before.found;
+          list_more open_found c.args.releases.now c.loop-release.release-index
+          c.release-item.result
+          c.loop-release.duties.items c.append.new.self.items
+          (λ t. flat_map (open_found t) c.args.releases.now) _ _ _ c.loop-release-test.true
+          c.release-item.is
+          before.same one.kept (λ h t held. c.in_ok-append.ensures.items
+          ∙ ap (λ more. c.loop-release.duties.items ++ more) (one.found h t held)) before.found;
     }
 
 pub returns-in_err-more-clause-kept : goal.returns-in_err-more-clause-kept
 returns-in_err-more-clause-kept g c =
-    fails _ _ _ c.from_residual.result c.from_residual.ensures.0 c.loop-release.invariant.same c.in_err-more.ensures.kept
+    fails _ _ _ c.from_residual.result c.from_residual.ensures.0 c.loop-release.invariant.same
+    c.in_err-more.ensures.kept
 
 pub returns-in_err-append-clause-kept : goal.returns-in_err-append-clause-kept
 returns-in_err-append-clause-kept g c =
-    fails _ _ _ c.from_residual-in_err-append.result c.from_residual-in_err-append.ensures.0 c.loop-release.invariant.same c.in_ok-more.ensures.kept.kept
+    fails _ _ _ c.from_residual-in_err-append.result c.from_residual-in_err-append.ensures.0
+    c.loop-release.invariant.same c.in_ok-more.ensures.kept.kept

@@ -9,5 +9,6 @@ pub returns-clause-found : goal.returns-clause-found
 returns-clause-found g c = λ h t held.
     let test = λ (row : DutyRow). is_open row.state in
     c.open_among.ensures
-    ∙ (ap (filter test) (c.in_ok-rows.ensures.found h t (c.in_ok-may_be_open.ensures.kept.kept.spared.holds t held))
+    ∙ (ap (filter test) (c.in_ok-rows.ensures.found h t
+    (c.in_ok-may_be_open.ensures.kept.kept.spared.holds t held))
     ∙ filter_both (is_duty_of c.args.release.now) test t.duty)

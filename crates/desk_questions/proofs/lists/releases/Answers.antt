@@ -8,4 +8,5 @@ pub returns-clause-answer : goal.returns-clause-answer
 returns-clause-answer g c = λ w h t held.
     let rows = c.in_ok-rows.ensures in
     let lines = c.in_ok-release_lines.ensures in
-    ap answered.Releases (lines.lines h t (rows.kept.kept.spared.holds t held) ∙ (ap (map (counted_line t)) (rows.found (lines.kept.kept.spared.honest h) t held) ∙ counted t))
+    ap answered.Releases (lines.lines h t (rows.kept.kept.spared.holds t held)
+    ∙ (ap (map (counted_line t)) (rows.found (lines.kept.kept.spared.honest h) t held) ∙ counted t))

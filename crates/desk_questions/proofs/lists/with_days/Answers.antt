@@ -9,5 +9,6 @@ pub loop-row-preserved : goal.loop-row-preserved
 loop-row-preserved g c =
     let one = c.in_ok-day.ensures in
     let with_day : Option (List ℕ) → OpenDuty = λ day. record { duty = c.in-Some.row; day = day } in
-    one_more (λ t. open_duty (changes_found t)) c.loop-row.yielded c.in-Some.row _ _ _ _ _ _ c.loop-row.invariant one.kept
+    one_more (λ t. open_duty (changes_found t)) c.loop-row.yielded c.in-Some.row _ _ _ _ _ _
+    c.loop-row.invariant one.kept
     (λ h t held. ap with_day (one.found h t held)) c.in_ok-push.ensures.items

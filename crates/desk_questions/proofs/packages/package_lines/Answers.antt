@@ -11,6 +11,7 @@ loop-row-preserved g c =
     record {
       same = same_then_same _ _ _ before.same one.kept;
       found = λ w right.
-          line_more (λ t. package_line (conclusion_found w t) (choice_found t c.args.release.now)) c.loop-row.yielded c.in-Some.row _ _ _ _ _ _ before.same one.kept
+          line_more (λ t. package_line (conclusion_found w t) (choice_found t c.args.release.now))
+          c.loop-row.yielded c.in-Some.row _ _ _ _ _ _ before.same one.kept
           (before.found w right) (one.line w right) c.in_ok-push.ensures.ok;
     }

@@ -10,5 +10,6 @@ abbrev pub invariant-loop-row : goal.invariant-loop-row
 invariant-loop-row g l =
     SoFar
     (λ old new. (w : Readings) → g.T.Texts.are_right w
-    → OfRows (λ t. l.lines ≡ map (package_line (conclusion_found w t) (choice_found t l.release)) l.yielded) old new)
+    → OfRows (λ t. l.lines ≡ map (package_line (conclusion_found w t) (choice_found t l.release))
+    l.yielded) old new)
     (g.S.Store.seen l.fn.store) (g.S.Store.seen l.store)

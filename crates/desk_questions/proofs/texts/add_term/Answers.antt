@@ -19,9 +19,11 @@ returns-in_ok-insert g c = λ w right.
     let mid : Named = record { texts = c.add_texts.new.named; met = old.met } in
     let new : Named = record { texts = c.add_texts.new.named; met = c.insert.new.self } in
     let same = c.as_str-term.ensures in
-    let is = ap (λ (t : List ℕ). is_licence (main_text w d t)) same ∙ (sym (c.in_ok-is_anywhere.ensures.anywhere w right) ∙ c.if-is_anywhere.true) in
+    let is = ap (λ (t : List ℕ). is_licence (main_text w d t)) same
+    ∙ (sym (c.in_ok-is_anywhere.ensures.anywhere w right) ∙ c.if-is_anywhere.true) in
     let put : Adds w (texts_named w d c.args.row.now.term) old mid =
-    put_texts w (texts_named w d c.args.row.now.term) old mid (c.in_ok-is_anywhere.ensures.named w right) refl in
+    put_texts w (texts_named w d c.args.row.now.term) old mid
+    (c.in_ok-is_anywhere.ensures.named w right) refl in
     subst (λ (t : List ℕ). Adds w (texts_named w d t) old new) same
     (met_more w d c.as_str-term.result old mid new is refl c.in_ok-insert.ensures.updates
     (subst (λ (t : List ℕ). Adds w (texts_named w d t) old mid) (sym same) put))
@@ -29,4 +31,5 @@ returns-in_ok-insert g c = λ w right.
 pub returns-else-is_anywhere : goal.returns-else-is_anywhere
 returns-else-is_anywhere g c = λ w right.
     put_texts w (texts_named w c.args.row.now.document c.args.row.now.term) c.args.named.now
-    (record { texts = c.add_texts.new.named; met = c.args.named.now.met }) (c.in_ok-is_anywhere.ensures.named w right) refl
+    (record { texts = c.add_texts.new.named; met = c.args.named.now.met })
+    (c.in_ok-is_anywhere.ensures.named w right) refl

@@ -19,15 +19,27 @@ loop-row-preserved g c =
     let old = c.args.named.now in
     elim c.if-has.branch [
       | then-has+in_ok-add_term b ↦ λ w right.
-          subst (λ (named : Named). Adds w (flat_map (λ row. texts_named w row.document row.term) (filter p (take (n + 1) rows))) old named) (sym b.named-is)
-          (named_next w (λ row. texts_named w row.document row.term) p rows n x old c.loop-row.named b.add_term.new.named c.loop-row-test.true c.row-item.is (sym c.has.ensures ∙ b.if-has.true) (c.loop-row.invariant w right) (b.in_ok-add_term.ensures w right))
+          subst (λ (named : Named). Adds w
+          (flat_map (λ row. texts_named w row.document row.term) (filter p (take (n + 1) rows))) old
+          named) (sym b.named-is)
+          (named_next w (λ row. texts_named w row.document row.term) p rows n x old c.loop-row.named
+          b.add_term.new.named c.loop-row-test.true c.row-item.is
+          (sym c.has.ensures ∙ b.if-has.true) (c.loop-row.invariant w right)
+          (b.in_ok-add_term.ensures w right))
       | else-has b ↦ λ w right.
-          subst (λ (named : Named). Adds w (flat_map (λ row. texts_named w row.document row.term) (filter p (take (n + 1) rows))) old named) (sym b.named-is)
-          (named_same w (λ row. texts_named w row.document row.term) p rows n x old c.loop-row.named c.loop-row-test.true c.row-item.is (sym c.has.ensures ∙ b.if-has.false) (c.loop-row.invariant w right))
+          subst (λ (named : Named). Adds w
+          (flat_map (λ row. texts_named w row.document row.term) (filter p (take (n + 1) rows))) old
+          named) (sym b.named-is)
+          (named_same w (λ row. texts_named w row.document row.term) p rows n x old c.loop-row.named
+          c.loop-row-test.true c.row-item.is (sym c.has.ensures ∙ b.if-has.false)
+          (c.loop-row.invariant w right))
     ]
 
 pub returns : goal.returns
 returns g c = λ w right.
-    subst (λ (rows : List FrozenRow). Adds w (flat_map (λ row. texts_named w row.document row.term) (filter (is_of c.args.key.now) rows)) c.args.named.now c.loop-row.named)
-    (take_all c.loop-row.row-index c.args.rows.now (omega (arith, c.loop-row.auto.row-index-end, c.loop-row-test.false)))
+    subst (λ (rows : List FrozenRow). Adds w
+    (flat_map (λ row. texts_named w row.document row.term) (filter (is_of c.args.key.now) rows))
+    c.args.named.now c.loop-row.named)
+    (take_all c.loop-row.row-index c.args.rows.now
+    (omega (arith, c.loop-row.auto.row-index-end, c.loop-row-test.false)))
     (c.loop-row.invariant w right)

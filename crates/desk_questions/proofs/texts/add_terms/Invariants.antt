@@ -8,4 +8,6 @@ use Rattle.desk_questions.proofs.texts.add_terms.Given as goal
 
 abbrev pub invariant-loop-row : goal.invariant-loop-row
 invariant-loop-row g l =
-    (w : Readings) → g.T.Texts.are_right w → Adds w (flat_map (λ row. texts_named w row.document row.term) (filter (is_of l.key) (take l.row-index l.rows))) l.fn.named l.named
+    (w : Readings) → g.T.Texts.are_right w
+    → Adds w (flat_map (λ row. texts_named w row.document row.term)
+    (filter (is_of l.key) (take l.row-index l.rows))) l.fn.named l.named

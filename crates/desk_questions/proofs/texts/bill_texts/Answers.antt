@@ -16,7 +16,11 @@ loop-text-preserved g c =
     let one = c.in_ok-body.ensures in
     let text = c.in-Some.text in
     let rest = flat_map licence_ids (into_iter_items c.next.new.self) in
-    let next = λ (w : Readings) (catalogue : Option (List ℕ)) (given : c.args.licences ≡ map (licence_found w catalogue) (flat_map licence_ids c.args.uses.items)). one.found w catalogue rest (subst (λ (xs : List TextOf). AreLeft w catalogue (flat_map licence_ids xs) c.loop-text.licences) c.in-Some.ensures.steps.0 (before.left w catalogue given)) in
+    let next =
+    λ (w : Readings) (catalogue : Option (List ℕ)) (given : c.args.licences ≡ map (licence_found w catalogue) (flat_map licence_ids c.args.uses.items)).
+    one.found w catalogue rest (subst (λ (xs : List TextOf). AreLeft w catalogue
+    (flat_map licence_ids xs) c.loop-text.licences) c.in-Some.ensures.steps.0
+    (before.left w catalogue given)) in
     record {
       same = same_then_same _ _ _ before.same one.kept;
       left = λ w catalogue given. (next w catalogue given).0;
@@ -24,7 +28,9 @@ loop-text-preserved g c =
           let told : TextOf → BillText = bill_text w catalogue t.extracted in
           let yielded : List TextOf = c.loop-text.yielded in
           c.in_ok-push.ensures.ok
-          ∙ (ap (λ (xs : List BillText). xs ++ c.in_ok-body.body ∷ []) (before.found w catalogue given (one.kept.kept.spared.honest h) t held)
-          ∙ (ap (λ (body : BillText). map told yielded ++ body ∷ []) ((next w catalogue given).1 h t (before.same.kept.spared.holds t held))
+          ∙ (ap (λ (xs : List BillText). xs ++ c.in_ok-body.body ∷ [])
+          (before.found w catalogue given (one.kept.kept.spared.honest h) t held)
+          ∙ (ap (λ (body : BillText). map told yielded ++ body ∷ [])
+          ((next w catalogue given).1 h t (before.same.kept.spared.holds t held))
           ∙ sym (map-append told yielded (text ∷ []))));
     }

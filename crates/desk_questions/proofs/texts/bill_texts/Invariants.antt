@@ -15,6 +15,10 @@ invariant-loop-text g l =
     let new = g.S.Store.seen l.store in
     record {
       same : Same old new;
-      left : (w : Readings) (catalogue : Option (List ℕ)) → l.fn.licences ≡ map (licence_found w catalogue) (flat_map licence_ids l.fn.uses.items) → AreLeft w catalogue (flat_map licence_ids (into_iter_items l.text-iterator)) l.licences;
-      found : (w : Readings) (catalogue : Option (List ℕ)) → l.fn.licences ≡ map (licence_found w catalogue) (flat_map licence_ids l.fn.uses.items) → OfRows (λ t. l.bodies ≡ map (bill_text w catalogue t.extracted) l.yielded) old new;
+      left : (w : Readings) (catalogue : Option (List ℕ))
+          → l.fn.licences ≡ map (licence_found w catalogue) (flat_map licence_ids l.fn.uses.items)
+          → AreLeft w catalogue (flat_map licence_ids (into_iter_items l.text-iterator)) l.licences;
+      found : (w : Readings) (catalogue : Option (List ℕ))
+          → l.fn.licences ≡ map (licence_found w catalogue) (flat_map licence_ids l.fn.uses.items)
+          → OfRows (λ t. l.bodies ≡ map (bill_text w catalogue t.extracted) l.yielded) old new;
     }

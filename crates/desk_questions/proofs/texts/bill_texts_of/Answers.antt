@@ -11,8 +11,12 @@ pub returns-clause-found : goal.returns-clause-found
 returns-clause-found g c = λ w right.
     let catalogue = λ (t : Tables). revision_text t.catalogue c.args.revision in
     let uses = c.args.uses.items in
-    read_then _ _ _ c.in_ok-licences.licences (λ t. map (licence_found w (catalogue t)) (flat_map licence_ids uses)) c.bill_texts.result (λ t (found : List BillText) u. found ≡ map (bill_text w (catalogue t) u.extracted) uses)
+    read_then _ _ _ c.in_ok-licences.licences
+    (λ t. map (licence_found w (catalogue t)) (flat_map licence_ids uses)) c.bill_texts.result
+    (λ t (found : List BillText) u. found ≡ map (bill_text w (catalogue t) u.extracted) uses)
     c.in_ok-licences.ensures.kept
-    (λ h t held. c.in_ok-licences.ensures.found w right h t held ∙ ap (λ xs. map (licence_found w (catalogue t)) (flat_map licence_ids xs)) c.as_slice.ensures.value)
+    (λ h t held. c.in_ok-licences.ensures.found w right h t held
+    ∙ ap (λ xs. map (licence_found w (catalogue t)) (flat_map licence_ids xs))
+    c.as_slice.ensures.value)
     c.bill_texts.ensures.kept
     (λ t is. c.bill_texts.ensures.found w (catalogue t) is)

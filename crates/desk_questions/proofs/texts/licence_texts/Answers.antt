@@ -10,5 +10,6 @@ returns-clause-found g c = λ w right.
     IfOk-weaker c.licences_found.result _ _
     (λ found told h t held.
     let text = licence_found w (revision_text t.catalogue c.args.revision) in
-    told h t held ∙ (ap (map (λ id. text id.now)) c.as_slice.ensures.value ∙ (map_borrowed text c.in_ok-ids.ids.items ∙ ap (map text) c.in_ok-ids.ensures)))
+    told h t held ∙ (ap (map (λ id. text id.now)) c.as_slice.ensures.value
+    ∙ (map_borrowed text c.in_ok-ids.ids.items ∙ ap (map text) c.in_ok-ids.ensures)))
     (c.licences_found.ensures.found w right)

@@ -5,4 +5,5 @@ use Rattle.desk_report.proofs.notice.add_packages.Given as goal
 
 -- the notice of each package before the index
 abbrev pub invariant-loop-line : goal.invariant-loop-line
-invariant-loop-line l = l.text.items ≡ l.initial.text.items ++ flat_map package_notice (take l.line-index l.lines)
+invariant-loop-line l = l.text.items ≡ l.initial.text.items
+    ++ flat_map package_notice (take l.line-index l.lines)

@@ -5,4 +5,5 @@ use Rattle.desk_report.proofs.notice.add_texts.Given as goal
 
 -- each text before the index
 abbrev pub invariant-loop-given : goal.invariant-loop-given
-invariant-loop-given l = l.text.items ≡ l.initial.text.items ++ flat_map text_notice (take l.given-index l.texts)
+invariant-loop-given l = l.text.items ≡ l.initial.text.items
+    ++ flat_map text_notice (take l.given-index l.texts)

@@ -7,6 +7,7 @@ use Rattle.desk_report.proofs.table.duties_csv.Given as goal
 -- the names, and a record for each duty before the index
 abbrev pub invariant-loop-line : goal.invariant-loop-line
 invariant-loop-line l = record {
-  text : text_written (λ v. Some v.items) l.writer ≡ Some (record_text column_names ++ flat_map duty_record (take l.line-index l.lines));
+  text : text_written (λ v. Some v.items) l.writer
+      ≡ Some (record_text column_names ++ flat_map duty_record (take l.line-index l.lines));
   ready : is_between_rows l.writer;
 }

@@ -10,5 +10,7 @@ loop-preserved g c =
     record {
       front = at.front ++ written;
       cut = front_moved c.args.bytes.now at.front c.loop.rest.now c.in_ok-taken.taken at.cut;
-      written = Appends-trans (g.W.Write.contents c.args.writer.now) (g.W.Write.contents c.loop.writer) (g.W.Write.contents c.write_some.new.writer) at.front written at.written c.in_ok-taken.ensures.ok.1;
+      written = Appends-trans (g.W.Write.contents c.args.writer.now)
+          (g.W.Write.contents c.loop.writer) (g.W.Write.contents c.write_some.new.writer) at.front
+          written at.written c.in_ok-taken.ensures.ok.1;
     }

@@ -9,7 +9,9 @@ invariant-loop-text g l = record {
   taken : List ℕ;
   cut : l.piece ≡ taken ++ l.rest;
   served : (number : ℕ) (came : List ℕ) → Shows l.fn.line came → All (λ b. b ≢ 10) came
-      → HasServed g.D.Desk.are_right g.D.Desk.tells g.D.Desk.stands g.D.Desk.seen number (came ++ taken) l.fn.desk l.desk (g.W.Write.contents l.fn.writer) (g.W.Write.contents l.writer) l.fn.end l.end l.line;
+      → HasServed g.D.Desk.are_right g.D.Desk.tells g.D.Desk.stands g.D.Desk.seen number
+      (came ++ taken) l.fn.desk l.desk (g.W.Write.contents l.fn.writer)
+      (g.W.Write.contents l.writer) l.fn.end l.end l.line;
   refused : l.end.refused ≤ l.fn.end.refused + length taken;
   failed : l.end.failed ≤ l.fn.end.failed + length taken;
   still : g.V.Watch.stops l.fn.watch ≡ true → IsUncounted l.fn.end l.end;

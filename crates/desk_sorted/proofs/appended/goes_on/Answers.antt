@@ -11,6 +11,8 @@ returns-in-Some g c = λ e up.
     let order = g.R.Keyed.order in
     let last = c.in-Some.last.now in
     let row = c.args.row.now in
-    ascends-push (below_by order) (order_of g.met.R.Keyed.total) c.args.rows.now last row c.in-Some.ensures.value
-    (turned_le (order row last) (order last row) (g.met.R.Keyed.total.antisymm row last) (sym (c.is_le.ensures ∙ ap is_le c.compare.ensures) ∙ e))
+    ascends-push (below_by order) (order_of g.met.R.Keyed.total) c.args.rows.now last row
+    c.in-Some.ensures.value
+    (turned_le (order row last) (order last row) (g.met.R.Keyed.total.antisymm row last)
+    (sym (c.is_le.ensures ∙ ap is_le c.compare.ensures) ∙ e))
     up

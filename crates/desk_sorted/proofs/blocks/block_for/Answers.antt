@@ -14,9 +14,15 @@ returns-then-place-blocks-clause-place g c =
     let order = g.R.Keyed.order in
     let row = c.args.row.now in
     let blocks = c.args.blocks.now in
-    let turns : Turns (below_by order) (λ y. is_le (order y row)) = λ x y out e. le_by (order x row) (order y row) (side_by order (λ x. x) order g.met.R.Keyed.total (λ x y e. e) row x y out) e in
-    let split = is_split (below_by order) (λ y. is_le (order y row)) turns blocks c.partition_point-place.result c.partition_point-place.ensures.bound c.requires.ascending
-    (IsPartitionPoint-from_clause (λ b. ends_in (λ y. is_le (order y row)) b.items) blocks c.partition_point-place.result c.partition_point-place.ensures.partitioned (blocks_turn (below_by order) (λ y. is_le (order y row)) turns blocks c.requires.ascending c.requires.filled) (λ a r f' k. search rules)) in
+    let turns : Turns (below_by order) (λ y. is_le (order y row)) =
+    λ x y out e. le_by (order x row) (order y row)
+    (side_by order (λ x. x) order g.met.R.Keyed.total (λ x y e. e) row x y out) e in
+    let split = is_split (below_by order) (λ y. is_le (order y row)) turns blocks
+    c.partition_point-place.result c.partition_point-place.ensures.bound c.requires.ascending
+    (IsPartitionPoint-from_clause (λ b. ends_in (λ y. is_le (order y row)) b.items) blocks
+    c.partition_point-place.result c.partition_point-place.ensures.partitioned
+    (blocks_turn (below_by order) (λ y. is_le (order y row)) turns blocks c.requires.ascending
+    c.requires.filled) (λ a r f' k. search rules)) in
     between_of g.met.R.Keyed.total row _ _ split.front split.back
 
 pub returns-else-place-blocks-clause-place : goal.returns-else-place-blocks-clause-place
@@ -24,9 +30,19 @@ returns-else-place-blocks-clause-place g c =
     let order = g.R.Keyed.order in
     let row = c.args.row.now in
     let blocks = c.args.blocks.now in
-    let turns : Turns (below_by order) (λ y. is_le (order y row)) = λ x y out e. le_by (order x row) (order y row) (side_by order (λ x. x) order g.met.R.Keyed.total (λ x y e. e) row x y out) e in
-    let split = is_split (below_by order) (λ y. is_le (order y row)) turns blocks c.partition_point-place.result c.partition_point-place.ensures.bound c.requires.ascending
-    (IsPartitionPoint-from_clause (λ b. ends_in (λ y. is_le (order y row)) b.items) blocks c.partition_point-place.result c.partition_point-place.ensures.partitioned (blocks_turn (below_by order) (λ y. is_le (order y row)) turns blocks c.requires.ascending c.requires.filled) (λ a r f' k. search rules)) in
-    let before : length blocks - 1 ≤ c.partition_point-place.result = omega (arith, c.if-place-blocks.false) in
+    let turns : Turns (below_by order) (λ y. is_le (order y row)) =
+    λ x y out e. le_by (order x row) (order y row)
+    (side_by order (λ x. x) order g.met.R.Keyed.total (λ x y e. e) row x y out) e in
+    let split = is_split (below_by order) (λ y. is_le (order y row)) turns blocks
+    c.partition_point-place.result c.partition_point-place.ensures.bound c.requires.ascending
+    (IsPartitionPoint-from_clause (λ b. ends_in (λ y. is_le (order y row)) b.items) blocks
+    c.partition_point-place.result c.partition_point-place.ensures.partitioned
+    (blocks_turn (below_by order) (λ y. is_le (order y row)) turns blocks c.requires.ascending
+    c.requires.filled) (λ a r f' k. search rules)) in
+    let before : length blocks - 1 ≤ c.partition_point-place.result =
+    omega (arith, c.if-place-blocks.false) in
     let behind : length blocks ≤ suc (length blocks - 1) = omega arith in
-    between_of g.met.R.Keyed.total row _ _ (all_further (λ y. is_le (order y row)) blocks (length blocks - 1) c.partition_point-place.result before split.front) (none_left (λ y. is_le (order y row)) blocks (suc (length blocks - 1)) behind)
+    between_of g.met.R.Keyed.total row _ _
+    (all_further (λ y. is_le (order y row)) blocks (length blocks - 1)
+    c.partition_point-place.result before split.front)
+    (none_left (λ y. is_le (order y row)) blocks (suc (length blocks - 1)) behind)

@@ -7,7 +7,9 @@ use Rattle.desk_sorted.proofs.blocks.cut_each.Given as goal
 
 abbrev pub invariant-loop-block : goal.invariant-loop-block
 invariant-loop-block g l = record {
-  rows : rows_in (take l.block-index l.blocks) ++ filter (λ row. not (g.K.Sought.is_at l.key row)) (rows_in (drop l.block-index l.blocks)) ≡ filter (λ row. not (g.K.Sought.is_at l.key row)) (rows_in l.fn.blocks);
+  rows : rows_in (take l.block-index l.blocks)
+      ++ filter (λ row. not (g.K.Sought.is_at l.key row)) (rows_in (drop l.block-index l.blocks))
+      ≡ filter (λ row. not (g.K.Sought.is_at l.key row)) (rows_in l.fn.blocks);
   ascending : ascends (below_by g.R.Keyed.order) (rows_in (drop l.block-index l.blocks)) ≡ true;
   length : length l.blocks ≡ length l.fn.blocks;
 }

@@ -13,7 +13,9 @@ returns-clause-items g c =
     let high = c.run_of-run.result.end in
     let left = c.len.result - (high - low) in
     let run = subst (λ xs. IsRun side xs low high) c.as_slice.ensures.value c.run_of-run.ensures in
-    let many : left + (high - low) ≡ length items = omega (arith, c.len.ensures, c.args.block.now.ok.0, run.ordered, run.within) in
+    let many : left + (high - low) ≡ length items =
+    omega (arith, c.len.ensures, c.args.block.now.ok.0, run.ordered, run.within) in
     c.truncate.ensures.items
     ∙ (ap (take left) c.turn_out.ensures.items
-    ∙ (turned_out items low high left run.ordered run.within many ∙ run_cut (g.K.Sought.is_at key) side (g.met.K.Sought.meets key) items low high run))
+    ∙ (turned_out items low high left run.ordered run.within many
+    ∙ run_cut (g.K.Sought.is_at key) side (g.met.K.Sought.meets key) items low high run))

@@ -14,7 +14,8 @@ cut_each-requires g c =
     let below = below_by g.R.Keyed.order in
     let low = c.blocks_of-run.result.start in
     let high = c.blocks_of-run.result.end in
-    ascends_take below (high - low) (drop low c.args.blocks.now) (ascends_drop below low c.args.blocks.now c.requires.ascending)
+    ascends_take below (high - low) (drop low c.args.blocks.now)
+    (ascends_drop below low c.args.blocks.now c.requires.ascending)
 
 pub returns : goal.returns
 returns g c =
@@ -29,15 +30,20 @@ returns g c =
     record {
       rows =
           rows_put (take low blocks) cut (drop (high - low) (drop low blocks))
-          ∙ (ap (λ (l : List (Vec g.row.R.Denot Global)). rows_in (take low blocks) ++ (rows_in cut ++ rows_in l)) rest
-          ∙ cut_in_run (g.K.Sought.is_at key) (g.K.Sought.side key) (g.met.K.Sought.meets key) blocks low high
+          ∙ (ap (λ (l : List (Vec g.row.R.Denot Global)). rows_in (take low blocks)
+          ++ (rows_in cut ++ rows_in l)) rest
+          ∙ cut_in_run (g.K.Sought.is_at key) (g.K.Sought.side key) (g.met.K.Sought.meets key)
+          blocks low high
           (rows_in cut) c.blocks_of-run.ensures c.cut_each.ensures.rows);
       length = search rules;
       filled = λ none.
-          ap (λ (l : List (Vec g.row.R.Denot Global)). are_filled (take low blocks ++ (cut ++ l))) rest
-          ∙ filled_within blocks cut low high ordered c.cut_each.ensures.length (sym c.has_empty.ensures ∙ none)
+          ap (λ (l : List (Vec g.row.R.Denot Global)). are_filled (take low blocks ++ (cut ++ l)))
+          rest
+          ∙ filled_within blocks cut low high ordered c.cut_each.ensures.length
+          (sym c.has_empty.ensures ∙ none)
           (filled_take low blocks c.requires.filled) c.requires.filled;
       whole = λ none all.
-          ap (λ (l : List (Vec g.row.R.Denot Global)). are_all_filled (take low blocks ++ (cut ++ l))) rest
+          ap (λ (l : List (Vec g.row.R.Denot Global)). are_all_filled
+          (take low blocks ++ (cut ++ l))) rest
           ∙ whole_within blocks cut low high (sym c.has_empty.ensures ∙ none) all;
     }

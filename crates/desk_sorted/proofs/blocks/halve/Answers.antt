@@ -14,7 +14,8 @@ returns g c =
     let upper = c.in_ok-upper.upper in
     let block = c.index_mut-block.result.now in
     let half = c.len-half.result / 2 in
-    let within : at < length blocks = omega (arith, c.requires.within, ap length c.in_ok-reserve.ensures.items) in
+    let within : at < length blocks =
+    omega (arith, c.requires.within, ap length c.in_ok-reserve.ensures.items) in
     let some : 0 < half = search rules in
     let any : 0 < length block.items = search rules in
     let less : half < length block.items = search rules in
@@ -28,13 +29,15 @@ returns g c =
       rows =
           ap (λ (bs : List (Vec g.row.R.Denot Global)). rows_in bs) put
           ∙ (rows_halved blocks at lower upper block within both
-          ∙ ap (λ (bs : List (Vec g.row.R.Denot Global)). rows_in bs) c.in_ok-reserve.ensures.items);
+          ∙ ap (λ (bs : List (Vec g.row.R.Denot Global)). rows_in bs)
+          c.in_ok-reserve.ensures.items);
       filled =
           ap (λ (bs : List (Vec g.row.R.Denot Global)). are_filled bs) put
           ∙ filled_halved blocks at lower upper within
           (ap has_rows c.in_ok-upper.ensures.items ∙ has_taken half block.items some any)
           (ap has_rows c.in_ok-upper.ensures.tail ∙ has_left half block.items less)
-          (ap (λ (bs : List (Vec g.row.R.Denot Global)). are_filled bs) c.in_ok-reserve.ensures.items
+          (ap (λ (bs : List (Vec g.row.R.Denot Global)). are_filled bs)
+          c.in_ok-reserve.ensures.items
           ∙ c.requires.filled);
       length = search rules;
     }

@@ -12,16 +12,24 @@ returns-in-Ok g c =
     let joined = c.append.new.self in
     let at = c.len-at.result - 1 in
     let end : at + 1 ≡ length blocks =
-    omega (arith, c.len-at.ensures, c.pop.new.self.ok.0, c.requires.some, c.in-Some.ensures.cases) in
+    omega (
+      arith,
+      c.len-at.ensures,
+      c.pop.new.self.ok.0,
+      c.requires.some,
+      c.in-Some.ensures.cases,
+    ) in
     let items : joined.items ≡ (get_or blocks at c.index_mut.result.now).items ++ last.items =
-    c.in-Ok.ensures.items ∙ ap (λ (b : Vec g.row.R.Denot Global). b.items ++ last.items) c.index_mut.ensures.value in
+    c.in-Ok.ensures.items ∙ ap (λ (b : Vec g.row.R.Denot Global). b.items ++ last.items)
+    c.index_mut.ensures.value in
     record {
       rows =
           rows_joined blocks last joined c.index_mut.result.now at end items
           ∙ ap (λ (bs : List (Vec g.row.R.Denot Global)). rows_in bs) (sym c.in-Some.ensures.items);
       filled =
           filled_joined blocks last joined c.index_mut.result.now at end items
-          (ap (λ (bs : List (Vec g.row.R.Denot Global)). are_filled bs) (sym c.in-Some.ensures.items)
+          (ap (λ (bs : List (Vec g.row.R.Denot Global)). are_filled bs)
+          (sym c.in-Some.ensures.items)
           ∙ c.requires.filled);
       len = search rules;
       same = search rules;
@@ -34,9 +42,16 @@ returns-in-Err g c =
     let kept = c.append.new.self in
     let at = c.len-at.result - 1 in
     let within : at < length blocks =
-    omega (arith, c.len-at.ensures, c.pop.new.self.ok.0, c.requires.some, c.in-Some.ensures.cases) in
+    omega (
+      arith,
+      c.len-at.ensures,
+      c.pop.new.self.ok.0,
+      c.requires.some,
+      c.in-Some.ensures.cases,
+    ) in
     let block : kept.items ≡ (get_or blocks at c.index_mut.result.now).items =
-    c.in-Err.ensures.items ∙ ap (λ (b : Vec g.row.R.Denot Global). b.items) c.index_mut.ensures.value in
+    c.in-Err.ensures.items ∙ ap (λ (b : Vec g.row.R.Denot Global). b.items)
+    c.index_mut.ensures.value in
     let alike = pushed_alike (set blocks at kept) blocks c.append.new.other last
     (set_alike blocks at kept c.index_mut.result.now within block) c.in-Err.ensures.other_items in
     let was = set blocks at kept ++ c.append.new.other ∷ [] in
@@ -44,11 +59,13 @@ returns-in-Err g c =
       rows =
           ap (λ (bs : List (Vec g.row.R.Denot Global)). rows_in bs) c.push_reserved.ensures.items
           ∙ (alike_rows was (blocks ++ last ∷ []) alike
-          ∙ ap (λ (bs : List (Vec g.row.R.Denot Global)). rows_in bs) (sym c.in-Some.ensures.items));
+          ∙ ap (λ (bs : List (Vec g.row.R.Denot Global)). rows_in bs)
+          (sym c.in-Some.ensures.items));
       filled =
           ap (λ (bs : List (Vec g.row.R.Denot Global)). are_filled bs) c.push_reserved.ensures.items
           ∙ (alike_filled was (blocks ++ last ∷ []) alike
-          ∙ (ap (λ (bs : List (Vec g.row.R.Denot Global)). are_filled bs) (sym c.in-Some.ensures.items)
+          ∙ (ap (λ (bs : List (Vec g.row.R.Denot Global)). are_filled bs)
+          (sym c.in-Some.ensures.items)
           ∙ c.requires.filled));
       len = search rules;
       same = search rules;

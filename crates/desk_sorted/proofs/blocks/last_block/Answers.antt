@@ -12,6 +12,11 @@ returns g c =
     let side = g.K.Sought.side c.args.key.now in
     let below = below_by g.R.Keyed.order in
     let blocks = c.args.blocks.now in
-    let turns : Turns below (λ row. is_le (side row)) = λ x y no e. le_by (side x) (side y) (g.met.K.Sought.splits c.args.key.now x y no) e in
-    is_split below (λ row. is_le (side row)) turns blocks c.partition_point.result c.partition_point.ensures.bound c.requires.ascending
-    (IsPartitionPoint-from_clause (λ b. ends_in (λ row. is_le (side row)) b.items) blocks c.partition_point.result c.partition_point.ensures.partitioned (blocks_turn below (λ row. is_le (side row)) turns blocks c.requires.ascending c.requires.filled) (λ a r f' k. search rules))
+    let turns : Turns below (λ row. is_le (side row)) =
+    λ x y no e. le_by (side x) (side y) (g.met.K.Sought.splits c.args.key.now x y no) e in
+    is_split below (λ row. is_le (side row)) turns blocks c.partition_point.result
+    c.partition_point.ensures.bound c.requires.ascending
+    (IsPartitionPoint-from_clause (λ b. ends_in (λ row. is_le (side row)) b.items) blocks
+    c.partition_point.result c.partition_point.ensures.partitioned
+    (blocks_turn below (λ row. is_le (side row)) turns blocks c.requires.ascending
+    c.requires.filled) (λ a r f' k. search rules))

@@ -13,9 +13,11 @@ pub put_row-requires-clause-ascending : goal.put_row-requires-clause-ascending
 put_row-requires-clause-ascending g c =
     let below = below_by g.R.Keyed.order in
     let blocks = c.args.blocks.now.items in
-    let within : c.args.at < length blocks = omega (arith, c.args.blocks.now.ok.0, c.requires.within) in
+    let within : c.args.at < length blocks =
+    omega (arith, c.args.blocks.now.ok.0, c.requires.within) in
     ap (λ (b : Vec g.row.R.Denot Global). ascends below b.items) c.index_mut.ensures.value
-    ∙ block_ascends below blocks c.args.at c.index_mut.result.now within (ascends_drop below c.args.at blocks c.requires.ascending)
+    ∙ block_ascends below blocks c.args.at c.index_mut.result.now within
+    (ascends_drop below c.args.at blocks c.requires.ascending)
 
 pub returns-clause-rows : goal.returns-clause-rows
 returns-clause-rows g c =
@@ -27,10 +29,14 @@ returns-clause-rows g c =
     let back = rows_in (drop (suc at) blocks) in
     let within : at < length blocks = omega (arith, c.args.blocks.now.ok.0, c.requires.within) in
     rows_set blocks at c.put_row.new.rows within
-    ∙ (ap (λ xs. front ++ (xs ++ back)) (c.put_row.ensures.items ∙ ap (λ (b : Vec g.row.R.Denot Global). put below row b.items) c.index_mut.ensures.value)
+    ∙ (ap (λ xs. front ++ (xs ++ back))
+    (c.put_row.ensures.items ∙ ap (λ (b : Vec g.row.R.Denot Global). put below row b.items)
+    c.index_mut.ensures.value)
     ∙ (sym (put_between below row front _ back c.requires.place)
     ∙ ap (put below row) (sym (rows_at blocks at c.index_mut.result.now within))))
 
 pub returns-clause-filled : goal.returns-clause-filled
 returns-clause-filled g c =
-    filled_set c.args.blocks.now.items c.args.at c.put_row.new.rows (ap has_rows c.put_row.ensures.items ∙ has_put (below_by g.R.Keyed.order) c.args.row _) c.requires.filled
+    filled_set c.args.blocks.now.items c.args.at c.put_row.new.rows
+    (ap has_rows c.put_row.ensures.items ∙ has_put (below_by g.R.Keyed.order) c.args.row _)
+    c.requires.filled

@@ -11,6 +11,9 @@ returns g c =
     let order = g.R.Keyed.order in
     let row = c.args.row.now in
     let rows = c.args.rows.now in
-    let up = rises_along order (λ y. order y row) (side_by order (λ x. x) order g.met.R.Keyed.total (λ x y e. e) row) rows c.requires in
+    let up = rises_along order (λ y. order y row)
+    (side_by order (λ x. x) order g.met.R.Keyed.total (λ x y e. e) row) rows c.requires in
     is_place g.met.R.Keyed.total row rows c.partition_point.result c.partition_point.ensures.bound
-    (IsPartitionPoint-from_clause (λ y. is_le (order y row)) rows c.partition_point.result c.partition_point.ensures.partitioned (partitioned_le (λ y. order y row) rows up) (λ a r f' k. search rules))
+    (IsPartitionPoint-from_clause (λ y. is_le (order y row)) rows c.partition_point.result
+    c.partition_point.ensures.partitioned (partitioned_le (λ y. order y row) rows up)
+    (λ a r f' k. search rules))

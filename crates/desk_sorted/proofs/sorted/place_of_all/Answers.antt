@@ -10,6 +10,8 @@ returns-then-place_of-place-clause-place g c =
     let below = below_by g.R.Keyed.order in
     let rows = c.args.rows.now in
     let found = c.in-Some-Some in
-    block_of below (order_of g.met.R.Keyed.total) found.first.now found.last.now c.args.more.now rows c.place_of-place.result found.ensures.value found.ensures'.value (c.climbs.ensures c.if-climbs.true)
+    block_of below (order_of g.met.R.Keyed.total) found.first.now found.last.now c.args.more.now
+    rows c.place_of-place.result found.ensures.value found.ensures'.value
+    (c.climbs.ensures c.if-climbs.true)
     c.place_of-place.ensures
     (subst (λ n. IsPlace below found.last.now rows n) c.if-place_of-place.true c.place_of.ensures)

@@ -8,7 +8,8 @@ abbrev pub invariant-loop-row : goal.invariant-loop-row
 invariant-loop-row g l = record {
   ascending : ascends (below_by g.R.Keyed.order) l.rows.items ≡ true;
   room : vec_len l.rows + vec_len l.more ≤ vec_capacity l.rows;
-  put : put_all (below_by g.R.Keyed.order) l.more.items l.rows.items ≡ put_all (below_by g.R.Keyed.order) l.fn.more.items l.fn.rows.items;
+  put : put_all (below_by g.R.Keyed.order) l.more.items l.rows.items
+      ≡ put_all (below_by g.R.Keyed.order) l.fn.more.items l.fn.rows.items;
 }
 
 abbrev pub decreases-loop-row : goal.decreases-loop-row

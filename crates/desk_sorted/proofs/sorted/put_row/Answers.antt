@@ -9,5 +9,6 @@ returns-clause-items g c =
     let below = below_by g.R.Keyed.order in
     let items = c.args.rows.now.items in
     let n = c.place_of-place.result in
-    let place = subst (λ xs. IsPlace below c.args.row xs n) c.as_slice.ensures.value c.place_of-place.ensures in
+    let place = subst (λ xs. IsPlace below c.args.row xs n) c.as_slice.ensures.value
+    c.place_of-place.ensures in
     c.in-Ok.ensures.items ∙ sym (put_at below c.args.row items n place)

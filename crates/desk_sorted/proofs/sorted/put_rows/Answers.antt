@@ -9,5 +9,7 @@ returns-in-Some g c =
     let more = c.args.more.items in
     let n = c.in-Some.place in
     c.insert_all.ensures
-    ∙ sym (subst (λ xs. put_all below more xs ≡ take n xs ++ (more ++ drop n xs)) c.as_slice.ensures.value
-    (subst (λ ys. put_all below ys c.as_slice.result.now ≡ take n c.as_slice.result.now ++ (ys ++ drop n c.as_slice.result.now)) c.as_slice-2.ensures.value c.in-Some.ensures.place))
+    ∙ sym (subst (λ xs. put_all below more xs ≡ take n xs ++ (more ++ drop n xs))
+    c.as_slice.ensures.value
+    (subst (λ ys. put_all below ys c.as_slice.result.now ≡ take n c.as_slice.result.now
+    ++ (ys ++ drop n c.as_slice.result.now)) c.as_slice-2.ensures.value c.in-Some.ensures.place))

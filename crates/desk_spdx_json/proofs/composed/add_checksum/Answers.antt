@@ -14,7 +14,9 @@ returns c =
     let digest = word_fault at (codes "checksumValue") d in
     let line = step at (put (checksum_line c.args.tag d)) ∷ [] in
     on_ok_weaker c.add.result (λ told.
-    before c.args.steps.now (word_fault at (codes "algorithm") d) (digest ++ line) c.in_ok-add_word_fault.ensures
+    before c.args.steps.now (word_fault at (codes "algorithm") d) (digest ++ line)
+    c.in_ok-add_word_fault.ensures
     (before c.add_word_fault.new.steps digest line c.in_ok-add_word_fault-2.ensures
-    (told ∙ ap (λ (text : List ℕ). c.add_word_fault-2.new.steps ++ step at (put (one_line c.args.tag text)) ∷ []) c.in_ok-text.ensures)))
+    (told ∙ ap (λ (text : List ℕ). c.add_word_fault-2.new.steps
+    ++ step at (put (one_line c.args.tag text)) ∷ []) c.in_ok-text.ensures)))
     c.add.ensures

@@ -10,7 +10,10 @@ use Rattle.desk_spdx_json.proofs.items.add_items.Goals as goal
 pub loop-i-preserved : goal.loop-i-preserved
 loop-i-preserved c =
     let steps = item_steps c.args.item in
-    items_more steps c.args.at.now c.args.list.now c.loop-i.i c.index-list-i.result c.loop-i.steps c.add_item.new.steps
-    (c.args.steps.now ++ items_steps steps c.args.at.now 0 (items_view c.args.list.now)) c.loop-i-test.true c.loop-i.invariant
-    (c.in_ok-add_item.ensures ∙ ap₂ (λ (place : List ℕ) (d : Data). c.loop-i.steps ++ steps place d) (c.deref.ensures ∙ c.in_ok-place.ensures)
+    items_more steps c.args.at.now c.args.list.now c.loop-i.i c.index-list-i.result c.loop-i.steps
+    c.add_item.new.steps
+    (c.args.steps.now ++ items_steps steps c.args.at.now 0 (items_view c.args.list.now))
+    c.loop-i-test.true c.loop-i.invariant
+    (c.in_ok-add_item.ensures ∙ ap₂ (λ (place : List ℕ) (d : Data). c.loop-i.steps ++ steps place d)
+    (c.deref.ensures ∙ c.in_ok-place.ensures)
     (ap view c.index-list-i.is))

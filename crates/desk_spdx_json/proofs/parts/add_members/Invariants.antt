@@ -7,4 +7,5 @@ use Rattle.desk_spdx_json.proofs.parts.add_members.Given as goal
 
 -- the members so far were added
 abbrev pub invariant-loop-member : goal.invariant-loop-member
-invariant-loop-member l = l.steps ≡ l.initial.steps ++ flat_map (member_steps l.at (view l.value)) (map member_text (take l.member-index l.members))
+invariant-loop-member l = l.steps ≡ l.initial.steps
+    ++ flat_map (member_steps l.at (view l.value)) (map member_text (take l.member-index l.members))

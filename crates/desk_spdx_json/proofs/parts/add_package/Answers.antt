@@ -14,8 +14,10 @@ pub returns : goal.returns
 returns c =
     let at = c.args.at.now in
     let d = view c.args.value.now in
-    let files = λ (owner : List ℕ). if_array (contained_steps owner) (member_at at (codes "hasFiles")) (get (codes "hasFiles") d) in
+    let files = λ (owner : List ℕ). if_array (contained_steps owner)
+    (member_at at (codes "hasFiles")) (get (codes "hasFiles") d) in
     on_ok_weaker c.add_array_in.result (λ told.
-    before c.args.steps.now (step [] (put blank) ∷ object_steps at package_members d) (files (word_in (codes "SPDXID") d)) c.in_ok-add_element.ensures
+    before c.args.steps.now (step [] (put blank) ∷ object_steps at package_members d)
+    (files (word_in (codes "SPDXID") d)) c.in_ok-add_element.ensures
     (told ∙ ap (λ owner. c.add_element.new.steps ++ files owner) c.word_in.ensures))
     c.add_array_in.ensures

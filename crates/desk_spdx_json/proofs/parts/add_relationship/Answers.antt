@@ -17,7 +17,8 @@ returns c =
     let right = word_fault at (codes "relatedSpdxElement") d in
     let words = step at (put (words_of d)) ∷ [] in
     on_ok_weaker c.add_words.result (λ told.
-    before c.args.steps.now (object_steps at relationship_members d) (left ++ (kind ++ (right ++ words))) c.in_ok-add_object.ensures
+    before c.args.steps.now (object_steps at relationship_members d)
+    (left ++ (kind ++ (right ++ words))) c.in_ok-add_object.ensures
     (before c.add_object.new.steps left (kind ++ (right ++ words)) c.in_ok-add_word_fault.ensures
     (before c.add_word_fault.new.steps kind (right ++ words) c.in_ok-add_word_fault-2.ensures
     (before c.add_word_fault-2.new.steps right words c.in_ok-add_word_fault-3.ensures told))))

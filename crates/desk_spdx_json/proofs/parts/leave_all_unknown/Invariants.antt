@@ -8,4 +8,5 @@ use Rattle.desk_spdx_json.proofs.parts.leave_all_unknown.Given as goal
 abbrev pub invariant-loop-key : goal.invariant-loop-key
 invariant-loop-key l =
     l.steps ++ unknown_steps (map member_text l.members) (members_view l.key-iterator)
-    ≡ l.initial.steps ++ unknown_steps (map member_text l.members) (members_view l.fn.object.entries)
+    ≡ l.initial.steps ++ unknown_steps (map member_text l.members)
+    (members_view l.fn.object.entries)

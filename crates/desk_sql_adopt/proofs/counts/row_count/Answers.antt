@@ -11,4 +11,5 @@ returns-in_err-rows-clause-cause g c = λ asked.
     let new = state g.S.Store c.query.new.conn in
     let fault = c.in_err-rows.field-0.0 in
     err_cause _ old new c.from_residual.result fault c.from_residual.ensures.1
-    (any_cause (λ t. (rows : List Row) → Shown c.args.sql.now [] old new rows → length rows < 2 ^ 32) old new fault (c.in_err-rows.ensures.cause asked))
+    (any_cause (λ t. (rows : List Row) → Shown c.args.sql.now [] old new rows
+    → length rows < 2 ^ 32) old new fault (c.in_err-rows.ensures.cause asked))

@@ -8,11 +8,17 @@ use Rattle.desk_sql_adopt.proofs.query.query.Goals as goal
 
 pub returns-in-Ok-clause-read : goal.returns-in-Ok-clause-read
 returns-in-Ok-clause-read g c = λ bare.
-    answered c.args.sql.now (bound c.args.params.now) (state g.S.Store c.args.conn.now) (state g.S.Store c.query_all.new.self) bare (c.is_autocommit-settled.ensures.settled (search rules)) c.query_all.ensures.survives c.in-Ok.rows.items c.in-Ok.ensures.ok
+    answered c.args.sql.now (bound c.args.params.now) (state g.S.Store c.args.conn.now)
+    (state g.S.Store c.query_all.new.self) bare
+    (c.is_autocommit-settled.ensures.settled (search rules)) c.query_all.ensures.survives
+    c.in-Ok.rows.items c.in-Ok.ensures.ok
 
 pub returns-in-Err-clause-read : goal.returns-in-Err-clause-read
 returns-in-Err-clause-read g c = λ bare.
-    failed c.args.sql.now (bound c.args.params.now) (state g.S.Store c.args.conn.now) (state g.S.Store c.query_all.new.self) bare (c.is_autocommit-settled.ensures.settled (search rules)) c.query_all.ensures.survives c.in-Err.error c.in-Err.ensures.err
+    failed c.args.sql.now (bound c.args.params.now) (state g.S.Store c.args.conn.now)
+    (state g.S.Store c.query_all.new.self) bare
+    (c.is_autocommit-settled.ensures.settled (search rules)) c.query_all.ensures.survives
+    c.in-Err.error c.in-Err.ensures.err
 
 pub returns-in-Err-clause-cause : goal.returns-in-Err-clause-cause
 returns-in-Err-clause-cause g c = λ asked.
@@ -20,4 +26,5 @@ returns-in-Err-clause-cause g c = λ asked.
     let params = bound c.args.params.now in
     let old = state g.S.Store c.args.conn.now in
     let new = state g.S.Store c.query_all.new.self in
-    rw c.fault_of.ensures (failed_cause sql params old new (CommitsShowing sql params old) c.query_all.ensures.survives asked c.in-Err.error c.in-Err.ensures.err)
+    rw c.fault_of.ensures (failed_cause sql params old new (CommitsShowing sql params old)
+    c.query_all.ensures.survives asked c.in-Err.error c.in-Err.ensures.err)

@@ -5,12 +5,16 @@ use Rattle.desk_sql_adopt.proofs.rows.duties.Goals as goal
 
 pub returns-in_err-rows : goal.returns-in_err-rows
 returns-in_err-rows g c =
-    fails_to_find g.S.Store c.args.conn.now c.query.new.conn c.from_residual.result _ _ c.from_residual.ensures.1
-    (c.in_err-rows.ensures.read duties_ask) (c.in_err-rows.ensures.cause duties_finds.finds.asked) c.query.ensures.mode
+    fails_to_find g.S.Store c.args.conn.now c.query.new.conn c.from_residual.result _ _
+    c.from_residual.ensures.1
+    (c.in_err-rows.ensures.read duties_ask) (c.in_err-rows.ensures.cause duties_finds.finds.asked)
+    c.query.ensures.mode
 
 pub returns : goal.returns
 returns g c =
     finds duties_ask g.S.Store c.args.conn.now c.query.new.conn duties_finds c.in_ok-rows.rows.items
-    (c.in_ok-rows.ensures.read duties_ask) c.in_ok-rows.ensures.shown c.query.ensures.mode c.read_duties.result
-    (λ found ys. found.items ≡ ys) _ (λ found t is. is) (rw c.deref.ensures.value at c.read_duties.ensures.value)
+    (c.in_ok-rows.ensures.read duties_ask) c.in_ok-rows.ensures.shown c.query.ensures.mode
+    c.read_duties.result
+    (λ found ys. found.items ≡ ys) _ (λ found t is. is)
+    (rw c.deref.ensures.value at c.read_duties.ensures.value)
     (rw c.deref.ensures.value at c.read_duties.ensures.cause)

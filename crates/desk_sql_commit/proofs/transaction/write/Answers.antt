@@ -14,11 +14,15 @@ returns-in-Ok-clause-crash g c =
     let old = c.args.conn.now in
     let last = c.write_change.new.tx.conn.now in
     let begun = c.transaction-tx.ensures.begun in
-    let inside = λ (clean : HasCleanDisk (state g.S.Store last)). rw begun at (c.in_ok-write_change.ensures.wrote clean (rw begun)) in
+    let inside = λ (clean : HasCleanDisk (state g.S.Store last)). rw begun at
+    (c.in_ok-write_change.ensures.wrote clean (rw begun)) in
     let P = Leaves c.args.is_new c.args.change.now (state g.S.Store old) in
-    let whole = survives_then (state g.S.Store old) (state g.S.Store last) (state g.S.Store c.commit.new.self.0) _ _ P (λ _ db none. absurd none)
-    (λ clean db is. let it = inside (clean_before _ _ _ c.commit.ensures.survives clean) in ((state g.S.Store last).now, λ t takes. it.change (record { tables = t; takes = takes }), is))
-    (survives_begin g.S.Store old (state g.S.Store last) _ (rw begun at c.write_change.ensures.survives)) c.commit.ensures.survives in
+    let whole = survives_then (state g.S.Store old) (state g.S.Store last)
+    (state g.S.Store c.commit.new.self.0) _ _ P (λ _ db none. absurd none)
+    (λ clean db is. let it = inside (clean_before _ _ _ c.commit.ensures.survives clean) in
+    ((state g.S.Store last).now, λ t takes. it.change (record { tables = t; takes = takes }), is))
+    (survives_begin g.S.Store old (state g.S.Store last) _
+    (rw begun at c.write_change.ensures.survives)) c.commit.ensures.survives in
     subst (λ h. Survives (state g.S.Store old) (state g.S.Store h) P) same whole
 
 pub returns-in-Err-clause-crash : goal.returns-in-Err-clause-crash
@@ -27,11 +31,15 @@ returns-in-Err-clause-crash g c =
     let old = c.args.conn.now in
     let last = c.write_change.new.tx.conn.now in
     let begun = c.transaction-tx.ensures.begun in
-    let inside = λ (clean : HasCleanDisk (state g.S.Store last)). rw begun at (c.in_ok-write_change.ensures.wrote clean (rw begun)) in
+    let inside = λ (clean : HasCleanDisk (state g.S.Store last)). rw begun at
+    (c.in_ok-write_change.ensures.wrote clean (rw begun)) in
     let P = Leaves c.args.is_new c.args.change.now (state g.S.Store old) in
-    let whole = survives_then (state g.S.Store old) (state g.S.Store last) (state g.S.Store c.commit.new.self.0) _ _ P (λ _ db none. absurd none)
-    (λ clean db is. let it = inside (clean_before _ _ _ c.commit.ensures.survives clean) in ((state g.S.Store last).now, λ t takes. it.change (record { tables = t; takes = takes }), is))
-    (survives_begin g.S.Store old (state g.S.Store last) _ (rw begun at c.write_change.ensures.survives)) c.commit.ensures.survives in
+    let whole = survives_then (state g.S.Store old) (state g.S.Store last)
+    (state g.S.Store c.commit.new.self.0) _ _ P (λ _ db none. absurd none)
+    (λ clean db is. let it = inside (clean_before _ _ _ c.commit.ensures.survives clean) in
+    ((state g.S.Store last).now, λ t takes. it.change (record { tables = t; takes = takes }), is))
+    (survives_begin g.S.Store old (state g.S.Store last) _
+    (rw begun at c.write_change.ensures.survives)) c.commit.ensures.survives in
     subst (λ h. Survives (state g.S.Store old) (state g.S.Store h) P) same whole
 
 pub returns-in_err-write_change-clause-cause : goal.returns-in_err-write_change-clause-cause
@@ -41,9 +49,14 @@ returns-in_err-write_change-clause-cause g c told =
     let last = c.write_change.new.tx.conn.now in
     let fault = c.in_err-write_change.field-0.0 in
     let begun = c.transaction-tx.ensures.begun in
-    let fails = made_fails g.S.Store old (state g.S.Store last) (state g.S.Store c.drop-tx.new.self.0) c.args.is_new c.args.change.now _ fault c.drop-tx.ensures.survives (rw begun at (c.in_err-write_change.ensures.cause told)) in
-    subst (λ h. IfErr c.from_residual.result (CommitFails c.args.is_new c.args.change.now (state g.S.Store old) (state g.S.Store h))) same
-    (err_ends c.args.is_new c.args.change.now (state g.S.Store old) (state g.S.Store c.drop-tx.new.self.0) c.from_residual.result fault c.from_residual.ensures.1 fails)
+    let fails = made_fails g.S.Store old (state g.S.Store last)
+    (state g.S.Store c.drop-tx.new.self.0) c.args.is_new c.args.change.now _ fault
+    c.drop-tx.ensures.survives (rw begun at (c.in_err-write_change.ensures.cause told)) in
+    subst (λ h. IfErr c.from_residual.result
+    (CommitFails c.args.is_new c.args.change.now (state g.S.Store old) (state g.S.Store h))) same
+    (err_ends c.args.is_new c.args.change.now (state g.S.Store old)
+    (state g.S.Store c.drop-tx.new.self.0) c.from_residual.result fault c.from_residual.ensures.1
+    fails)
 
 pub returns-in-Err-clause-cause : goal.returns-in-Err-clause-cause
 returns-in-Err-clause-cause g c told =
@@ -51,11 +64,18 @@ returns-in-Err-clause-cause g c told =
     let old = c.args.conn.now in
     let last = c.write_change.new.tx.conn.now in
     let begun = c.transaction-tx.ensures.begun in
-    let inside = λ (clean : HasCleanDisk (state g.S.Store last)). rw begun at (c.in_ok-write_change.ensures.wrote clean (rw begun)) in
-    let uses = λ (clean : HasCleanDisk (state g.S.Store last)). rw begun at (c.in_ok-write_change.ensures.cause told clean (rw begun)) in
-    let fails = commit_fails g.S.Store old (state g.S.Store last) (state g.S.Store c.commit.new.self.0) c.args.is_new c.args.change.now _ _ c.in-Err.error (rw begun at c.write_change.ensures.survives) c.commit.ensures.survives inside uses c.in-Err.ensures.err in
-    subst (λ h. CommitFails c.args.is_new c.args.change.now (state g.S.Store old) (state g.S.Store h) c.fault_of.result) same
-    (subst (CommitFails c.args.is_new c.args.change.now (state g.S.Store old) (state g.S.Store c.commit.new.self.0)) (sym c.fault_of.ensures) fails)
+    let inside = λ (clean : HasCleanDisk (state g.S.Store last)). rw begun at
+    (c.in_ok-write_change.ensures.wrote clean (rw begun)) in
+    let uses = λ (clean : HasCleanDisk (state g.S.Store last)). rw begun at
+    (c.in_ok-write_change.ensures.cause told clean (rw begun)) in
+    let fails = commit_fails g.S.Store old (state g.S.Store last)
+    (state g.S.Store c.commit.new.self.0) c.args.is_new c.args.change.now _ _ c.in-Err.error
+    (rw begun at c.write_change.ensures.survives) c.commit.ensures.survives inside uses
+    c.in-Err.ensures.err in
+    subst (λ h. CommitFails c.args.is_new c.args.change.now (state g.S.Store old)
+    (state g.S.Store h) c.fault_of.result) same
+    (subst (CommitFails c.args.is_new c.args.change.now (state g.S.Store old)
+    (state g.S.Store c.commit.new.self.0)) (sym c.fault_of.ensures) fails)
 
 pub returns-in-Ok-clause-ok : goal.returns-in-Ok-clause-ok
 returns-in-Ok-clause-ok g c clean =
@@ -65,6 +85,8 @@ returns-in-Ok-clause-ok g c clean =
     let new = state g.S.Store c.commit.new.self.0 in
     let begun = c.transaction-tx.ensures.begun in
     let here = subst (λ h. HasCleanDisk (state g.S.Store h)) (sym same) clean in
-    let inside = rw begun at (c.in_ok-write_change.ensures.wrote (clean_before _ _ _ c.commit.ensures.survives here) (rw begun refl)) in
+    let inside = rw begun at (c.in_ok-write_change.ensures.wrote
+    (clean_before _ _ _ c.commit.ensures.survives here) (rw begun refl)) in
     subst (λ h. Done c.args.is_new c.args.change.now (state g.S.Store old) (state g.S.Store h)) same
-    (ends_done g.S.Store old last new c.args.is_new c.args.change.now inside (c.in-Ok.ensures.ok here).1)
+    (ends_done g.S.Store old last new c.args.is_new c.args.change.now inside
+    (c.in-Ok.ensures.ok here).1)

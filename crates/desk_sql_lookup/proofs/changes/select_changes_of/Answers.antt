@@ -14,7 +14,8 @@ returns g c =
     query_finds g.S.Store c.args.conn.now c.query.new.conn
     (let n = min c.args.duty (c.args.duties + 1) in
     finds_more (finds_both (changes_of_finds n).finds (changes_of_apart n))
-    {More = λ t rows. length t.duty ≡ c.args.duties → (rows ≡ map change_cells (filter (is_change_of c.args.duty) t.changes))
+    {More = λ t rows. length t.duty ≡ c.args.duties
+    → (rows ≡ map change_cells (filter (is_change_of c.args.duty) t.changes))
     × AreSteps (filter (is_change_of c.args.duty) t.changes)} (λ t rows orderly is count.
     let same = changes_among c.args.duty c.args.duties t orderly count in
     (is.0 ∙ ap (map change_cells) same, subst AreSteps same (are_steps n t.changes is.1))))

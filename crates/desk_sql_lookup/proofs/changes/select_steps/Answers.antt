@@ -9,5 +9,6 @@ pub returns : goal.returns
 returns g c =
     query_finds g.S.Store c.args.conn.now c.query.new.conn
     (finds_more (steps_finds (min c.args.duty (c.args.duties + 1)))
-    (λ t rows orderly is count. is ∙ ap length (changes_among c.args.duty c.args.duties t orderly count)))
+    (λ t rows orderly is count. is
+    ∙ ap length (changes_among c.args.duty c.args.duties t orderly count)))
     c.query.result (rw c.among.ensures at c.query.ensures)

@@ -14,7 +14,8 @@ returns g c =
     (let n = min c.args.duty (c.args.duties + 1) in
     finds_more (waivers_of_finds n).finds
     {More = λ t rows. length t.duty ≡ c.args.duties
-    → rows ≡ map ending_cells (waivers_in (filter (is_change_of c.args.duty) t.changes))} (λ t rows orderly is count.
+    → rows ≡ map ending_cells (waivers_in (filter (is_change_of c.args.duty) t.changes))}
+    (λ t rows orderly is count.
     waivers_shown (is_change_of n) (is_change_of c.args.duty) rows t.changes
     (changes_among c.args.duty c.args.duties t orderly count) is))
     c.query.result (rw c.among.ensures at c.query.ensures)

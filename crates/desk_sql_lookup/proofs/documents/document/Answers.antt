@@ -22,12 +22,15 @@ returns-in_err-found-clause-looks g c =
     let p = is_document n in
     let fault = c.in_err-found.field-0.0 in
     let If = λ (t : Tables). length t.document ≡ documents in
-    fails_too g.S.Store c.args.conn.now c.read_one.new.conn c.from_residual.result fault c.from_residual.ensures.1
-    (λ found t. length t.document ≡ documents → found ≡ option_map known_document (find p t.document)) If
+    fails_too g.S.Store c.args.conn.now c.read_one.new.conn c.from_residual.result fault
+    c.from_residual.ensures.1
+    (λ found t. length t.document ≡ documents
+    → found ≡ option_map known_document (find p t.document)) If
     (rows_found g.S.Store c.args.conn.now c.read_one.new.conn
     (finds_mapped known_cells known_document (document_finds (min n (documents + 1)))) (Err fault)
     (λ found rows. found ≡ slice_get rows 0) (rw c.among.ensures at c.in_err-found.ensures) If
-    (λ found t. length t.document ≡ documents → found ≡ option_map known_document (find p t.document))
+    (λ found t. length t.document ≡ documents
+    → found ≡ option_map known_document (find p t.document))
     (λ found t orderly is count.
     is ∙ ap (λ l. slice_get (map known_document l) 0) (document_among n documents t orderly count)
     ∙ first_mapped known_document p t.document))
@@ -41,19 +44,25 @@ returns-clause-looks g c =
     let old = c.args.conn.now in
     let new = c.read_one.new.conn in
     let first = rows_found g.S.Store old new
-    (finds_mapped known_cells known_document (document_finds (min n (documents + 1)))) (Ok c.in_ok-found.found)
+    (finds_mapped known_cells known_document (document_finds (min n (documents + 1))))
+    (Ok c.in_ok-found.found)
     (λ found rows. found ≡ slice_get rows 0) (rw c.among.ensures at c.in_ok-found.ensures) If
-    (λ found t. length t.document ≡ documents → found ≡ slice_get (map known_document (filter p t.document)) 0)
+    (λ found t. length t.document ≡ documents
+    → found ≡ slice_get (map known_document (filter p t.document)) 0)
     (λ found t orderly is count.
-    is ∙ ap (λ l. slice_get (map known_document l) 0) (document_among n documents t orderly count)) in
+    is ∙ ap (λ l. slice_get (map known_document l) 0)
+    (document_among n documents t orderly count)) in
     then_tells g.S.Store old new first If c.numbered.result
-    (λ found t. length t.document ≡ documents → found ≡ option_map known_document (find p t.document))
+    (λ found t. length t.document ≡ documents
+    → found ≡ option_map known_document (find p t.document))
     (IfOk-weaker c.numbered.result _ _
     (λ kept same clean t held count.
-    same ∙ first.found clean t held count ∙ first_mapped known_document p t.document) c.numbered.ensures.kept)
+    same ∙ first.found clean t held count ∙ first_mapped known_document p t.document)
+    c.numbered.ensures.kept)
     (never_cause If (state g.S.Store old) (state g.S.Store new) c.numbered.result
     (IfSome c.in_ok-found.found (λ known. known.0 ≡ n))
     (λ clean t held count.
     rw (first.found clean t held count)
-    (passed_mapped known_document p (λ known. known.0 ≡ n) (λ x is. same_number x.number n is) t.document))
+    (passed_mapped known_document p (λ known. known.0 ≡ n) (λ x is. same_number x.number n is)
+    t.document))
     c.numbered.ensures.cause)

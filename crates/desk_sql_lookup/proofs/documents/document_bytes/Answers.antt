@@ -15,10 +15,12 @@ returns g c =
     let n = c.args.number in
     let documents = c.args.documents in
     let bytes = λ (row : DocumentRow). row.bytes in
-    rows_found g.S.Store c.args.conn.now c.read_one.new.conn (finds_mapped bytes_cells bytes (document_bytes_finds (min n (documents + 1))))
+    rows_found g.S.Store c.args.conn.now c.read_one.new.conn
+    (finds_mapped bytes_cells bytes (document_bytes_finds (min n (documents + 1))))
     c.read_one.result (λ found rows. found ≡ slice_get rows 0)
     (rw c.among.ensures at c.read_one.ensures) (λ t. length t.document ≡ documents)
-    (λ found t. length t.document ≡ documents → found ≡ option_map bytes (find (is_document n) t.document))
+    (λ found t. length t.document ≡ documents
+    → found ≡ option_map bytes (find (is_document n) t.document))
     (λ found t orderly is count.
     is ∙ ap (λ l. slice_get (map bytes l) 0) (document_among n documents t orderly count)
     ∙ first_mapped bytes (is_document n) t.document)

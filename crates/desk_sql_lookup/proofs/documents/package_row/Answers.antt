@@ -11,9 +11,12 @@ returns g c =
     let n = c.args.document in
     let id = c.args.id.now in
     let documents = c.args.documents in
-    rows_found g.S.Store c.args.conn.now c.read_one.new.conn (package_finds (min n (documents + 1)) id)
+    rows_found g.S.Store c.args.conn.now c.read_one.new.conn
+    (package_finds (min n (documents + 1)) id)
     c.read_one.result (λ found rows. found ≡ slice_get rows 0)
-    (rw (c.among.ensures, c.text.ensures) at c.read_one.ensures) (λ t. length t.document ≡ documents)
+    (rw (c.among.ensures, c.text.ensures) at c.read_one.ensures)
+    (λ t. length t.document ≡ documents)
     (λ found t. length t.document ≡ documents → found ≡ find (is_package n id) t.packages)
     (λ found t orderly is count.
-    is ∙ ap (λ l. slice_get l 0) (package_among n documents id t orderly count) ∙ first_is (is_package n id) t.packages)
+    is ∙ ap (λ l. slice_get l 0) (package_among n documents id t orderly count)
+    ∙ first_is (is_package n id) t.packages)

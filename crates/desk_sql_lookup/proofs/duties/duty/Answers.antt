@@ -18,13 +18,16 @@ returns-in_err-found-clause-looks g c =
     let duties = c.args.duties in
     let fault = c.in_err-found.field-0.0 in
     let If = λ (t : Tables). length t.duty ≡ duties in
-    fails_too g.S.Store c.args.conn.now c.read_one.new.conn c.from_residual.result fault c.from_residual.ensures.1
+    fails_too g.S.Store c.args.conn.now c.read_one.new.conn c.from_residual.result fault
+    c.from_residual.ensures.1
     (λ found t. length t.duty ≡ duties → found ≡ duty_found t n) If
-    (rows_found g.S.Store c.args.conn.now c.read_one.new.conn (duty_finds (min n (duties + 1))) (Err fault)
+    (rows_found g.S.Store c.args.conn.now c.read_one.new.conn (duty_finds (min n (duties + 1)))
+    (Err fault)
     (λ found rows. found ≡ slice_get rows 0) (rw c.among.ensures at c.in_err-found.ensures) If
     (λ found t. length t.duty ≡ duties → found ≡ duty_found t n)
     (λ found t orderly is count.
-    is ∙ ap (λ l. slice_get l 0) (duty_among n duties t orderly count) ∙ first_is (is_duty n) t.duty))
+    is ∙ ap (λ l. slice_get l 0) (duty_among n duties t orderly count)
+    ∙ first_is (is_duty n) t.duty))
 
 pub returns-clause-looks : goal.returns-clause-looks
 returns-clause-looks g c =
@@ -34,10 +37,12 @@ returns-clause-looks g c =
     let If = λ (t : Tables). length t.duty ≡ duties in
     let old = c.args.conn.now in
     let new = c.read_one.new.conn in
-    let first = rows_found g.S.Store old new (duty_finds (min n (duties + 1))) (Ok c.in_ok-found.found)
+    let first = rows_found g.S.Store old new (duty_finds (min n (duties + 1)))
+    (Ok c.in_ok-found.found)
     (λ found rows. found ≡ slice_get rows 0) (rw c.among.ensures at c.in_ok-found.ensures) If
     (λ found t. length t.duty ≡ duties → found ≡ slice_get (filter p t.duty) 0)
-    (λ found t orderly is count. is ∙ ap (λ l. slice_get l 0) (duty_among n duties t orderly count)) in
+    (λ found t orderly is count. is
+    ∙ ap (λ l. slice_get l 0) (duty_among n duties t orderly count)) in
     then_tells g.S.Store old new first If c.numbered.result
     (λ found t. length t.duty ≡ duties → found ≡ duty_found t n)
     (IfOk-weaker c.numbered.result _ _

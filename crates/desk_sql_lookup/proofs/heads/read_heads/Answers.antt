@@ -1,4 +1,5 @@
-use Rattle.std.proofs.Common.{◌≡◌, ◌<◌, ◌++◌, ◌∷◌, [], map, ap, ap₂, sym, ◌∙◌, add-one, length, get_or, take, List, rules, subst}
+use Rattle.std.proofs.Common.{◌≡◌, ◌<◌, ◌++◌, ◌∷◌, [], map, ap, ap₂, sym, ◌∙◌, add-one, length}
+use Rattle.std.proofs.Common.{get_or, take, List, rules, subst}
 use Rattle.std.proofs.lemmas.List.{map-append}
 use Rattle.desk_sql_layout.specs.Cells.{reading_cells}
 use Rattle.desk_model.specs.Queries.{head_of}
@@ -16,10 +17,13 @@ loop-i-preserved c = λ xs is are.
     let name = c.index-names-i.result in
     let reading = c.in-Some.reading.now in
     let low : i < length (map name_cells xs) = rw (← is) c.loop-i-test.true in
-    let x = front_two name_cells reading_cells xs i name reading low (c.in-Some.ensures.lookup.1 ∙ ap (λ l. get_or l i reading) are) in
-    let one = c.in_ok-read_head.ensures.value x.0 (c.index-names-i.is ∙ ap (λ l. get_or l i name) is ∙ x.1) x.2 in
+    let x = front_two name_cells reading_cells xs i name reading low
+    (c.in-Some.ensures.lookup.1 ∙ ap (λ l. get_or l i reading) are) in
+    let one = c.in_ok-read_head.ensures.value x.0
+    (c.index-names-i.is ∙ ap (λ l. get_or l i name) is ∙ x.1) x.2 in
     rw (c.in_ok-push.ensures.items, add-one i)
-    (ap₂ (λ a b. a ++ b ∷ []) (c.loop-i.invariant xs is are) one ∙ (sym (map-append head_of (take i xs) (x.0 ∷ [])) ∙ ap (map head_of) (sym x.3)))
+    (ap₂ (λ a b. a ++ b ∷ []) (c.loop-i.invariant xs is are) one
+    ∙ (sym (map-append head_of (take i xs) (x.0 ∷ [])) ∙ ap (map head_of) (sym x.3)))
 
 pub returns-in_err-read_head-clause-cause : goal.returns-in_err-read_head-clause-cause
 returns-in_err-read_head-clause-cause c =
@@ -27,8 +31,12 @@ returns-in_err-read_head-clause-cause c =
     let readings = c.args.readings.now in
     let name = c.index-names-i.result in
     let reading = c.in-Some.reading.now in
-    let told : (xs : List DocumentRow) → names ≡ map name_cells xs → readings ≡ map reading_cells xs → AllByRecursion IsRow names → AllByRecursion IsRow readings → c.in_err-read_head.field-0.0 ≡ Memory = λ xs is are all each.
-    let x = at_two name_cells reading_cells IsRow xs names readings c.loop-i.i name reading is are c.loop-i-test.true all each in
+    let told : (xs : List DocumentRow) → names ≡ map name_cells xs → readings ≡ map reading_cells xs
+    → AllByRecursion IsRow names → AllByRecursion IsRow readings
+    → c.in_err-read_head.field-0.0 ≡ Memory = λ xs is are all each.
+    let x = at_two name_cells reading_cells IsRow xs names readings c.loop-i.i name reading is are
+    c.loop-i-test.true all each in
     let second = c.in-Some.ensures.lookup.1 in
-    c.in_err-read_head.ensures.cause x.0 (c.index-names-i.is ∙ x.1) (second ∙ x.3) (subst IsRow (sym c.index-names-i.is) x.2) (subst IsRow (sym second) x.4) in
+    c.in_err-read_head.ensures.cause x.0 (c.index-names-i.is ∙ x.1) (second ∙ x.3)
+    (subst IsRow (sym c.index-names-i.is) x.2) (subst IsRow (sym second) x.4) in
     search rules

@@ -12,8 +12,10 @@ use Rattle.desk_sql_lookup.proofs.office.conclusion.Goals as goal
 pub returns : goal.returns
 returns g c =
     let expression = λ (row : ConclusionRow). row.expression in
-    rows_found g.S.Store c.args.conn.now c.read_one.new.conn (finds_mapped text_cells expression (conclusion_finds c.args.document c.args.id.now))
+    rows_found g.S.Store c.args.conn.now c.read_one.new.conn
+    (finds_mapped text_cells expression (conclusion_finds c.args.document c.args.id.now))
     c.read_one.result (λ found rows. found ≡ slice_get rows 0)
     (rw (c.number.ensures, c.text.ensures) at c.read_one.ensures) (λ t. Unit {0})
     (λ found t. found ≡ office_text t.conclusion c.args.document c.args.id.now)
-    (λ found t orderly is. is ∙ first_mapped expression (is_conclusion c.args.document c.args.id.now) t.conclusion)
+    (λ found t orderly is. is ∙ first_mapped expression
+    (is_conclusion c.args.document c.args.id.now) t.conclusion)

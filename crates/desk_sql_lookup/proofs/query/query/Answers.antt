@@ -12,7 +12,8 @@ returns-in-Ok g c =
     record {
       ok = λ plain. (
         answered c.args.sql.now (bound c.args.params.now) (state g.S.Store c.args.conn.now)
-            (state g.S.Store c.query_all.new.self) plain c.query_all.ensures.survives c.in-Ok.rows.items shown,
+            (state g.S.Store c.query_all.new.self) plain c.query_all.ensures.survives
+            c.in-Ok.rows.items shown,
         shown,
       );
       err = λ plain. tt;
@@ -33,7 +34,8 @@ returns-in-Err g c =
       err = λ plain. failed sql params old new plain survives c.in-Err.error c.in-Err.ensures.err;
       cause = λ asked.
           rw c.fault_of.ensures
-          (failed_cause sql params old new (CommitsShowing sql params old) survives asked c.in-Err.error c.in-Err.ensures.err);
+          (failed_cause sql params old new (CommitsShowing sql params old) survives asked
+          c.in-Err.error c.in-Err.ensures.err);
       limit = search rules;
       mode = search rules;
     }

@@ -28,7 +28,8 @@ returns-in-Err g c =
           rw c.fault_of.ensures
           (any_cause (CanBeRead g.T.ReadRow.cells g.T.ReadRow.has_days sql params old new) old new
           (fault_by c.in-Err.error)
-          (failed_cause sql params old new (CommitsShowing sql params old) survives asked c.in-Err.error fails));
+          (failed_cause sql params old new (CommitsShowing sql params old) survives asked
+          c.in-Err.error fails));
       limit = search rules;
       mode = search rules;
     }
@@ -42,9 +43,13 @@ rows-init g c =
       reference = search rules;
       mode = made.mode;
       limit = made.survives.limit;
-      opened = begun_open g.S.Store g.T.ReadRow.cells sql params c.args.conn.now c.in-Ok.rows.conn.now made.begun;
-      same = λ plain. begun_same g.S.Store g.T.ReadRow.cells sql params c.args.conn.now c.in-Ok.rows.conn.now plain made.survives made.begun;
-      read = λ plain. rw c.new-found.ensures.items (begun_read g.S.Store g.T.ReadRow.cells sql params c.args.conn.now c.in-Ok.rows.conn.now plain made.begun);
+      opened = begun_open g.S.Store g.T.ReadRow.cells sql params c.args.conn.now
+          c.in-Ok.rows.conn.now made.begun;
+      same = λ plain. begun_same g.S.Store g.T.ReadRow.cells sql params c.args.conn.now
+          c.in-Ok.rows.conn.now plain made.survives made.begun;
+      read = λ plain. rw c.new-found.ensures.items
+          (begun_read g.S.Store g.T.ReadRow.cells sql params c.args.conn.now c.in-Ok.rows.conn.now
+          plain made.begun);
     }
 
 pub returns-in_err-row : goal.returns-in_err-row
@@ -58,11 +63,14 @@ returns-in_err-row g c =
     let fault = c.in_err-row.field-0.0 in
     record {
       ok = search rules;
-      err = λ plain. let kept = same_then_kept first old new (c.rows.invariant.same plain) step.kept in search rules;
+      err = λ plain. let kept = same_then_kept first old new (c.rows.invariant.same plain)
+          step.kept in search rules;
       cause = λ asked.
           let plain = subst IsPlain (sym asked.is) asked.plain in
-          let has = read_failed g.S.Store g.T.ReadRow.cells g.T.ReadRow.has_days sql params asked c.args.conn.now
-          c.rows.rows.conn.now c.read_next.new.rows.conn.now c.rows.found.items (c.rows.invariant.same plain)
+          let has = read_failed g.S.Store g.T.ReadRow.cells g.T.ReadRow.has_days sql params asked
+          c.args.conn.now
+          c.rows.rows.conn.now c.read_next.new.rows.conn.now c.rows.found.items
+          (c.rows.invariant.same plain)
           step.kept.spared.honest c.rows.invariant.limit (c.rows.invariant.read plain) fault
           (λ clean. step.cause clean sql params) in
           err_cause _ _ _ c.from_residual.result fault c.from_residual.ensures.1 (search rules);
@@ -78,11 +86,13 @@ returns-in_err-push-in-Some g c =
     record {
       ok = search rules;
       err = λ plain.
-          let same = same_then_same first old new (c.rows.invariant.same plain) c.in_ok-row.ensures.kept in
+          let same = same_then_same first old new (c.rows.invariant.same plain)
+          c.in_ok-row.ensures.kept in
           let kept = same.kept in
           search rules;
       cause = λ asked.
-          memory_err _ _ _ c.from_residual-in_err-push-in-Some.result c.from_residual-in_err-push-in-Some.ensures.1;
+          memory_err _ _ _ c.from_residual-in_err-push-in-Some.result
+          c.from_residual-in_err-push-in-Some.ensures.1;
       limit = search rules;
       mode = search rules;
     }
@@ -96,10 +106,12 @@ returns-in-None g c =
     let new = seen_of (state g.S.Store c.read_next.new.rows.conn.now) in
     record {
       ok = λ plain.
-          let same = same_then_same first old new (c.rows.invariant.same plain) c.in_ok-row.ensures.kept in
+          let same = same_then_same first old new (c.rows.invariant.same plain)
+          c.in_ok-row.ensures.kept in
           let opened = c.rows.invariant.opened in
           let honest = c.in_ok-row.ensures.kept.kept.spared.honest in
-          let shown = read_all g.S.Store g.T.ReadRow.cells sql params plain c.args.conn.now c.rows.rows.conn.now
+          let shown = read_all g.S.Store g.T.ReadRow.cells sql params plain c.args.conn.now
+          c.rows.rows.conn.now
           c.read_next.new.rows.conn.now c.rows.found.items honest (c.rows.invariant.read plain)
           (λ clean.
           let moved = c.in_ok-row.ensures.reads clean in
@@ -126,7 +138,9 @@ rows-preserved g c =
       opened = λ clean. c.rows.invariant.opened (step.kept.kept.spared.honest clean);
       same = λ plain. same_then_same first old new (c.rows.invariant.same plain) step.kept;
       read = λ plain. rw c.in_ok-push-in-Some.ensures.items
-          (read_on g.S.Store g.T.ReadRow.cells sql params plain c.args.conn.now c.rows.rows.conn.now c.read_next.new.rows.conn.now c.rows.found.items
+          (read_on g.S.Store g.T.ReadRow.cells sql params plain c.args.conn.now c.rows.rows.conn.now
+          c.read_next.new.rows.conn.now c.rows.found.items
           step.kept.kept.spared.honest (c.rows.invariant.read plain) c.in-Some.row
-          (λ clean. let moved = step.reads clean in (moved.0, λ given has. rw c.in-Some.is at (moved.1 sql params given has))));
+          (λ clean. let moved = step.reads clean in
+          (moved.0, λ given has. rw c.in-Some.is at (moved.1 sql params given has))));
     }

@@ -15,7 +15,11 @@ invariant-rows g l = record {
   reference : l.rows.conn.ghost_name ≡ l.initial.rows.conn.ghost_name;
   mode : l.fn.conn.in_transaction ≡ false → l.rows.conn.now.in_transaction ≡ false;
   limit : l.rows.conn.now.step_limit ≡ l.fn.conn.step_limit;
-  opened : HasCleanDisk (state g.S.Store l.rows.conn.now) → IsTrue (state g.S.Store l.fn.conn).is_open;
-  same : IsPlain (understood desk_schema l.sql) → Same (seen_of (state g.S.Store l.fn.conn)) (seen_of (state g.S.Store l.rows.conn.now));
-  read : IsPlain (understood desk_schema l.sql) → HasRead g.S.Store g.T.ReadRow.cells l.sql (bound l.params) l.fn.conn l.rows.conn.now l.found.items;
+  opened : HasCleanDisk (state g.S.Store l.rows.conn.now)
+      → IsTrue (state g.S.Store l.fn.conn).is_open;
+  same : IsPlain (understood desk_schema l.sql)
+      → Same (seen_of (state g.S.Store l.fn.conn)) (seen_of (state g.S.Store l.rows.conn.now));
+  read : IsPlain (understood desk_schema l.sql)
+      → HasRead g.S.Store g.T.ReadRow.cells l.sql (bound l.params) l.fn.conn l.rows.conn.now
+      l.found.items;
 }

@@ -10,12 +10,15 @@ returns-in_err-read-in-Some-clause-cause g c =
     let f = g.T.ReadRow.cells in
     let days = g.T.ReadRow.has_days in
     let rows = c.args.rows.now in
-    let told : (xs : List _) → rows ≡ map f xs → AllByRecursion IsRow rows → AllByRecursion days xs → c.in_err-read-in-Some.field-0.0 ≡ Memory = λ xs is all each.
-    let x = got_place f IsRow days xs rows 0 c.in-Some.row.now is c.in-Some.ensures.value all each in
+    let told : (xs : List _) → rows ≡ map f xs → AllByRecursion IsRow rows → AllByRecursion days xs
+    → c.in_err-read-in-Some.field-0.0 ≡ Memory = λ xs is all each.
+    let x = got_place f IsRow days xs rows 0 c.in-Some.row.now is c.in-Some.ensures.value all
+    each in
     c.in_err-read-in-Some.ensures.cause x.0 x.1 x.2 x.3 in
     search rules
 
 pub returns-in_ok-read-in-Some-clause-value : goal.returns-in_ok-read-in-Some-clause-value
 returns-in_ok-read-in-Some-clause-value g c = λ xs is.
-    let x = first_value g.T.ReadRow.cells xs c.args.rows.now c.in-Some.row.now is c.in-Some.ensures.value in
+    let x = first_value g.T.ReadRow.cells xs c.args.rows.now c.in-Some.row.now is
+    c.in-Some.ensures.value in
     ap (λ y. Some y) (c.in_ok-read-in-Some.ensures.value x.0 x.1) ∙ x.2

@@ -11,6 +11,10 @@ pub returns : goal.returns
 returns g c =
     let release = c.args.release.now in
     let document = c.args.document in
-    then_tells g.S.Store c.args.conn.now c.attached.new.conn c.in_ok-rows.ensures (λ t. Unit {0}) (Ok c.is_among.result) (λ found t. found ≡ list_any (is_attachment release document) t.attached)
-    (λ clean t held. c.is_among.ensures ∙ ap (list_any (λ (row : AttachedRow). row.document == document)) (c.deref.ensures.value ∙ c.in_ok-rows.ensures.found clean t held) ∙ any_attached release document t.attached)
+    then_tells g.S.Store c.args.conn.now c.attached.new.conn c.in_ok-rows.ensures (λ t. Unit {0})
+    (Ok c.is_among.result) (λ found t. found ≡ list_any (is_attachment release document) t.attached)
+    (λ clean t held. c.is_among.ensures
+    ∙ ap (list_any (λ (row : AttachedRow). row.document == document))
+    (c.deref.ensures.value ∙ c.in_ok-rows.ensures.found clean t held)
+    ∙ any_attached release document t.attached)
     tt

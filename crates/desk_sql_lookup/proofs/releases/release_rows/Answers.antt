@@ -5,6 +5,7 @@ use Rattle.desk_sql_lookup.proofs.releases.release_rows.Goals as goal
 
 pub returns : goal.returns
 returns g c =
-    rows_found g.S.Store c.args.conn.now c.read_rows.new.conn releases_finds c.read_rows.result (λ found rows. found.items ≡ rows)
+    rows_found g.S.Store c.args.conn.now c.read_rows.new.conn releases_finds c.read_rows.result
+    (λ found rows. found.items ≡ rows)
     c.read_rows.ensures (λ t. Unit {0})
     (λ found t. found.items ≡ t.releases) (λ found t orderly is. is)

@@ -18,10 +18,18 @@ returns g c =
     let term = c.args.term.now in
     let form = c.args.form.now in
     let p = is_rule_at n term form in
-    then_tells g.S.Store c.args.conn.now c.select_rule.new.conn c.in_ok-rows.ensures (λ t. Unit {0}) c.first_rule.result (λ found t. length t.catalogue ≡ n → found ≡ rule_for (rules_found t) term form)
+    then_tells g.S.Store c.args.conn.now c.select_rule.new.conn c.in_ok-rows.ensures (λ t. Unit {0})
+    c.first_rule.result (λ found t. length t.catalogue ≡ n
+    → found ≡ rule_for (rules_found t) term form)
     (IfOk-weaker c.first_rule.result _ _
     (λ found is clean t held count.
     let shown = c.in_ok-rows.ensures.found clean t held in
-    is (filter p t.rule) shown.1 (c.deref.ensures.value ∙ shown.0) ∙ rule_is n term form t.rule ∙ ap (λ m. find (is_rule term form) (map rule_of (filter (is_rule_of m) t.rule))) (sym count)) c.first_rule.ensures.value)
-    (rows_cause rule_cells (λ t. Unit {0}) (state g.S.Store c.args.conn.now) (state g.S.Store c.select_rule.new.conn) c.first_rule.result c.deref.result.now (λ t. filter p t.rule)
-    (λ clean t held any. c.deref.ensures.value ∙ (c.in_ok-rows.ensures.found clean t held).0) (λ t written. filter_written rule_cells rule_cells (λ x row. row) p t.rule (written.cells 2)) c.first_rule.ensures.cause)
+    is (filter p t.rule) shown.1 (c.deref.ensures.value ∙ shown.0) ∙ rule_is n term form t.rule
+    ∙ ap (λ m. find (is_rule term form) (map rule_of (filter (is_rule_of m) t.rule))) (sym count))
+    c.first_rule.ensures.value)
+    (rows_cause rule_cells (λ t. Unit {0}) (state g.S.Store c.args.conn.now)
+    (state g.S.Store c.select_rule.new.conn) c.first_rule.result c.deref.result.now
+    (λ t. filter p t.rule)
+    (λ clean t held any. c.deref.ensures.value ∙ (c.in_ok-rows.ensures.found clean t held).0)
+    (λ t written. filter_written rule_cells rule_cells (λ x row. row) p t.rule (written.cells 2))
+    c.first_rule.ensures.cause)

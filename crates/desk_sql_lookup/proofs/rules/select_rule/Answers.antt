@@ -11,7 +11,12 @@ pub returns : goal.returns
 returns g c =
     query_finds g.S.Store c.args.conn.now c.query.new.conn
     (finds_more (rule_finds c.args.revision c.args.term.now c.args.form.now).finds
-    {More = λ t rows. (rows ≡ map rule_cells (filter (is_rule_at c.args.revision c.args.term.now c.args.form.now) t.rule))
-    × (are_words (filter (is_rule_at c.args.revision c.args.term.now c.args.form.now) t.rule) ≡ true)}
-    (λ t rows orderly is. (is, words_kept (is_rule_at c.args.revision c.args.term.now c.args.form.now) t.rule orderly.codes)))
+    {More = λ t rows. (rows ≡ map rule_cells
+    (filter (is_rule_at c.args.revision c.args.term.now c.args.form.now) t.rule))
+    × (are_words (filter (is_rule_at c.args.revision c.args.term.now c.args.form.now) t.rule)
+    ≡ true)}
+    (λ t rows orderly is. (
+      is,
+      words_kept (is_rule_at c.args.revision c.args.term.now c.args.form.now) t.rule orderly.codes,
+    )))
     c.query.result (rw (c.number.ensures, c.text.ensures, c.text-2.ensures) at c.query.ensures)

@@ -7,6 +7,9 @@ pub returns-then-at-len-clause-counts : goal.returns-then-at-len-clause-counts
 returns-then-at-len-clause-counts c = λ numbers few are.
     let counts = c.args.counts.now.items in
     let at = c.args.number - c.args.first in
-    let within : at < length counts = (let long = c.len.ensures in let test = c.if-at-len.true in omega (arith, long, test)) in
-    counts_one c.args.first counts numbers c.args.number are c.saturating_add.result c.if-number-first.false within few
-    (λ small. let read = c.index.ensures ∙ get_or_default counts at c.index.result.now 0 within in let is = c.saturating_add.ensures in omega (arith, small, read, is))
+    let within : at < length counts =
+    (let long = c.len.ensures in let test = c.if-at-len.true in omega (arith, long, test)) in
+    counts_one c.args.first counts numbers c.args.number are c.saturating_add.result
+    c.if-number-first.false within few
+    (λ small. let read = c.index.ensures ∙ get_or_default counts at c.index.result.now 0 within in
+    let is = c.saturating_add.ensures in omega (arith, small, read, is))

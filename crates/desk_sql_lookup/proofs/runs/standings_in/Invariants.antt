@@ -5,4 +5,5 @@ use Rattle.desk_sql_lookup.specs.Steps.{HaveSteps}
 use Rattle.desk_sql_lookup.proofs.runs.standings_in.Given as goal
 
 abbrev pub invariant-loop-row : goal.invariant-loop-row
-invariant-loop-row l = (t : Tables) → HaveSteps l.first l.steps t → l.found.items ≡ map (standing_by t) (take l.row-index l.rows)
+invariant-loop-row l = (t : Tables) → HaveSteps l.first l.steps t
+    → l.found.items ≡ map (standing_by t) (take l.row-index l.rows)

@@ -5,4 +5,6 @@ use Rattle.desk_sql_lookup.proofs.standings.each_standing.Given as goal
 
 abbrev pub invariant-loop-row : goal.invariant-loop-row
 invariant-loop-row g l =
-    LooksUp g.S.Store l.fn.conn l.conn (Ok l.found) (λ found t. length t.duty ≡ l.duties → found.items ≡ map (standing_by t) (take l.row-index l.rows))
+    LooksUp g.S.Store l.fn.conn l.conn (Ok l.found)
+    (λ found t. length t.duty ≡ l.duties
+    → found.items ≡ map (standing_by t) (take l.row-index l.rows))

@@ -6,4 +6,5 @@ use Rattle.desk_sql_lookup.proofs.standings.ended_among.Given as goal
 
 abbrev pub invariant-loop-row : goal.invariant-loop-row
 invariant-loop-row g l =
-    LooksUpIf g.S.Store (λ t. length t.duty ≡ l.duties) l.fn.conn l.conn (Ok l.found) (λ found t. found.items ≡ filter_map (ended_standing t l.day) (take l.row-index l.rows))
+    LooksUpIf g.S.Store (λ t. length t.duty ≡ l.duties) l.fn.conn l.conn (Ok l.found)
+    (λ found t. found.items ≡ filter_map (ended_standing t l.day) (take l.row-index l.rows))

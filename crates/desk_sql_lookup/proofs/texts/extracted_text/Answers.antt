@@ -14,6 +14,13 @@ pub returns : goal.returns
 returns g c =
     let p = is_extracted c.args.document c.args.reference.now in
     let body = option_and_then (λ (row : ExtractedRow). row.body) in
-    then_rows g.S.Store c.args.conn.now c.select_extracted.new.conn c.in_ok-rows.ensures (λ t. Unit {0}) c.first_body.result (λ found t. found ≡ extracted_text t.extracted c.args.document c.args.reference.now) extracted_body_cells c.deref.result.now (λ t. filter p t.extracted)
-    (λ clean t held any. c.deref.ensures.value ∙ c.in_ok-rows.ensures.found clean t held) (λ t written. filter_written extracted_cells extracted_body_cells (λ x row. row.1.1) p t.extracted (written.cells 8))
-    (λ found rows. found ≡ body (slice_get rows 0)) (λ found t is. is tt ∙ ap body (first_is p t.extracted)) c.first_body.ensures.value c.first_body.ensures.cause
+    then_rows g.S.Store c.args.conn.now c.select_extracted.new.conn c.in_ok-rows.ensures
+    (λ t. Unit {0}) c.first_body.result
+    (λ found t. found ≡ extracted_text t.extracted c.args.document c.args.reference.now)
+    extracted_body_cells c.deref.result.now (λ t. filter p t.extracted)
+    (λ clean t held any. c.deref.ensures.value ∙ c.in_ok-rows.ensures.found clean t held)
+    (λ t written. filter_written extracted_cells extracted_body_cells (λ x row. row.1.1) p
+    t.extracted (written.cells 8))
+    (λ found rows. found ≡ body (slice_get rows 0))
+    (λ found t is. is tt ∙ ap body (first_is p t.extracted)) c.first_body.ensures.value
+    c.first_body.ensures.cause

@@ -4,20 +4,30 @@ use Rattle.desk_sql_migrate.proofs.migrate.migrate_tables.Goals as goal
 
 pub returns-clause-migrated : goal.returns-clause-migrated
 returns-clause-migrated g c =
-    migrated_first (state g.S.Store c.args.conn.now) (state g.S.Store c.older_tables.new.conn) (state g.S.Store c.write-written.new.conn) c.in_ok-version.ensures.stayed c.in_ok-version.version
-    c.write-written.result c.write-written.ensures.left c.outcome.result c.outcome.ensures c.in_ok-version.ensures.found c.write-written.ensures.ends
+    migrated_first (state g.S.Store c.args.conn.now) (state g.S.Store c.older_tables.new.conn)
+    (state g.S.Store c.write-written.new.conn) c.in_ok-version.ensures.stayed
+    c.in_ok-version.version
+    c.write-written.result c.write-written.ensures.left c.outcome.result c.outcome.ensures
+    c.in_ok-version.ensures.found c.write-written.ensures.ends
 
 pub returns-clause-reason : goal.returns-clause-reason
 returns-clause-reason g c =
-    reason_first (state g.S.Store c.args.conn.now) (state g.S.Store c.older_tables.new.conn) (state g.S.Store c.write-written.new.conn) c.in_ok-version.ensures.stayed c.in_ok-version.version
-    c.write-written.result c.write-written.ensures.left c.outcome.result c.outcome.ensures c.in_ok-version.ensures.found c.write-written.ensures.ends
+    reason_first (state g.S.Store c.args.conn.now) (state g.S.Store c.older_tables.new.conn)
+    (state g.S.Store c.write-written.new.conn) c.in_ok-version.ensures.stayed
+    c.in_ok-version.version
+    c.write-written.result c.write-written.ensures.left c.outcome.result c.outcome.ensures
+    c.in_ok-version.ensures.found c.write-written.ensures.ends
 
 pub returns-clause-survives : goal.returns-clause-survives
 returns-clause-survives g c =
-    survives_first (state g.S.Store c.args.conn.now) (state g.S.Store c.older_tables.new.conn) (state g.S.Store c.write-written.new.conn) c.in_ok-version.ensures.stayed c.in_ok-version.version
+    survives_first (state g.S.Store c.args.conn.now) (state g.S.Store c.older_tables.new.conn)
+    (state g.S.Store c.write-written.new.conn) c.in_ok-version.ensures.stayed
+    c.in_ok-version.version
     c.write-written.result c.write-written.ensures.left c.outcome.result c.outcome.ensures
 
 pub returns-clause-left : goal.returns-clause-left
 returns-clause-left g c =
-    left_first (state g.S.Store c.args.conn.now) (state g.S.Store c.older_tables.new.conn) (state g.S.Store c.write-written.new.conn) c.in_ok-version.ensures.stayed c.in_ok-version.version
+    left_first (state g.S.Store c.args.conn.now) (state g.S.Store c.older_tables.new.conn)
+    (state g.S.Store c.write-written.new.conn) c.in_ok-version.ensures.stayed
+    c.in_ok-version.version
     c.write-written.result c.write-written.ensures.left c.outcome.result c.outcome.ensures

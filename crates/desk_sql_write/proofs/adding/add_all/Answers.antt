@@ -1,4 +1,5 @@
-use Rattle.std.proofs.Common.{◌≡◌, ◌∙◌, ◌++◌, ◌∷◌, [], ◌+◌, ◌≤◌, take, drop, flat_map, length, List, Ok, Err, refl, sym, subst, arith}
+use Rattle.std.proofs.Common.{◌≡◌, ◌∙◌, ◌++◌, ◌∷◌, [], ◌+◌, ◌≤◌, take, drop, flat_map, length, List}
+use Rattle.std.proofs.Common.{Ok, Err, refl, sym, subst, arith}
 use Rattle.std.proofs.lemmas.Grind.{flat_map-append}
 use Rattle.sqlite.specs.Held.{state}
 use Rattle.desk_sql_write.specs.Turning.{Adds, with_rows}
@@ -23,13 +24,20 @@ loop-row-preserved g c =
     let tree = g.R.Added.tree in
     let f = g.R.Added.rows in
     let front = take n rows in
-    let last : Adds (with_rows tree (flat_map f (row ∷ []))) 1 b e (Ok tt) = subst (λ l. Adds (with_rows tree l) 1 b e (Ok tt)) (sym (append_nil (f row))) c.in_ok-add.ensures.adds in
-    let both = both_put tree (flat_map f) (flat_map-append f) front (row ∷ []) (length front) 1 a b e (Ok tt) c.loop-row.invariant.adds last in
-    let next : front ++ row ∷ [] ≡ take (n + 1) rows = front_more [] rows n row row c.row-item.is c.loop-row-test.true in
+    let last : Adds (with_rows tree (flat_map f (row ∷ []))) 1 b e (Ok tt) =
+    subst (λ l. Adds (with_rows tree l) 1 b e (Ok tt)) (sym (append_nil (f row)))
+    c.in_ok-add.ensures.adds in
+    let both = both_put tree (flat_map f) (flat_map-append f) front (row ∷ []) (length front) 1 a b
+    e (Ok tt) c.loop-row.invariant.adds last in
+    let next : front ++ row ∷ [] ≡ take (n + 1) rows =
+    front_more [] rows n row row c.row-item.is c.loop-row-test.true in
     record {
       same_reference = c.in_ok-add.ensures.same_reference ∙ c.loop-row.invariant.same_reference;
-      adds = subst (λ (l : List _). Adds (with_rows tree (flat_map f l)) (length l) a e (Ok tt)) next
-          (more_turns (λ rows. rows) (with_rows tree (flat_map f (front ++ row ∷ []))) (length front + 1) (length (front ++ row ∷ [])) a e (Ok tt) (within_both front (row ∷ [])) both);
+      adds = subst (λ (l : List _). Adds (with_rows tree (flat_map f l)) (length l) a e (Ok tt))
+          next
+          (more_turns (λ rows. rows) (with_rows tree (flat_map f (front ++ row ∷ [])))
+          (length front + 1) (length (front ++ row ∷ [])) a e (Ok tt) (within_both front (row ∷ []))
+          both);
     }
 
 pub returns-clause-adds : goal.returns-clause-adds
@@ -37,7 +45,9 @@ returns-clause-adds g c =
     let rows = c.args.rows.now in
     let n = c.loop-row.row-index in
     let high : length rows ≤ n = omega (arith, c.loop-row-test.false) in
-    subst (λ (l : List _). Adds (with_rows g.R.Added.tree (flat_map g.R.Added.rows l)) (length l) (state g.S.Store c.args.tx.now.conn.now) (state g.S.Store c.loop-row.tx.conn.now) (Ok tt)) (take_whole rows n high) c.loop-row.invariant.adds
+    subst (λ (l : List _). Adds (with_rows g.R.Added.tree (flat_map g.R.Added.rows l)) (length l)
+    (state g.S.Store c.args.tx.now.conn.now) (state g.S.Store c.loop-row.tx.conn.now) (Ok tt))
+    (take_whole rows n high) c.loop-row.invariant.adds
 
 pub returns-in_err-add-clause-adds : goal.returns-in_err-add-clause-adds
 returns-in_err-add-clause-adds g c =
@@ -51,8 +61,14 @@ returns-in_err-add-clause-adds g c =
     let f = g.R.Added.rows in
     let front = take n rows in
     let fault = c.in_err-add.field-0.0 in
-    let last : Adds (with_rows tree (flat_map f (row ∷ []))) 1 b e (Err fault) = subst (λ l. Adds (with_rows tree l) 1 b e (Err fault)) (sym (append_nil (f row))) c.in_err-add.ensures.adds in
-    let both = both_put tree (flat_map f) (flat_map-append f) front (row ∷ []) (length front) 1 a b e (Err fault) c.loop-row.invariant.adds last in
-    let cut : rows ≡ front ++ ((row ∷ []) ++ drop (n + 1) rows) = cut_at rows n row row c.row-item.is c.loop-row-test.true in
-    front_fails tree (flat_map f) (flat_map-append f) rows (front ++ row ∷ []) (drop (n + 1) rows) (length front + 1) (length rows) a e c.from_residual.result fault c.from_residual.ensures.1
-    (cut ∙ sym (append_all front (row ∷ []) (drop (n + 1) rows))) (within_three rows front (row ∷ []) (drop (n + 1) rows) cut) both
+    let last : Adds (with_rows tree (flat_map f (row ∷ []))) 1 b e (Err fault) =
+    subst (λ l. Adds (with_rows tree l) 1 b e (Err fault)) (sym (append_nil (f row)))
+    c.in_err-add.ensures.adds in
+    let both = both_put tree (flat_map f) (flat_map-append f) front (row ∷ []) (length front) 1 a b
+    e (Err fault) c.loop-row.invariant.adds last in
+    let cut : rows ≡ front ++ ((row ∷ []) ++ drop (n + 1) rows) =
+    cut_at rows n row row c.row-item.is c.loop-row-test.true in
+    front_fails tree (flat_map f) (flat_map-append f) rows (front ++ row ∷ []) (drop (n + 1) rows)
+    (length front + 1) (length rows) a e c.from_residual.result fault c.from_residual.ensures.1
+    (cut ∙ sym (append_all front (row ∷ []) (drop (n + 1) rows)))
+    (within_three rows front (row ∷ []) (drop (n + 1) rows) cut) both

@@ -8,7 +8,8 @@ abbrev pub invariant-loop-first : goal.invariant-loop-first
 invariant-loop-first g l = (added : List _) × record {
   before : l.rows ≡ added ++ l.left;
   same_reference : l.tx.conn.ghost_name ≡ l.fn.tx.conn.ghost_name;
-  adds : Adds (with_rows g.R.AddedInEights.tree (map g.R.AddedInEights.cells added)) (length added) (state g.S.Store l.fn.tx.conn.now) (state g.S.Store l.tx.conn.now) (Ok tt);
+  adds : Adds (with_rows g.R.AddedInEights.tree (map g.R.AddedInEights.cells added)) (length added)
+      (state g.S.Store l.fn.tx.conn.now) (state g.S.Store l.tx.conn.now) (Ok tt);
 }
 
 abbrev pub decreases-loop-first : goal.decreases-loop-first

@@ -11,16 +11,35 @@ returns-clause-makes g c =
     let a = state g.S.Store c.args.tx.now.conn.now in
     let b = state g.S.Store c.drop_choices_in.new.tx.conn.now in
     let e = state g.S.Store c.move_duties.new.tx.conn.now in
-    next_turns rows_of (λ t. rows_of (record t { choice = filter (is_choice_elsewhere c.args.release.now) t.choice })) (λ t. with_steps c.args.changes.now (rows_of (record t { choice = filter (is_choice_elsewhere c.args.release.now) t.choice; duty = moved_by c.args.changes.now t.duty }))) (length c.args.changes.now + length c.args.changes.now) a b e c.move_duties.result
+    next_turns rows_of (λ t. rows_of
+    (record t { choice = filter (is_choice_elsewhere c.args.release.now) t.choice }))
+    (λ t. with_steps c.args.changes.now
+    (rows_of (record t {
+      choice = filter (is_choice_elsewhere c.args.release.now) t.choice;
+      duty = moved_by c.args.changes.now t.duty;
+    }))) (length c.args.changes.now + length c.args.changes.now) a b e c.move_duties.result
     (λ t before after. can_stand (rows_of t) (rows_of (record t { choice = filter (is_choice_elsewhere c.args.release.now) t.choice })) (with_steps c.args.changes.now (rows_of (record t { choice = filter (is_choice_elsewhere c.args.release.now) t.choice; duty = moved_by c.args.changes.now t.duty }))) (inl refl, (inl refl, (inl refl, (inl refl, (inl refl, (inl refl, (inl refl, (inl refl, (inl refl, (inl refl, (inr (inl refl), (inl refl, (inl refl, (inl refl, (inl refl, (inl refl, tt)))))))))))))))) before after)
     c.in_ok-drop_choices_in.ensures.drops
-    (along (λ (t : Tables). record t { choice = filter (is_choice_elsewhere c.args.release.now) t.choice }) rows_of (λ t. with_steps c.args.changes.now (rows_of (record t { duty = moved_by c.args.changes.now t.duty }))) (length c.args.changes.now + length c.args.changes.now) b e c.move_duties.result c.move_duties.ensures.makes)
+    (along (λ (t : Tables). record t {
+      choice = filter (is_choice_elsewhere c.args.release.now)
+          t.choice;
+    }) rows_of (λ t. with_steps c.args.changes.now
+    (rows_of (record t { duty = moved_by c.args.changes.now t.duty })))
+    (length c.args.changes.now + length c.args.changes.now) b e c.move_duties.result
+    c.move_duties.ensures.makes)
 
 pub returns-in_err-drop_choices_in-clause-makes : goal.returns-in_err-drop_choices_in-clause-makes
 returns-in_err-drop_choices_in-clause-makes g c =
     let a = state g.S.Store c.args.tx.now.conn.now in
     let b = state g.S.Store c.drop_choices_in.new.tx.conn.now in
     let fault = c.in_err-drop_choices_in.field-0.0 in
-    first_fails rows_of (λ t. rows_of (record t { choice = filter (is_choice_elsewhere c.args.release.now) t.choice })) (λ t. with_steps c.args.changes.now (rows_of (record t { choice = filter (is_choice_elsewhere c.args.release.now) t.choice; duty = moved_by c.args.changes.now t.duty }))) (0) (length c.args.changes.now + length c.args.changes.now) a b c.from_residual.result fault c.from_residual.ensures.1 (omega arith)
+    first_fails rows_of (λ t. rows_of
+    (record t { choice = filter (is_choice_elsewhere c.args.release.now) t.choice }))
+    (λ t. with_steps c.args.changes.now
+    (rows_of (record t {
+      choice = filter (is_choice_elsewhere c.args.release.now) t.choice;
+      duty = moved_by c.args.changes.now t.duty;
+    }))) (0) (length c.args.changes.now + length c.args.changes.now) a b c.from_residual.result
+    fault c.from_residual.ensures.1 (omega arith)
     (λ t before after. can_stand (rows_of t) (rows_of (record t { choice = filter (is_choice_elsewhere c.args.release.now) t.choice })) (with_steps c.args.changes.now (rows_of (record t { choice = filter (is_choice_elsewhere c.args.release.now) t.choice; duty = moved_by c.args.changes.now t.duty }))) (inl refl, (inl refl, (inl refl, (inl refl, (inl refl, (inl refl, (inl refl, (inl refl, (inl refl, (inl refl, (inr (inl refl), (inl refl, (inl refl, (inl refl, (inl refl, (inl refl, tt)))))))))))))))) before after)
     c.in_err-drop_choices_in.ensures.drops

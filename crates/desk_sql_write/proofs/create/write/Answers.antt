@@ -14,11 +14,15 @@ returns-in-Ok-clause-crash g c =
     let old = c.args.conn.now in
     let last = c.found.new.tx.conn.now in
     let begun = c.transaction-tx.ensures.begun in
-    let inside = λ (clean : HasCleanDisk (state g.S.Store last)). rw begun at (c.in_ok-found.ensures.founded clean (rw begun)) in
+    let inside = λ (clean : HasCleanDisk (state g.S.Store last)). rw begun at
+    (c.in_ok-found.ensures.founded clean (rw begun)) in
     let P = LeavesTables (state g.S.Store old) in
-    let whole = survives_then (state g.S.Store old) (state g.S.Store last) (state g.S.Store c.commit.new.self.0) _ _ P (λ _ db none. absurd none)
-    (λ clean db is. let it = inside (clean_before _ _ _ c.commit.ensures.survives clean) in (it.was_open, (state g.S.Store last).now, it.holds, is))
-    (survives_begin g.S.Store old (state g.S.Store last) _ (rw begun at c.found.ensures.survives)) c.commit.ensures.survives in
+    let whole = survives_then (state g.S.Store old) (state g.S.Store last)
+    (state g.S.Store c.commit.new.self.0) _ _ P (λ _ db none. absurd none)
+    (λ clean db is. let it = inside (clean_before _ _ _ c.commit.ensures.survives clean) in
+    (it.was_open, (state g.S.Store last).now, it.holds, is))
+    (survives_begin g.S.Store old (state g.S.Store last) _ (rw begun at c.found.ensures.survives))
+    c.commit.ensures.survives in
     subst (λ h. Survives (state g.S.Store old) (state g.S.Store h) P) same whole
 
 pub returns-in-Err-clause-crash : goal.returns-in-Err-clause-crash
@@ -27,11 +31,15 @@ returns-in-Err-clause-crash g c =
     let old = c.args.conn.now in
     let last = c.found.new.tx.conn.now in
     let begun = c.transaction-tx.ensures.begun in
-    let inside = λ (clean : HasCleanDisk (state g.S.Store last)). rw begun at (c.in_ok-found.ensures.founded clean (rw begun)) in
+    let inside = λ (clean : HasCleanDisk (state g.S.Store last)). rw begun at
+    (c.in_ok-found.ensures.founded clean (rw begun)) in
     let P = LeavesTables (state g.S.Store old) in
-    let whole = survives_then (state g.S.Store old) (state g.S.Store last) (state g.S.Store c.commit.new.self.0) _ _ P (λ _ db none. absurd none)
-    (λ clean db is. let it = inside (clean_before _ _ _ c.commit.ensures.survives clean) in (it.was_open, (state g.S.Store last).now, it.holds, is))
-    (survives_begin g.S.Store old (state g.S.Store last) _ (rw begun at c.found.ensures.survives)) c.commit.ensures.survives in
+    let whole = survives_then (state g.S.Store old) (state g.S.Store last)
+    (state g.S.Store c.commit.new.self.0) _ _ P (λ _ db none. absurd none)
+    (λ clean db is. let it = inside (clean_before _ _ _ c.commit.ensures.survives clean) in
+    (it.was_open, (state g.S.Store last).now, it.holds, is))
+    (survives_begin g.S.Store old (state g.S.Store last) _ (rw begun at c.found.ensures.survives))
+    c.commit.ensures.survives in
     subst (λ h. Survives (state g.S.Store old) (state g.S.Store h) P) same whole
 
 pub returns-in_err-found-clause-cause : goal.returns-in_err-found-clause-cause
@@ -41,8 +49,11 @@ returns-in_err-found-clause-cause g c =
     let last = c.found.new.tx.conn.now in
     let fault = c.in_err-found.field-0.0 in
     let begun = c.transaction-tx.ensures.begun in
-    subst (λ h. IfErr c.from_residual.result (CreateFails (state g.S.Store old) (state g.S.Store h))) same
-    (dropped_fails g.S.Store old (state g.S.Store last) (state g.S.Store c.drop-tx.new.self.0) _ c.from_residual.result fault c.from_residual.ensures.1 c.drop-tx.ensures.survives (rw begun at c.in_err-found.ensures.cause))
+    subst (λ h. IfErr c.from_residual.result
+    (CreateFails (state g.S.Store old) (state g.S.Store h))) same
+    (dropped_fails g.S.Store old (state g.S.Store last) (state g.S.Store c.drop-tx.new.self.0) _
+    c.from_residual.result fault c.from_residual.ensures.1 c.drop-tx.ensures.survives
+    (rw begun at c.in_err-found.ensures.cause))
 
 pub returns-in-Err-clause-cause : goal.returns-in-Err-clause-cause
 returns-in-Err-clause-cause g c =
@@ -50,7 +61,11 @@ returns-in-Err-clause-cause g c =
     let old = c.args.conn.now in
     let last = c.found.new.tx.conn.now in
     let begun = c.transaction-tx.ensures.begun in
-    let inside = λ (clean : HasCleanDisk (state g.S.Store last)). rw begun at (c.in_ok-found.ensures.founded clean (rw begun)) in
-    let fails = commit_fails g.S.Store old (state g.S.Store last) (state g.S.Store c.commit.new.self.0) _ c.in-Err.error (rw begun at c.found.ensures.survives) c.commit.ensures.survives inside c.in-Err.ensures.err in
+    let inside = λ (clean : HasCleanDisk (state g.S.Store last)). rw begun at
+    (c.in_ok-found.ensures.founded clean (rw begun)) in
+    let fails = commit_fails g.S.Store old (state g.S.Store last)
+    (state g.S.Store c.commit.new.self.0) _ c.in-Err.error (rw begun at c.found.ensures.survives)
+    c.commit.ensures.survives inside c.in-Err.ensures.err in
     subst (λ h. CreateFails (state g.S.Store old) (state g.S.Store h) c.fault_of.result) same
-    (subst (CreateFails (state g.S.Store old) (state g.S.Store c.commit.new.self.0)) (sym c.fault_of.ensures) fails)
+    (subst (CreateFails (state g.S.Store old) (state g.S.Store c.commit.new.self.0))
+    (sym c.fault_of.ensures) fails)

@@ -16,9 +16,12 @@ loop-row-preserved c =
     record {
       is = record {
         run = row ∷ is.run;
-        whole = is.whole ∙ (ap (λ (l : List ChangeRow). l ++ is.run) parts ∙ append_all front (row ∷ []) is.run);
+        whole = is.whole ∙ (ap (λ (l : List ChangeRow). l ++ is.run) parts
+            ∙ append_all front (row ∷ []) is.run);
         some = omega (arith, shorter, is.some);
-        sets = sets_next row is.run c.loop-row.first c.in_ok-last.last.now.duty c.state_after-to.result next c.loop-row.invariant.low (c.if-not-goes_before.ensures.state refl) is.sets;
+        sets = sets_next row is.run c.loop-row.first c.in_ok-last.last.now.duty
+            c.state_after-to.result next c.loop-row.invariant.low
+            (c.if-not-goes_before.ensures.state refl) is.sets;
       };
       low = omega (arith, next, c.loop-row.invariant.low);
     }

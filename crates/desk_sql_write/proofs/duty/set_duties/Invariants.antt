@@ -11,7 +11,8 @@ abbrev pub invariant-loop-these : goal.invariant-loop-these
 invariant-loop-these g l = (set : List ChangeRow) × record {
   whole : l.rows ≡ l.left ++ set;
   same_reference : l.tx.conn.ghost_name ≡ l.fn.tx.conn.ghost_name;
-  sets : Turns rows_of (λ t. rows_of (record t { duty = moved_by set t.duty })) 0 (state g.S.Store l.fn.tx.conn.now) (state g.S.Store l.tx.conn.now) (Ok tt);
+  sets : Turns rows_of (λ t. rows_of (record t { duty = moved_by set t.duty })) 0
+      (state g.S.Store l.fn.tx.conn.now) (state g.S.Store l.tx.conn.now) (Ok tt);
 }
 
 abbrev pub decreases-loop-these : goal.decreases-loop-these

@@ -10,6 +10,9 @@ loop-row-preserved c =
     let rows = c.args.rows.now in
     let n = c.loop-row.row-index in
     let row = c.row-item.result in
-    let said : c.extend_from_slice.new.self.items ≡ c.loop-row.values.items ++ c.change_values.result = search rules in
-    ap bound said ∙ map-append _ c.loop-row.values.items c.change_values.result ∙ ap (λ l. l ++ bound c.change_values.result) c.loop-row.invariant
-    ∙ ap (λ l. flat_map change_cells (take n rows) ++ l) c.change_values.ensures ∙ flat_more change_cells rows n row row c.row-item.is c.loop-row-test.true
+    let said : c.extend_from_slice.new.self.items ≡ c.loop-row.values.items
+    ++ c.change_values.result = search rules in
+    ap bound said ∙ map-append _ c.loop-row.values.items c.change_values.result
+    ∙ ap (λ l. l ++ bound c.change_values.result) c.loop-row.invariant
+    ∙ ap (λ l. flat_map change_cells (take n rows) ++ l) c.change_values.ensures
+    ∙ flat_more change_cells rows n row row c.row-item.is c.loop-row-test.true

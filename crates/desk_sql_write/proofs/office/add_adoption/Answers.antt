@@ -4,5 +4,7 @@ use Rattle.desk_sql_write.proofs.office.add_adoption.Goals as goal
 
 pub returns-clause-adds : goal.returns-clause-adds
 returns-clause-adds g c =
-    adoption_added c.args.row.now (state g.S.Store c.args.tx.now.conn.now) (state g.S.Store c.execute.new.tx.conn.now) c.execute.result
-    (rw c.adoption_values.ensures at c.execute.ensures.ran) (rw c.adoption_values.ensures at c.execute.ensures.into) c.execute.ensures.survives
+    adoption_added c.args.row.now (state g.S.Store c.args.tx.now.conn.now)
+    (state g.S.Store c.execute.new.tx.conn.now) c.execute.result
+    (rw c.adoption_values.ensures at c.execute.ensures.ran)
+    (rw c.adoption_values.ensures at c.execute.ensures.into) c.execute.ensures.survives

@@ -4,5 +4,7 @@ use Rattle.desk_sql_write.proofs.office.drop_adoption.Goals as goal
 
 pub returns-clause-drops : goal.returns-clause-drops
 returns-clause-drops g c =
-    adoption_dropped c.args.document c.args.reference.now (state g.S.Store c.args.tx.now.conn.now) (state g.S.Store c.execute.new.tx.conn.now) c.execute.result
-    (rw (c.number.ensures, c.text.ensures) at c.execute.ensures.ran) (rw (c.number.ensures, c.text.ensures) at c.execute.ensures.into) c.execute.ensures.survives
+    adoption_dropped c.args.document c.args.reference.now (state g.S.Store c.args.tx.now.conn.now)
+    (state g.S.Store c.execute.new.tx.conn.now) c.execute.result
+    (rw (c.number.ensures, c.text.ensures) at c.execute.ensures.ran)
+    (rw (c.number.ensures, c.text.ensures) at c.execute.ensures.into) c.execute.ensures.survives

@@ -21,9 +21,12 @@ returns-in-Ok-None-clause-cause g c =
     let between = state g.S.Store c.vetted.new.conn in
     let new = state g.S.Store c.read_beside.new.conn in
     let told = rw c.in-Ok-None.field-0-is at c.in-Ok-None.ensures.none in
-    adopts_after AreRecorded old between new c.in_ok-vetted.ensures.stayed (clean_before between new (λ _. ⊥) c.in-Ok-None.ensures.read.0.survives) _
+    adopts_after AreRecorded old between new c.in_ok-vetted.ensures.stayed
+    (clean_before between new (λ _. ⊥) c.in-Ok-None.ensures.read.0.survives) _
     (never_adopts AreRecorded between new _ (λ clean opened t holds recorded.
-    let can : are_countable t.releases t.duty ≡ true = subst (λ (u : Tables). are_countable u.releases u.duty ≡ true) (sym recorded.is) (countable recorded.w recorded.h recorded.history) in
+    let can : are_countable t.releases t.duty ≡ true =
+    subst (λ (u : Tables). are_countable u.releases u.duty ≡ true) (sym recorded.is)
+    (countable recorded.w recorded.h recorded.history) in
     true≢false (sym can ∙ told clean t holds)))
 
 pub returns-in-Err-clause-cause : goal.returns-in-Err-clause-cause
@@ -31,5 +34,6 @@ returns-in-Err-clause-cause g c =
     let old = state g.S.Store c.args.conn.now in
     let between = state g.S.Store c.vetted.new.conn in
     let new = state g.S.Store c.read_beside.new.conn in
-    adopts_after AreRecorded old between new c.in_ok-vetted.ensures.stayed (clean_before between new (λ _. ⊥) c.in-Err.ensures.read.survives) _
+    adopts_after AreRecorded old between new c.in_ok-vetted.ensures.stayed
+    (clean_before between new (λ _. ⊥) c.in-Err.ensures.read.survives) _
     (fault_adopts AreRecorded between new _ c.in-Err.ensures.cause)

@@ -25,5 +25,8 @@ returns-in_err-tallies-clause-cause g c =
     let between = state g.S.Store c.read_known.new.conn in
     let new = state g.S.Store c.read_tallies.new.conn in
     let fault = c.in_err-tallies.field-0.0 in
-    err_cause AreRecorded old new c.from_residual-in_err-tallies.result fault c.from_residual-in_err-tallies.ensures.1
-    (later_cause AreRecorded old between new fault c.in_ok-counts.ensures.read c.in_err-tallies.ensures.read (any_cause AreRecorded between new fault c.in_err-tallies.ensures.cause))
+    err_cause AreRecorded old new c.from_residual-in_err-tallies.result fault
+    c.from_residual-in_err-tallies.ensures.1
+    (later_cause AreRecorded old between new fault c.in_ok-counts.ensures.read
+    c.in_err-tallies.ensures.read
+    (any_cause AreRecorded between new fault c.in_err-tallies.ensures.cause))

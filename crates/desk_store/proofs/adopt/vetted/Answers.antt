@@ -7,33 +7,40 @@ use Rattle.desk_store.proofs.Adopting.{any_adopts, err_adopts_after}
 use Rattle.desk_store.proofs.adopt.vetted.Goals as goal
 
 pub returns-in-Err-clause-sound : goal.returns-in-Err-clause-sound
-returns-in-Err-clause-sound g c = λ is w right honest h ok held. c.in-Err.ensures.held is honest (tables w h) held
+returns-in-Err-clause-sound g c = λ is w right honest h ok held. c.in-Err.ensures.held is honest
+    (tables w h) held
 
 pub returns-in-Ok-clause-passed : goal.returns-in-Ok-clause-passed
 returns-in-Ok-clause-passed g c = λ clean is.
     let old = state g.S.Store c.args.conn.now in
     let between = state g.S.Store c.examined.new.conn in
     let new = state g.S.Store c.audited.new.conn in
-    let before = clean_before between new (λ _. ⊥) (survived between new c.audited.result c.audited.ensures.stayed c.audited.ensures.left) clean in
-    passed_after old between c.audited.result (c.in-Ok.ensures.desk before) (stayed_now old between c.in-Ok.ensures.stayed before is) (c.audited.ensures.passed clean)
+    let before = clean_before between new (λ _. ⊥)
+    (survived between new c.audited.result c.audited.ensures.stayed c.audited.ensures.left) clean in
+    passed_after old between c.audited.result (c.in-Ok.ensures.desk before)
+    (stayed_now old between c.in-Ok.ensures.stayed before is) (c.audited.ensures.passed clean)
 
 pub returns-in-Ok-clause-reason : goal.returns-in-Ok-clause-reason
 returns-in-Ok-clause-reason g c = λ clean.
     let old = state g.S.Store c.args.conn.now in
     let between = state g.S.Store c.examined.new.conn in
     let new = state g.S.Store c.audited.new.conn in
-    let before = clean_before between new (λ _. ⊥) (survived between new c.audited.result c.audited.ensures.stayed c.audited.ensures.left) clean in
-    reason_after old between c.audited.result (c.in-Ok.ensures.desk before) (stayed_now old between c.in-Ok.ensures.stayed before)
+    let before = clean_before between new (λ _. ⊥)
+    (survived between new c.audited.result c.audited.ensures.stayed c.audited.ensures.left) clean in
+    reason_after old between c.audited.result (c.in-Ok.ensures.desk before)
+    (stayed_now old between c.in-Ok.ensures.stayed before)
     c.audited.ensures.only (c.audited.ensures.told clean)
 
 pub returns-in-Ok-clause-left : goal.returns-in-Ok-clause-left
 returns-in-Ok-clause-left g c =
-    left_after (state g.S.Store c.args.conn.now) (state g.S.Store c.examined.new.conn) (state g.S.Store c.audited.new.conn) c.audited.result
+    left_after (state g.S.Store c.args.conn.now) (state g.S.Store c.examined.new.conn)
+    (state g.S.Store c.audited.new.conn) c.audited.result
     c.in-Ok.ensures.stayed c.audited.ensures.left
 
 pub returns-in-Ok-clause-stayed : goal.returns-in-Ok-clause-stayed
 returns-in-Ok-clause-stayed g c =
-    stayed_after (state g.S.Store c.args.conn.now) (state g.S.Store c.examined.new.conn) (state g.S.Store c.audited.new.conn) c.audited.result
+    stayed_after (state g.S.Store c.args.conn.now) (state g.S.Store c.examined.new.conn)
+    (state g.S.Store c.audited.new.conn) c.audited.result
     c.in-Ok.ensures.stayed c.audited.ensures.stayed
 
 pub returns-in-Ok-clause-cause : goal.returns-in-Ok-clause-cause
@@ -41,8 +48,10 @@ returns-in-Ok-clause-cause g c =
     let old = state g.S.Store c.args.conn.now in
     let between = state g.S.Store c.examined.new.conn in
     let new = state g.S.Store c.audited.new.conn in
-    let honest = clean_before between new (λ _. ⊥) (survived between new c.audited.result c.audited.ensures.stayed c.audited.ensures.left) in
-    err_adopts_after AreRecorded old between new c.in-Ok.ensures.stayed honest c.audited.result c.audited.ensures.cause
+    let honest = clean_before between new (λ _. ⊥)
+    (survived between new c.audited.result c.audited.ensures.stayed c.audited.ensures.left) in
+    err_adopts_after AreRecorded old between new c.in-Ok.ensures.stayed honest c.audited.result
+    c.audited.ensures.cause
 
 pub returns-in-Err-clause-cause : goal.returns-in-Err-clause-cause
 returns-in-Err-clause-cause g c = any_adopts AreRecorded _ _ _ c.in-Err.ensures.cause

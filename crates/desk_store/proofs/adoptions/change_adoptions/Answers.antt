@@ -11,7 +11,8 @@ use Rattle.desk_store.proofs.adoptions.change_adoptions.Goals as goal
 pub returns-then-row-kept : goal.returns-then-row-kept
 returns-then-row-kept g c =
     let kept = c.args.kept.now in
-    looks_none g.S.Store c.args.conn.now (λ t. Unit {0}) tt (λ done t. AreAdopted (Some kept) t → AreAdopted (Some kept) (applied c.args.change.now t))
+    looks_none g.S.Store c.args.conn.now (λ t. Unit {0}) tt
+    (λ done t. AreAdopted (Some kept) t → AreAdopted (Some kept) (applied c.args.change.now t))
     (λ t are. rw (c.in-Adopted.is) (kept_elsewhere c.in-Adopted.row kept t c.if-row-kept.true are))
 
 pub returns : goal.returns
@@ -20,8 +21,13 @@ returns g c =
     let row = c.in-Adopted.row in
     let it = c.in_ok-is_new.ensures in
     let more = c.in_ok-adopt.ensures in
-    then_tells g.S.Store c.args.conn.now c.adds_one.new.conn it (λ t. Unit {0}) (Ok tt) (λ done t. AreAdopted (Some kept) t → AreAdopted (Some c.adopt.new.self) (applied c.args.change.now t))
+    then_tells g.S.Store c.args.conn.now c.adds_one.new.conn it (λ t. Unit {0}) (Ok tt)
+    (λ done t. AreAdopted (Some kept) t
+    → AreAdopted (Some c.adopt.new.self) (applied c.args.change.now t))
     (λ clean t held are.
-    rw (c.in-Adopted.is) (kept_here row kept c.adopt.new.self t c.in_ok-is_new.is_new c.if-row-kept.false more.document more.count
-    (λ other. more.references other ∙ ap (λ text. bytes_eq text other || contains_text kept.references other) c.as_str.ensures) (it.found clean t held are) are))
+    rw (c.in-Adopted.is) (kept_here row kept c.adopt.new.self t c.in_ok-is_new.is_new
+    c.if-row-kept.false more.document more.count
+    (λ other. more.references other
+    ∙ ap (λ text. bytes_eq text other || contains_text kept.references other) c.as_str.ensures)
+    (it.found clean t held are) are))
     tt

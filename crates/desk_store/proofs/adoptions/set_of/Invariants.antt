@@ -6,4 +6,6 @@ use Rattle.desk_store.proofs.adoptions.set_of.Given as goal
 
 -- the set has the texts so far
 abbrev pub invariant-loop-text : goal.invariant-loop-text
-invariant-loop-text l = (reference : List ℕ) → contains_text l.set reference ≡ list_any (λ text. bytes_eq text reference) (take l.text-index l.texts)
+invariant-loop-text l = (reference : List ℕ)
+    → contains_text l.set reference
+    ≡ list_any (λ text. bytes_eq text reference) (take l.text-index l.texts)

@@ -7,7 +7,8 @@ use Rattle.desk_store.proofs.found.adoptions_after.Goals as goal
 pub returns : goal.returns
 returns g c =
     let change = c.args.change.now in
-    then_tells g.S.Store c.args.conn.now c.change_adoptions.new.conn c.in_ok-change_adoptions.ensures (λ t. Unit {0}) (Ok (Some c.change_adoptions.new.kept))
+    then_tells g.S.Store c.args.conn.now c.change_adoptions.new.conn
+    c.in_ok-change_adoptions.ensures (λ t. Unit {0}) (Ok (Some c.change_adoptions.new.kept))
     (λ after t. AreAdopted c.args.adoptions t → AreAdopted after (applied change t))
     (λ clean t held are.
     let are : AreAdopted c.args.adoptions t = are in

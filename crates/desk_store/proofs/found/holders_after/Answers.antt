@@ -12,9 +12,13 @@ use Rattle.desk_store.proofs.found.holders_after.Goals as goal
 pub returns : goal.returns
 returns g c =
     let change = c.args.change.now in
-    then_tells g.S.Store c.args.conn.now c.change_holders.new.conn c.in_ok-change_holders.ensures (λ t. Unit {0}) (Ok (Some c.change_holders.new.holders))
-    (λ after t. Ascends release_below (applied change t).releases → Follows change t → AreHeld c.args.holders t → AreHeld after (applied change t))
+    then_tells g.S.Store c.args.conn.now c.change_holders.new.conn c.in_ok-change_holders.ensures
+    (λ t. Unit {0}) (Ok (Some c.change_holders.new.holders))
+    (λ after t. Ascends release_below (applied change t).releases → Follows change t
+    → AreHeld c.args.holders t → AreHeld after (applied change t))
     (λ clean t held up follows are.
     let are : AreHeld c.args.holders t = are in
-    subst (λ all. AreHolders all (applied change t)) (sym (c.in_ok-change_holders.ensures.found clean t held)) (held_after change t (held_by c.in-Some.held) up follows (rw c.in-Some.is at are)))
+    subst (λ all. AreHolders all (applied change t))
+    (sym (c.in_ok-change_holders.ensures.found clean t held))
+    (held_after change t (held_by c.in-Some.held) up follows (rw c.in-Some.is at are)))
     tt

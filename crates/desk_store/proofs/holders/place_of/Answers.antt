@@ -11,11 +11,15 @@ pub returns-in-Ok-clause-found : goal.returns-in-Ok-clause-found
 returns-in-Ok-clause-found c =
     let name = c.args.name.now in
     let side : ReleaseRow → Ordering = λ row. slice_cmp nat_cmp row.name name in
-    placed_at c.args.releases.now name c.in-Ok.at c.index-releases-at.result c.in-Ok.ensures.bound c.index-releases-at.is
-    (c.in-Ok.ensures.position side (always_returns_same _ (λ a r. r ≡ side a.0.now) _ (λ a r q k. search rules)))
+    placed_at c.args.releases.now name c.in-Ok.at c.index-releases-at.result c.in-Ok.ensures.bound
+    c.index-releases-at.is
+    (c.in-Ok.ensures.position side
+    (always_returns_same _ (λ a r. r ≡ side a.0.now) _ (λ a r q k. search rules)))
 
 pub returns-in-Err-clause-none : goal.returns-in-Err-clause-none
 returns-in-Err-clause-none c =
     let name = c.args.name.now in
     let side : ReleaseRow → Ordering = λ row. slice_cmp nat_cmp row.name name in
-    none_at c.args.releases.now name c.in-Err.field-0 (c.in-Err.ensures.position side (always_returns_same _ (λ a r. r ≡ side a.0.now) _ (λ a r q k. search rules)))
+    none_at c.args.releases.now name c.in-Err.field-0
+    (c.in-Err.ensures.position side
+    (always_returns_same _ (λ a r. r ≡ side a.0.now) _ (λ a r q k. search rules)))

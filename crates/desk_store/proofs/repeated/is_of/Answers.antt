@@ -6,4 +6,5 @@ use Rattle.desk_store.proofs.repeated.is_of.Goals as goal
 pub returns : goal.returns
 returns c =
     let key = c.args.key.now in
-    c.is_eq.ensures ∙ (ap is_eq c.side_of.ensures ∙ sym (choice_meets key.release.now key.document key.id.now c.args.row.now))
+    c.is_eq.ensures ∙ (ap is_eq c.side_of.ensures
+    ∙ sym (choice_meets key.release.now key.document key.id.now c.args.row.now))

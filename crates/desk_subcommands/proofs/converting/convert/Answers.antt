@@ -8,10 +8,14 @@ pub returns-in_ok-write_text-in-Ok-clause-told : goal.returns-in_ok-write_text-i
 returns-in_ok-write_text-in-Ok-clause-told g c = (
   string_bytes c.in-Ok.converted.text,
   inl (c.in-Ok.converted, c.in-Ok.ensures.ok, refl, refl),
-  subst (Appends (g.W.Write.contents c.args.writer.now) (g.W.Write.contents c.write_text.new.writer)) c.as_bytes.ensures.value c.in_ok-write_text-in-Ok.ensures.ok,
+  subst (Appends (g.W.Write.contents c.args.writer.now)
+      (g.W.Write.contents c.write_text.new.writer)) c.as_bytes.ensures.value
+      c.in_ok-write_text-in-Ok.ensures.ok,
 )
 
 pub returns-in-Err-clause-told : goal.returns-in-Err-clause-told
 returns-in-Err-clause-told g c =
-    refused_told c.args.bytes.now c.in-Err.fault (g.W.Write.contents c.args.writer.now) (g.W.Write.contents c.refuse_conversion.new.writer)
-    c.refuse_conversion.result c.in-Err.ensures.err c.refuse_conversion.ensures.told c.refuse_conversion.ensures.memory_fault
+    refused_told c.args.bytes.now c.in-Err.fault (g.W.Write.contents c.args.writer.now)
+    (g.W.Write.contents c.refuse_conversion.new.writer)
+    c.refuse_conversion.result c.in-Err.ensures.err c.refuse_conversion.ensures.told
+    c.refuse_conversion.ensures.memory_fault

@@ -11,4 +11,6 @@ abbrev pub invariant-loop-field : goal.invariant-loop-field
 invariant-loop-field l =
     (l.field-iterator.line + length l.field-iterator.rest.now ≤ 1 + document_bytes)
     × (fs : List FieldText) × (map entry_text l.entries.items ≡ map read_entry fs)
-    × ((r : Result (List FieldText) DocFault) → Reads l.field-iterator.line l.field-iterator.rest.now r → Reads 1 (behind_mark l.text) (with_front fs r))
+    × ((r : Result (List FieldText) DocFault)
+    → Reads l.field-iterator.line l.field-iterator.rest.now r
+    → Reads 1 (behind_mark l.text) (with_front fs r))

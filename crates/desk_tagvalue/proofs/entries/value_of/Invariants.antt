@@ -5,4 +5,5 @@ use Rattle.desk_tagvalue.proofs.entries.value_of.Given as goal
 
 -- the fields passed over have another tag
 abbrev pub invariant-loop-entry : goal.invariant-loop-entry
-invariant-loop-entry l = value_of l.tag (map entry_text l.entries) ≡ value_of l.tag (map entry_text (drop l.entry-index l.entries))
+invariant-loop-entry l = value_of l.tag (map entry_text l.entries)
+    ≡ value_of l.tag (map entry_text (drop l.entry-index l.entries))

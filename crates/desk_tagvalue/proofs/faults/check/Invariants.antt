@@ -9,5 +9,6 @@ use Rattle.desk_tagvalue.proofs.faults.check.Given as goal
 abbrev pub invariant-loop-i : goal.invariant-loop-i
 invariant-loop-i l = record {
   knows : Knows (take l.i l.entries) l.seen;
-  rest : first_fault [] (map entry_text l.entries) ≡ first_fault (newest (take l.i l.entries)) (map entry_text (drop l.i l.entries));
+  rest : first_fault [] (map entry_text l.entries)
+      ≡ first_fault (newest (take l.i l.entries)) (map entry_text (drop l.i l.entries));
 }

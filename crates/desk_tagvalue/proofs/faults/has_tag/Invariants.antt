@@ -7,4 +7,5 @@ use Rattle.desk_tagvalue.proofs.faults.has_tag.Given as goal
 
 -- the fields passed over have another tag
 abbrev pub invariant-loop-entry : goal.invariant-loop-entry
-invariant-loop-entry l = list_any (has_tag l.tag) (map entry_text l.entries) ≡ list_any (has_tag l.tag) (map entry_text (drop l.entry-index l.entries))
+invariant-loop-entry l = list_any (has_tag l.tag) (map entry_text l.entries)
+    ≡ list_any (has_tag l.tag) (map entry_text (drop l.entry-index l.entries))

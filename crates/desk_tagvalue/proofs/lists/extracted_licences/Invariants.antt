@@ -8,4 +8,6 @@ use Rattle.desk_tagvalue.proofs.lists.extracted_licences.Given as goal
 
 -- those found and those in what is left are all
 abbrev pub invariant-loop-i : goal.invariant-loop-i
-invariant-loop-i l = map extracted_text l.found.items ++ parts_of tags.LicenseIdentifier extracted_of (map entry_text (drop l.i l.entries)) ≡ parts_of tags.LicenseIdentifier extracted_of (map entry_text l.entries)
+invariant-loop-i l = map extracted_text l.found.items
+    ++ parts_of tags.LicenseIdentifier extracted_of (map entry_text (drop l.i l.entries))
+    ≡ parts_of tags.LicenseIdentifier extracted_of (map entry_text l.entries)

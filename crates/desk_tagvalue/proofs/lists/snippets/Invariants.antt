@@ -8,4 +8,6 @@ use Rattle.desk_tagvalue.proofs.lists.snippets.Given as goal
 
 -- those found and those in what is left are all
 abbrev pub invariant-loop-entry : goal.invariant-loop-entry
-invariant-loop-entry l = map snippet_text l.found.items ++ parts_of tags.SnippetIdentifier snippet_of (map entry_text (drop l.entry-index l.entries)) ≡ parts_of tags.SnippetIdentifier snippet_of (map entry_text l.entries)
+invariant-loop-entry l = map snippet_text l.found.items
+    ++ parts_of tags.SnippetIdentifier snippet_of (map entry_text (drop l.entry-index l.entries))
+    ≡ parts_of tags.SnippetIdentifier snippet_of (map entry_text l.entries)

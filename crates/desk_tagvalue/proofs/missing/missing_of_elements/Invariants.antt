@@ -6,4 +6,5 @@ use Rattle.desk_tagvalue.proofs.missing.missing_of_elements.Given as goal
 
 -- each element passed over has its identifier
 abbrev pub invariant-loop-i : goal.invariant-loop-i
-invariant-loop-i l = missing_of_elements (map entry_text l.entries) ≡ missing_of_elements (map entry_text (drop l.i l.entries))
+invariant-loop-i l = missing_of_elements (map entry_text l.entries)
+    ≡ missing_of_elements (map entry_text (drop l.i l.entries))

@@ -7,4 +7,6 @@ use Rattle.desk_tagvalue.proofs.parts.head_of.Goals as goal
 
 pub loop-i-preserved : goal.loop-i-preserved
 loop-i-preserved c =
-    head_step c.args.entries.now c.loop-i.i _ (head_of (map entry_text c.args.entries.now)) c.loop-i-test.true (ap is_some (sym c.section_begun.ensures) ∙ sym c.if-is_some.ensures) c.loop-i.invariant
+    head_step c.args.entries.now c.loop-i.i _ (head_of (map entry_text c.args.entries.now))
+    c.loop-i-test.true (ap is_some (sym c.section_begun.ensures) ∙ sym c.if-is_some.ensures)
+    c.loop-i.invariant

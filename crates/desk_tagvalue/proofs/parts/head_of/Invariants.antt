@@ -6,4 +6,5 @@ use Rattle.desk_tagvalue.proofs.parts.head_of.Given as goal
 
 -- the fields passed over begin no section
 abbrev pub invariant-loop-i : goal.invariant-loop-i
-invariant-loop-i l = head_of (map entry_text l.entries) ≡ map entry_text (take l.i l.entries) ++ head_of (map entry_text (drop l.i l.entries))
+invariant-loop-i l = head_of (map entry_text l.entries) ≡ map entry_text (take l.i l.entries)
+    ++ head_of (map entry_text (drop l.i l.entries))

@@ -8,10 +8,12 @@ use Rattle.desk_tagvalue.proofs.ReadLemmas.{spells_judged, ok_from, err_from, er
 use Rattle.desk_tagvalue.proofs.reading.read.Goals as goal
 
 pub returns-then-bytes-gt-DOCUMENT_BYTES-clause-err : goal.returns-then-bytes-gt-DOCUMENT_BYTES-clause-err
-returns-then-bytes-gt-DOCUMENT_BYTES-clause-err c = inr (too_large c.args.bytes.now c.if-bytes-gt-DOCUMENT_BYTES.true)
+returns-then-bytes-gt-DOCUMENT_BYTES-clause-err c = inr (too_large c.args.bytes.now
+    c.if-bytes-gt-DOCUMENT_BYTES.true)
 
 pub returns-in_default-clause-err : goal.returns-in_default-clause-err
-returns-in_default-clause-err c = inr (no_text c.args.bytes.now c.if-bytes-gt-DOCUMENT_BYTES.false c.in_default.ensures.cases.0)
+returns-in_default-clause-err c = inr (no_text c.args.bytes.now c.if-bytes-gt-DOCUMENT_BYTES.false
+    c.in_default.ensures.cases.0)
 
 pub returns-in-Ok-entries_of : goal.returns-in-Ok-entries_of
 returns-in-Ok-entries_of c =
@@ -19,7 +21,8 @@ returns-in-Ok-entries_of c =
     let t = c.in-Ok.ensures.cases in
     let es = map entry_text c.in-Ok-entries_of.entries.items in
     let spells = λ (x : Result DocumentText DocFault) (is : judged es ≡ x).
-    spells_judged bytes c.in-Ok.text.now es x c.if-bytes-gt-DOCUMENT_BYTES.false t.1 t.0 c.in-Ok-entries_of.ensures.ok is in
+    spells_judged bytes c.in-Ok.text.now es x c.if-bytes-gt-DOCUMENT_BYTES.false t.1 t.0
+    c.in-Ok-entries_of.ensures.ok is in
     record {
       ok = ok_from bytes es c.judged.result spells c.judged.ensures.ok;
       err = err_from bytes es c.judged.result spells c.judged.ensures.err;
@@ -28,4 +31,5 @@ returns-in-Ok-entries_of c =
 pub returns-in-Err-clause-err : goal.returns-in-Err-clause-err
 returns-in-Err-clause-err c =
     let t = c.in-Ok.ensures.cases in
-    err_cut c.args.bytes.now c.in-Ok.text.now c.in-Err.fault c.if-bytes-gt-DOCUMENT_BYTES.false t.1 t.0 c.in-Err.ensures.err
+    err_cut c.args.bytes.now c.in-Ok.text.now c.in-Err.fault c.if-bytes-gt-DOCUMENT_BYTES.false t.1
+    t.0 c.in-Err.ensures.err

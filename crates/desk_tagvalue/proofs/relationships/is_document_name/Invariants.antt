@@ -5,4 +5,5 @@ use Rattle.desk_tagvalue.proofs.relationships.is_document_name.Given as goal
 
 -- the bytes passed over may be in a document's name
 abbrev pub invariant-loop-byte : goal.invariant-loop-byte
-invariant-loop-byte l = list_all is_document_byte l.bytes ≡ list_all is_document_byte (drop l.byte-index l.bytes)
+invariant-loop-byte l = list_all is_document_byte l.bytes
+    ≡ list_all is_document_byte (drop l.byte-index l.bytes)

@@ -5,4 +5,5 @@ use Rattle.desk_tagvalue.proofs.relationships.is_kind.Given as goal
 
 -- the bytes passed over may be in a type
 abbrev pub invariant-loop-byte : goal.invariant-loop-byte
-invariant-loop-byte l = list_all is_kind_byte l.byte-items ≡ list_all is_kind_byte (drop l.byte-index l.byte-items)
+invariant-loop-byte l = list_all is_kind_byte l.byte-items
+    ≡ list_all is_kind_byte (drop l.byte-index l.byte-items)

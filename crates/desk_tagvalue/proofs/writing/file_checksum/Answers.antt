@@ -10,8 +10,13 @@ use Rattle.desk_tagvalue.proofs.writing.file_checksum.Goals as goal
 
 pub returns-clause-read : goal.returns-clause-read
 returns-clause-read c =
-    let text : IfOk c.format.result (λ s. string_bytes s ≡ codes "SHA1: " ++ encode_lower c.args.digest.now) = search rules in
+    let text : IfOk c.format.result (λ s. string_bytes s ≡ codes "SHA1: "
+    ++ encode_lower c.args.digest.now) = search rules in
     let twenty : length c.args.digest.now ≡ 20 = omega arith in
-    let bytes : All (λ b. b < 256) c.args.digest.now = All-from_get_or (λ b. b < 256) c.args.digest.now 0 (λ i lt. let f = c.fits-digest i in omega arith) in
-    IfOk-weaker c.format.result (λ s. string_bytes s ≡ codes "SHA1: " ++ encode_lower c.args.digest.now) (λ s. sha1_digits (string_bytes s) ≡ Some (encode_lower c.args.digest.now))
+    let bytes : All (λ b. b < 256) c.args.digest.now =
+    All-from_get_or (λ b. b < 256) c.args.digest.now 0
+    (λ i lt. let f = c.fits-digest i in omega arith) in
+    IfOk-weaker c.format.result (λ s. string_bytes s ≡ codes "SHA1: "
+    ++ encode_lower c.args.digest.now)
+    (λ s. sha1_digits (string_bytes s) ≡ Some (encode_lower c.args.digest.now))
     (λ s is. ap sha1_digits is ∙ digest_read c.args.digest.now twenty bytes) text

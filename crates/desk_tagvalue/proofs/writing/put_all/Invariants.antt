@@ -7,4 +7,5 @@ use Rattle.desk_tagvalue.proofs.writing.put_all.Given as goal
 
 -- the lines so far were added
 abbrev pub invariant-loop-line : goal.invariant-loop-line
-invariant-loop-line l = Adds (string_bytes l.fn.out) (map line_text (take l.line-index l.lines)) (string_bytes l.out)
+invariant-loop-line l = Adds (string_bytes l.fn.out) (map line_text (take l.line-index l.lines))
+    (string_bytes l.out)

@@ -12,12 +12,15 @@ returns c =
     let file = c.args.file.now in
     let name : c.deref.result.now ≡ codes "./" ++ file.path = search rules in
     let id : c.deref-2.result.now ≡ codes "SPDXRef-File-" ++ decimal c.args.number = search rules in
-    let checksum : c.deref-3.result.now ≡ codes "SHA1: " ++ encode_lower file.digest = search rules in
+    let checksum : c.deref-3.result.now ≡ codes "SHA1: " ++ encode_lower file.digest =
+    search rules in
     let lines = c.lines_of_file-lines.ensures
-    ∙ file_texts c.args.number file c.deref.result.now c.deref-2.result.now c.deref-3.result.now name id checksum in
+    ∙ file_texts c.args.number file c.deref.result.now c.deref-2.result.now c.deref-3.result.now
+    name id checksum in
     record {
       ok =
-          subst (λ l. OnOk c.put_all.result (Adds (string_bytes c.args.out.now) l (string_bytes c.put_all.new.out)))
+          subst (λ l. OnOk c.put_all.result
+          (Adds (string_bytes c.args.out.now) l (string_bytes c.put_all.new.out)))
           lines c.put_all.ensures.ok;
       digest = search rules;
       err = subst (λ l. IfErr c.put_all.result (λ e. IsStopped l e)) lines c.put_all.ensures.err;

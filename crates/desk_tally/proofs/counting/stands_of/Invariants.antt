@@ -9,5 +9,6 @@ abbrev pub invariant-loop-duty : goal.invariant-loop-duty
 invariant-loop-duty l = record {
   text : shadow (Utf8 l.last);
   at : l.place ≡ unwrap_or (place_found l.releases l.last) 0;
-  stands : l.stands.items ++ map (stand_of l.releases) (drop l.duty-index l.duties) ≡ map (stand_of l.releases) l.duties;
+  stands : l.stands.items ++ map (stand_of l.releases) (drop l.duty-index l.duties)
+      ≡ map (stand_of l.releases) l.duties;
 }

@@ -14,6 +14,8 @@ returns-clause-tallied c = λ all i stand at of from before.
       waived = c.move_one.ensures.waived;
       withdrawn = c.move_one.ensures.withdrawn;
     } in
-    tallied-moved all tallies.items _ i c.args.index stand c.args.to c.index_mut.result.now c.move_one.new.self before at of
+    tallied-moved all tallies.items _ i c.args.index stand c.args.to c.index_mut.result.now
+    c.move_one.new.self before at of
     (get_some tallies.items c.args.index c.index_mut.result.now lt c.index_mut.ensures.value) refl
-    (subst (λ (s : DutyState). HasMoved s c.args.to c.index_mut.result.now c.move_one.new.self) (sym from) has)
+    (subst (λ (s : DutyState). HasMoved s c.args.to c.index_mut.result.now c.move_one.new.self)
+    (sym from) has)

@@ -10,25 +10,32 @@ move_at-requires-clause-some c = λ tally had.
     let stands = c.args.stands.now in
     let stand : Stand = c.index-stand.result.now in
     let lt : c.args.index < length stands.items = omega (arith, stands.ok.0, c.requires.within) in
-    let at : slice_get stands.items c.args.index ≡ Some stand = get_some stands.items c.args.index stand lt c.index-stand.ensures in
-    let low : 1 ≤ stand.place = placed_low (vec_len c.args.tallies.now) c.args.index stands.items stand c.requires.placed at in
+    let at : slice_get stands.items c.args.index ≡ Some stand =
+    get_some stands.items c.args.index stand lt c.index-stand.ensures in
+    let low : 1 ≤ stand.place = placed_low (vec_len c.args.tallies.now) c.args.index stands.items
+    stand c.requires.placed at in
     let of : stand.place ≡ stand.place - 1 + 1 = omega (arith, low) in
-    stands_some stands.items c.args.tallies.now.items c.args.index (stand.place - 1) stand tally c.requires.tallied at of had
+    stands_some stands.items c.args.tallies.now.items c.args.index (stand.place - 1) stand tally
+    c.requires.tallied at of had
 
 pub returns-clause-stands : goal.returns-clause-stands
 returns-clause-stands c =
     let stands = c.args.stands.now in
     let stand : Stand = c.index-stand.result.now in
     let lt : c.args.index < length stands.items = omega (arith, stands.ok.0, c.requires.within) in
-    state_set c.args.index c.args.to stands.items stand (get_some stands.items c.args.index stand lt c.index-stand.ensures)
+    state_set c.args.index c.args.to stands.items stand
+    (get_some stands.items c.args.index stand lt c.index-stand.ensures)
 
 pub returns-clause-tallied : goal.returns-clause-tallied
 returns-clause-tallied c =
     let stands = c.args.stands.now in
     let stand : Stand = c.index-stand.result.now in
     let lt : c.args.index < length stands.items = omega (arith, stands.ok.0, c.requires.within) in
-    let at : slice_get stands.items c.args.index ≡ Some stand = get_some stands.items c.args.index stand lt c.index-stand.ensures in
-    let low : 1 ≤ stand.place = placed_low (vec_len c.args.tallies.now) c.args.index stands.items stand c.requires.placed at in
+    let at : slice_get stands.items c.args.index ≡ Some stand =
+    get_some stands.items c.args.index stand lt c.index-stand.ensures in
+    let low : 1 ≤ stand.place = placed_low (vec_len c.args.tallies.now) c.args.index stands.items
+    stand c.requires.placed at in
     let of : stand.place ≡ stand.place - 1 + 1 = omega (arith, low) in
-    subst (λ (all : List Stand). AreTallied all c.move_at.new.tallies.items) (sym (state_set c.args.index c.args.to stands.items stand at))
+    subst (λ (all : List Stand). AreTallied all c.move_at.new.tallies.items)
+    (sym (state_set c.args.index c.args.to stands.items stand at))
     (c.move_at.ensures.tallied stands.items c.args.index stand at of refl c.requires.tallied)

@@ -23,7 +23,8 @@ returns-in-Superfluous c = λ own chosen table first.
     (c.in-Superfluous.ensures.superfluous i refl) in
     let there = slice_get_within kept.terms.items i goes.0.0 goes.0.1 in
     let within : i < length kept.places.items = omega (arith, first.paired) in
-    let place = c.index.ensures ∙ get_or_default_zero kept.places.items i c.index.result.now within in
+    let place = c.index.ensures ∙ get_or_default_zero kept.places.items i c.index.result.now
+    within in
     subst (IsFirst (CanGo chosen e)) (sym place)
     (first_goes e own chosen kept.terms.items kept.places.items table first i goes)
 

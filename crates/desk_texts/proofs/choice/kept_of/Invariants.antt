@@ -6,4 +6,5 @@ use Rattle.desk_texts.proofs.choice.kept_of.Given as goal
 
 -- the terms that were read, of which some are kept
 abbrev pub invariant-loop-place : goal.invariant-loop-place
-invariant-loop-place l = (chosen : List Term) × AreTerms (take l.place l.words) chosen × AreKept l.own chosen l.kept
+invariant-loop-place l = (chosen : List Term) × AreTerms (take l.place l.words) chosen
+    × AreKept l.own chosen l.kept

@@ -9,5 +9,8 @@ other_case f told (inl is) = absurd (told is)
 other_case f told (inr p) = p
 
 pub returns-in_ok-fault_of-in-Err : goal.returns-in_ok-fault_of-in-Err
-returns-in_ok-fault_of-in-Err c =
-    (Err c.in-Err.fault, other_case c.in-Err.fault c.in_ok-fault_of-in-Err.ensures.told c.in-Err.ensures.err, ap Err c.in_ok-fault_of-in-Err.ensures.fault)
+returns-in_ok-fault_of-in-Err c = (
+  Err c.in-Err.fault,
+  other_case c.in-Err.fault c.in_ok-fault_of-in-Err.ensures.told c.in-Err.ensures.err,
+  ap Err c.in_ok-fault_of-in-Err.ensures.fault,
+)

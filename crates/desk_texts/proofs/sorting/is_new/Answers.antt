@@ -5,7 +5,10 @@ use Rattle.desk_texts.proofs.sorting.is_new.Goals as goal
 
 pub returns-else-place-len : goal.returns-else-place-len
 returns-else-place-len g c =
-    let within : c.args.place < length c.args.sorted.now.items = let le = c.requires in let ne = c.if-place-len.false in let len = c.len.ensures in omega (arith, le, ne, len) in
+    let within : c.args.place < length c.args.sorted.now.items = let le = c.requires in
+    let ne = c.if-place-len.false in let len = c.len.ensures in omega (arith, le, ne, len) in
     c.lt.ensures
-    ∙ (ap (text_below c.args.id.now) (c.id.ensures ∙ ap (λ p. g.P.Identified.id_of p.now) c.index.ensures)
-    ∙ sym (first_from (λ p. g.P.Identified.id_of p.now) c.args.id.now c.args.sorted.now.items c.args.place c.index.result.now within))
+    ∙ (ap (text_below c.args.id.now)
+    (c.id.ensures ∙ ap (λ p. g.P.Identified.id_of p.now) c.index.ensures)
+    ∙ sym (first_from (λ p. g.P.Identified.id_of p.now) c.args.id.now c.args.sorted.now.items
+    c.args.place c.index.result.now within))

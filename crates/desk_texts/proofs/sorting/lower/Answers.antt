@@ -8,7 +8,9 @@ loop-low-preserved-then-is_below g c =
     record {
       ordered = omega (arith, c.loop-low-test.true, c.loop-low.invariant.ordered);
       within = c.loop-low.invariant.within;
-      before = lent_up_to g.P.Identified.id_of c.args.sorted.now.items c.args.id.now m c.requires (omega (arith, c.loop-low-test.true, c.loop-low.invariant.within)) (λ d. sym (c.is_below.ensures d) ∙ c.if-is_below.true);
+      before = lent_up_to g.P.Identified.id_of c.args.sorted.now.items c.args.id.now m c.requires
+          (omega (arith, c.loop-low-test.true, c.loop-low.invariant.within))
+          (λ d. sym (c.is_below.ensures d) ∙ c.if-is_below.true);
       behind = c.loop-low.invariant.behind;
     }
 
@@ -19,5 +21,7 @@ loop-low-preserved g c =
       ordered = omega (arith, c.loop-low-test.true);
       within = omega (arith, c.loop-low-test.true, c.loop-low.invariant.within);
       before = c.loop-low.invariant.before;
-      behind = lent_from g.P.Identified.id_of c.args.sorted.now.items c.args.id.now m c.requires (omega (arith, c.loop-low-test.true, c.loop-low.invariant.within)) (λ d. sym (c.is_below.ensures d) ∙ c.if-is_below.false);
+      behind = lent_from g.P.Identified.id_of c.args.sorted.now.items c.args.id.now m c.requires
+          (omega (arith, c.loop-low-test.true, c.loop-low.invariant.within))
+          (λ d. sym (c.is_below.ensures d) ∙ c.if-is_below.false);
     }

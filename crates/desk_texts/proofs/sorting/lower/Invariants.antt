@@ -7,8 +7,10 @@ abbrev pub invariant-loop-low : goal.invariant-loop-low
 invariant-loop-low g l = record {
   ordered : l.low ≤ l.high;
   within : l.high ≤ length l.fn.sorted.items;
-  before : Each (λ x. text_below x l.fn.id ≡ true) (take l.low (map (λ p. g.P.Identified.id_of p.now) l.fn.sorted.items));
-  behind : Each (λ x. text_below x l.fn.id ≡ false) (drop l.high (map (λ p. g.P.Identified.id_of p.now) l.fn.sorted.items));
+  before : Each (λ x. text_below x l.fn.id ≡ true)
+      (take l.low (map (λ p. g.P.Identified.id_of p.now) l.fn.sorted.items));
+  behind : Each (λ x. text_below x l.fn.id ≡ false)
+      (drop l.high (map (λ p. g.P.Identified.id_of p.now) l.fn.sorted.items));
 }
 
 abbrev pub decreases-loop-low : goal.decreases-loop-low

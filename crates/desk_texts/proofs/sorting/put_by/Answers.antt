@@ -7,11 +7,14 @@ pub returns-then-is_new-clause-items : goal.returns-then-is_new-clause-items
 returns-then-is_new-clause-items g c =
     let id = g.P.Identified.id_of in
     let items = c.args.sorted.now.items in
-    let new = ap (λ t. is_below_first t (drop 0 (lent_ids id items))) (sym c.id-id.ensures) ∙ (sym c.is_new.ensures ∙ c.if-is_new.true) in
+    let new = ap (λ t. is_below_first t (drop 0 (lent_ids id items))) (sym c.id-id.ensures)
+    ∙ (sym c.is_new.ensures ∙ c.if-is_new.true) in
     ap (lent id) c.in_ok-push_front.ensures.items ∙ lent_first id c.args.part items new
 
 pub returns-then-is_new-clause-rises : goal.returns-then-is_new-clause-rises
-returns-then-is_new-clause-rises g c = lent_rises g.P.Identified.id_of c.args.part.now c.args.sorted.now.items c.push_front.new.self.items c.requires (returns-then-is_new-clause-items g c)
+returns-then-is_new-clause-rises g c = lent_rises g.P.Identified.id_of c.args.part.now
+    c.args.sorted.now.items c.push_front.new.self.items c.requires
+    (returns-then-is_new-clause-items g c)
 
 pub returns-in_ok-insert-clause-items : goal.returns-in_ok-insert-clause-items
 returns-in_ok-insert-clause-items g c =
@@ -19,11 +22,14 @@ returns-in_ok-insert-clause-items g c =
     let n = c.lower-place.result in
     let items = c.args.sorted.now.items in
     let at = subst (λ t. IsLower (lent_ids id items) t n) c.id-id.ensures c.lower-place.ensures in
-    let new = ap (λ t. is_below_first t (drop n (lent_ids id items))) (sym c.id-id.ensures) ∙ (sym c.is_new-2.ensures ∙ c.if-is_new-2.true) in
+    let new = ap (λ t. is_below_first t (drop n (lent_ids id items))) (sym c.id-id.ensures)
+    ∙ (sym c.is_new-2.ensures ∙ c.if-is_new-2.true) in
     ap (lent id) c.in_ok-insert.ensures.items ∙ lent_new id c.args.part items n at new
 
 pub returns-in_ok-insert-clause-rises : goal.returns-in_ok-insert-clause-rises
-returns-in_ok-insert-clause-rises g c = lent_rises g.P.Identified.id_of c.args.part.now c.args.sorted.now.items c.insert.new.self.items c.requires (returns-in_ok-insert-clause-items g c)
+returns-in_ok-insert-clause-rises g c = lent_rises g.P.Identified.id_of c.args.part.now
+    c.args.sorted.now.items c.insert.new.self.items c.requires
+    (returns-in_ok-insert-clause-items g c)
 
 pub returns-else-is_new-2-clause-items : goal.returns-else-is_new-2-clause-items
 returns-else-is_new-2-clause-items g c =
@@ -31,5 +37,6 @@ returns-else-is_new-2-clause-items g c =
     let n = c.lower-place.result in
     let items = c.args.sorted.now.items in
     let at = subst (λ t. IsLower (lent_ids id items) t n) c.id-id.ensures c.lower-place.ensures in
-    let old = ap (λ t. is_below_first t (drop n (lent_ids id items))) (sym c.id-id.ensures) ∙ (sym c.is_new-2.ensures ∙ c.if-is_new-2.false) in
+    let old = ap (λ t. is_below_first t (drop n (lent_ids id items))) (sym c.id-id.ensures)
+    ∙ (sym c.is_new-2.ensures ∙ c.if-is_new-2.false) in
     lent_old id c.args.part items n at old

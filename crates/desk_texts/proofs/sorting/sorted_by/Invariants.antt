@@ -6,7 +6,8 @@ use Rattle.desk_texts.proofs.sorting.sorted_by.Given as goal
 
 abbrev pub invariant-loop-part : goal.invariant-loop-part
 invariant-loop-part g l = record {
-  put : put_all_by g.P.Identified.id_of l.rest (map (λ p. p.now) l.sorted.items) ≡ sorted_by g.P.Identified.id_of l.fn.parts;
+  put : put_all_by g.P.Identified.id_of l.rest (map (λ p. p.now) l.sorted.items)
+      ≡ sorted_by g.P.Identified.id_of l.fn.parts;
   rises : Rises (map (λ p. g.P.Identified.id_of p.now) l.sorted.items);
 }
 

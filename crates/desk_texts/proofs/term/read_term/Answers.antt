@@ -2,4 +2,5 @@ use Rattle.desk_texts.proofs.Faults.{not_memory}
 use Rattle.desk_texts.proofs.term.read_term.Goals as goal
 
 pub returns-in_ok-told-in-Err : goal.returns-in_ok-told-in-Err
-returns-in_ok-told-in-Err c = not_memory c.in-Err.fault c.in_ok-told-in-Err.ensures.text c.in-Err.ensures.complete
+returns-in_ok-told-in-Err c = not_memory c.in-Err.fault c.in_ok-told-in-Err.ensures.text
+    c.in-Err.ensures.complete

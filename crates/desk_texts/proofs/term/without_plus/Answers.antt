@@ -3,4 +3,5 @@ use Rattle.desk_texts.proofs.Terms.{plus_off}
 use Rattle.desk_texts.proofs.term.without_plus.Goals as goal
 
 pub returns : goal.returns
-returns c = ap (λ id. id.now) c.unwrap_or.ensures ∙ plus_off c.args.word c.strip_suffix.result c.strip_suffix.ensures.cases
+returns c = ap (λ id. id.now) c.unwrap_or.ensures
+    ∙ plus_off c.args.word c.strip_suffix.result c.strip_suffix.ensures.cases

@@ -8,4 +8,5 @@ use Rattle.desk_base.proofs.Results.{onto}
 -- the annotations so far, and those of the rest, are those of all
 abbrev pub invariant-loop-i : goal.invariant-loop-i
 invariant-loop-i l = (r : Reading) → IsRight r
-    → onto l.list.items (each (annotation_at r) l.i (items_view (drop l.i l.values))) ≡ each (annotation_at r) 0 (items_view l.values)
+    → onto l.list.items (each (annotation_at r) l.i (items_view (drop l.i l.values)))
+    ≡ each (annotation_at r) 0 (items_view l.values)

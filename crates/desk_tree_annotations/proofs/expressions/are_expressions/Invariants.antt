@@ -5,4 +5,6 @@ use Rattle.desk_tree_annotations.proofs.expressions.are_expressions.Given as goa
 use Rattle.desk_base.specs.Borrowed.{texts}
 
 abbrev pub invariant-loop-text : goal.invariant-loop-text
-invariant-loop-text l = (r : Reading) → IsRight r → list_all r.is_expression (texts (drop l.text-index l.listed)) ≡ list_all r.is_expression (texts l.listed)
+invariant-loop-text l = (r : Reading) → IsRight r
+    → list_all r.is_expression (texts (drop l.text-index l.listed))
+    ≡ list_all r.is_expression (texts l.listed)

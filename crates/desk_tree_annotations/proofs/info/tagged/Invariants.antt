@@ -7,7 +7,8 @@ use Rattle.desk_tree_annotations.proofs.info.tagged.Given as goal
 
 abbrev pub invariant-loop-ahead : goal.invariant-loop-ahead
 invariant-loop-ahead l = record {
-  completes : Completes l.file l.line l.rest l.noticed (map tag_text l.notices.items) l.licensed (map tag_text l.licences.items);
+  completes : Completes l.file l.line l.rest l.noticed (map tag_text l.notices.items) l.licensed
+      (map tag_text l.licences.items);
   room : l.line + length l.rest < 2 ^ 64;
   clear : IsClear (codes "SPDX-") l.clear l.rest;
   within : 0 < l.clear → l.clear < length l.rest;

@@ -7,4 +7,5 @@ pub returns-clause-same : goal.returns-clause-same
 returns-clause-same c = same_reading
 
 pub returns-clause-answer : goal.returns-clause-answer
-returns-clause-answer c = λ r s right other text. ap (λ x. annotations_of x text) (same_reading r s right other)
+returns-clause-answer c = λ r s right other text. ap (λ x. annotations_of x text)
+    (same_reading r s right other)

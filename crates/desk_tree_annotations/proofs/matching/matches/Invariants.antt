@@ -5,7 +5,10 @@ use Rattle.desk_tree_annotations.proofs.Falls.{Within, work}
 use Rattle.desk_tree_annotations.proofs.matching.matches.Given as goal
 
 abbrev pub invariant-loop-search : goal.invariant-loop-search
-invariant-loop-search l = record { holds : Holds l.fn.pieces l.fn.path (state l.search); within : Within (length l.fn.pieces) (length l.fn.path) (state l.search) }
+invariant-loop-search l = record {
+  holds : Holds l.fn.pieces l.fn.path (state l.search);
+  within : Within (length l.fn.pieces) (length l.fn.path) (state l.search);
+}
 
 abbrev pub decreases-loop-search : goal.decreases-loop-search
 decreases-loop-search l = work (length l.fn.pieces) (length l.fn.path) (state l.search)

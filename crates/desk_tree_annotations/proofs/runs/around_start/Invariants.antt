@@ -6,7 +6,11 @@ use Rattle.desk_tree_annotations.proofs.runs.around_start.Given as goal
 
 -- neither the line ends nor a start begins in what is seen
 abbrev pub invariant-loop-more : goal.invariant-loop-more
-invariant-loop-more l = record { within : l.seen ≤ length l.bytes; no_feed : HasNoFeed l.bytes l.seen; clear : IsClear start l.seen l.bytes }
+invariant-loop-more l = record {
+  within : l.seen ≤ length l.bytes;
+  no_feed : HasNoFeed l.bytes l.seen;
+  clear : IsClear start l.seen l.bytes;
+}
 
 abbrev pub decreases-loop-more : goal.decreases-loop-more
 decreases-loop-more l = length l.bytes - l.seen

@@ -5,8 +5,12 @@ use Rattle.desk_tree_annotations.proofs.runs.behind.Goals as goal
 
 pub returns-clause-none : goal.returns-clause-none
 returns-clause-none c =
-    behind_none c.args.bytes.now c.args.front.now c.strip_prefix.result (strip_prefix_is Decides-eqb c.args.bytes.now c.args.front.now c.strip_prefix.result c.strip_prefix.ensures.cases)
+    behind_none c.args.bytes.now c.args.front.now c.strip_prefix.result
+    (strip_prefix_is Decides-eqb c.args.bytes.now c.args.front.now c.strip_prefix.result
+    c.strip_prefix.ensures.cases)
 
 pub returns-clause-some : goal.returns-clause-some
 returns-clause-some c =
-    behind_some c.args.bytes.now c.args.front.now c.strip_prefix.result (strip_prefix_is Decides-eqb c.args.bytes.now c.args.front.now c.strip_prefix.result c.strip_prefix.ensures.cases)
+    behind_some c.args.bytes.now c.args.front.now c.strip_prefix.result
+    (strip_prefix_is Decides-eqb c.args.bytes.now c.args.front.now c.strip_prefix.result
+    c.strip_prefix.ensures.cases)

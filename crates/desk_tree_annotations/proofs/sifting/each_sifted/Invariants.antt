@@ -9,7 +9,9 @@ use Rattle.desk_tree_annotations.proofs.sifting.each_sifted.Given as goal
 abbrev pub invariant-loop-i : goal.invariant-loop-i
 invariant-loop-i l = record {
   annotations : (r : Reading) → IsRight r
-      → l.sifted.annotations ++ each_good (annotation_at r) l.i (items_view (drop l.i l.values)) ≡ each_good (annotation_at r) 0 (items_view l.values);
+      → l.sifted.annotations ++ each_good (annotation_at r) l.i (items_view (drop l.i l.values))
+      ≡ each_good (annotation_at r) 0 (items_view l.values);
   faults : (r : Reading) → IsRight r
-      → l.sifted.faults ++ each_bad (annotation_at r) l.i (items_view (drop l.i l.values)) ≡ each_bad (annotation_at r) 0 (items_view l.values);
+      → l.sifted.faults ++ each_bad (annotation_at r) l.i (items_view (drop l.i l.values))
+      ≡ each_bad (annotation_at r) 0 (items_view l.values);
 }

@@ -4,4 +4,5 @@ use Rattle.desk_tree_annotations.proofs.SkipLemmas.{before_lacks}
 use Rattle.desk_tree_annotations.proofs.skipping.before_start.Goals as goal
 
 pub returns-in-Some-clause-quiet : goal.returns-in-Some-clause-quiet
-returns-in-Some-clause-quiet c = before_lacks start c.in-Some.before.now (omega arith) c.in-Some.ensures.first
+returns-in-Some-clause-quiet c = before_lacks start c.in-Some.before.now (omega arith)
+    c.in-Some.ensures.first

@@ -14,12 +14,17 @@ all_ascii : (bs : List ℕ) → list_all (λ b. nat_lt b 128) bs ≡ true → Is
 all_ascii [] is = IsAscii-nil
 all_ascii (b ∷ bs) is =
     elim (cases_Bool (nat_lt b 128)) [
-      | inl low ↦ IsAscii-cons b bs (ltb-true b 128 low) (all_ascii bs (sym (ap (λ t. t && list_all (λ x. nat_lt x 128) bs) low) ∙ is))
-      | inr high ↦ absurd (false≢true (sym (ap (λ t. t && list_all (λ x. nat_lt x 128) bs) high) ∙ is))
+      | inl low ↦ IsAscii-cons b bs (ltb-true b 128 low)
+          (all_ascii bs (sym (ap (λ t. t && list_all (λ x. nat_lt x 128) bs) low) ∙ is))
+      | inr high ↦ absurd (false≢true
+          (sym (ap (λ t. t && list_all (λ x. nat_lt x 128) bs) high) ∙ is))
     ]
 
 code_is_text : (digests : List (List ℕ)) (code : List ℕ) → IsCode digests code → IsUtf8 code
-code_is_text digests code is = subst IsUtf8 (sym is.is) (IsUtf8-from_ascii _ (IsAscii-encode_with lower_digits _ (all_ascii lower_digits refl)))
+code_is_text digests code is = subst IsUtf8 (sym is.is)
+    (IsUtf8-from_ascii _ (IsAscii-encode_with lower_digits _ (all_ascii lower_digits refl)))
 
 pub unreachable-requires : goal.unreachable-requires
-unreachable-requires c = c.in-Err.ensures.cases.0 (subst IsUtf8 (sym c.as_slice-2.ensures) (code_is_text _ c.in_ok-code.code c.in_ok-code.ensures))
+unreachable-requires c = c.in-Err.ensures.cases.0
+    (subst IsUtf8 (sym c.as_slice-2.ensures)
+    (code_is_text _ c.in_ok-code.code c.in_ok-code.ensures))

@@ -7,15 +7,22 @@ use Rattle.desk_base.proofs.Results.{onto}
 
 pub returns-in-Err : goal.returns-in-Err
 returns-in-Err c = λ r right.
-    let within : c.loop-place.place < length c.args.told.now = omega (arith, c.len-place-end.ensures) in
+    let within : c.loop-place.place < length c.args.told.now =
+    omega (arith, c.len-place-end.ensures) in
     sym (c.loop-place.invariant r right)
-    ∙ onto-fault r c.loop-place.files.items c.args.told.now c.loop-place.place c.in_ok-one.one within c.in-Err.fault
-    (ap (file_told r) (get_or_from_slice_get c.args.told.now c.loop-place.place c.in_ok-one.one c.in_ok-one.one c.in_ok-one.ensures) ∙ sym (c.in_ok-file.ensures r right) ∙ c.in-Err.is)
+    ∙ onto-fault r c.loop-place.files.items c.args.told.now c.loop-place.place c.in_ok-one.one
+    within c.in-Err.fault
+    (ap (file_told r) (get_or_from_slice_get c.args.told.now c.loop-place.place c.in_ok-one.one
+    c.in_ok-one.one c.in_ok-one.ensures) ∙ sym (c.in_ok-file.ensures r right) ∙ c.in-Err.is)
 
 pub loop-place-preserved : goal.loop-place-preserved
 loop-place-preserved c = λ r right.
-    let within : c.loop-place.place < length c.args.told.now = omega (arith, c.len-place-end.ensures) in
-    ap (λ done. onto done (files_told r (drop (c.loop-place.place + 1) c.args.told.now))) c.in_ok-push-in-Ok.ensures.items
-    ∙ sym (onto-file r c.loop-place.files.items c.args.told.now c.loop-place.place c.in_ok-one.one within c.in-Ok.file
-    (ap (file_told r) (get_or_from_slice_get c.args.told.now c.loop-place.place c.in_ok-one.one c.in_ok-one.one c.in_ok-one.ensures) ∙ sym (c.in_ok-file.ensures r right) ∙ c.in-Ok.is))
+    let within : c.loop-place.place < length c.args.told.now =
+    omega (arith, c.len-place-end.ensures) in
+    ap (λ done. onto done (files_told r (drop (c.loop-place.place + 1) c.args.told.now)))
+    c.in_ok-push-in-Ok.ensures.items
+    ∙ sym (onto-file r c.loop-place.files.items c.args.told.now c.loop-place.place c.in_ok-one.one
+    within c.in-Ok.file
+    (ap (file_told r) (get_or_from_slice_get c.args.told.now c.loop-place.place c.in_ok-one.one
+    c.in_ok-one.one c.in_ok-one.ensures) ∙ sym (c.in_ok-file.ensures r right) ∙ c.in-Ok.is))
     ∙ c.loop-place.invariant r right

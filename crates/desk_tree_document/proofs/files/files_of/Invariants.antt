@@ -6,4 +6,5 @@ use Rattle.desk_base.proofs.Results.{onto}
 
 -- the files so far, and those of the rest, are those of all
 abbrev pub invariant-loop-place : goal.invariant-loop-place
-invariant-loop-place l = (r : Reader) → IsRightReader r → onto l.files.items (files_told r (drop l.place l.told)) ≡ files_told r l.told
+invariant-loop-place l = (r : Reader) → IsRightReader r
+    → onto l.files.items (files_told r (drop l.place l.told)) ≡ files_told r l.told

@@ -4,4 +4,6 @@ use Rattle.desk_tree_gather.specs.Sharing.{OutlineText, outline_in}
 use Rattle.desk_tree_document.proofs.files.is_bare.Given as goal
 
 abbrev pub invariant-loop-file : goal.invariant-loop-file
-invariant-loop-file l = list_any (λ (o : OutlineText). o.no_licence) (map outline_in (drop l.file-index l.outlines)) ≡ list_any (λ (o : OutlineText). o.no_licence) (map outline_in l.outlines)
+invariant-loop-file l = list_any (λ (o : OutlineText). o.no_licence)
+    (map outline_in (drop l.file-index l.outlines))
+    ≡ list_any (λ (o : OutlineText). o.no_licence) (map outline_in l.outlines)

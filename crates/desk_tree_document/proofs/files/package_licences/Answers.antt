@@ -16,7 +16,8 @@ pub returns-then-is_bare : goal.returns-then-is_bare
 returns-then-is_bare c =
     let known : c.is_bare.result ≡ list_any is_bare c.args.infos.now =
     c.is_bare.ensures
-    ∙ ap (λ os. list_any (λ (o : OutlineText). o.no_licence) (map outline_in os)) c.as_slice.ensures.value
+    ∙ ap (λ os. list_any (λ (o : OutlineText). o.no_licence) (map outline_in os))
+    c.as_slice.ensures.value
     ∙ ap (list_any (λ (o : OutlineText). o.no_licence)) c.in_ok-outlines.ensures
     ∙ bare-outlined c.args.infos.now in
     c.new.ensures ∙ ap (by_bare c.args.infos.now) (sym c.if-is_bare.true ∙ known)
@@ -25,7 +26,9 @@ pub returns : goal.returns
 returns c =
     let known : c.is_bare.result ≡ list_any is_bare c.args.infos.now =
     c.is_bare.ensures
-    ∙ ap (λ os. list_any (λ (o : OutlineText). o.no_licence) (map outline_in os)) c.as_slice.ensures.value
+    ∙ ap (λ os. list_any (λ (o : OutlineText). o.no_licence) (map outline_in os))
+    c.as_slice.ensures.value
     ∙ ap (list_any (λ (o : OutlineText). o.no_licence)) c.in_ok-outlines.ensures
     ∙ bare-outlined c.args.infos.now in
-    subst (λ l. IfOk c.distinct.result (λ t. t ≡ l)) (ap (by_bare c.args.infos.now) (sym c.if-is_bare.false ∙ known)) c.distinct.ensures
+    subst (λ l. IfOk c.distinct.result (λ t. t ≡ l))
+    (ap (by_bare c.args.infos.now) (sym c.if-is_bare.false ∙ known)) c.distinct.ensures

@@ -8,10 +8,12 @@ use Rattle.desk_tree_document.proofs.texts.expression_read.Goals as goal
 pub returns-then-told : goal.returns-then-told
 returns-then-told c = λ r right.
     ap (λ b. cond b (Ok (expression_of c.args.licences.now)) (Err ExpressionTooLong))
-    (ap r.is_expression (sym c.in_ok-text.ensures ∙ sym c.as_str.ensures) ∙ same_test r right _ c.in_ok-told.told c.in_ok-told.ensures ∙ c.if-told.true)
+    (ap r.is_expression (sym c.in_ok-text.ensures ∙ sym c.as_str.ensures)
+    ∙ same_test r right _ c.in_ok-told.told c.in_ok-told.ensures ∙ c.if-told.true)
     ∙ ap Ok (sym c.in_ok-text.ensures)
 
 pub returns-else-told : goal.returns-else-told
 returns-else-told c = λ r right.
     ap (λ b. cond b (Ok (expression_of c.args.licences.now)) (Err ExpressionTooLong))
-    (ap r.is_expression (sym c.in_ok-text.ensures ∙ sym c.as_str.ensures) ∙ same_test r right _ c.in_ok-told.told c.in_ok-told.ensures ∙ c.if-told.false)
+    (ap r.is_expression (sym c.in_ok-text.ensures ∙ sym c.as_str.ensures)
+    ∙ same_test r right _ c.in_ok-told.told c.in_ok-told.ensures ∙ c.if-told.false)

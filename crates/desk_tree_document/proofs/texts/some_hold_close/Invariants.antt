@@ -4,4 +4,5 @@ use Rattle.desk_tree_document.specs.Texts.{holds_close}
 use Rattle.desk_tree_document.proofs.texts.some_hold_close.Given as goal
 
 abbrev pub invariant-loop-notice : goal.invariant-loop-notice
-invariant-loop-notice l = list_any holds_close (drop l.notice-index l.notices) ≡ list_any holds_close l.notices
+invariant-loop-notice l = list_any holds_close (drop l.notice-index l.notices)
+    ≡ list_any holds_close l.notices

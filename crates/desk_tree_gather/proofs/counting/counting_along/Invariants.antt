@@ -10,6 +10,7 @@ abbrev pub invariant-loop-numbers : goal.invariant-loop-numbers
 invariant-loop-numbers l = record {
   utf8 : IsUtf8 l.rest;
   so_far : (r : Reader) → IsRightReader r
-      → annotations_at l.all l.list.items ++ along r (map (annotations_at l.all) (lists_of (drop l.numbers-index l.lists))) l.rest
+      → annotations_at l.all l.list.items
+      ++ along r (map (annotations_at l.all) (lists_of (drop l.numbers-index l.lists))) l.rest
       ≡ along r (map (annotations_at l.all) (lists_of l.lists)) l.path;
 }

@@ -5,4 +5,6 @@ use Rattle.desk_tree_gather.specs.Information.{covers}
 use Rattle.desk_tree_gather.proofs.counting.covers.Given as goal
 
 abbrev pub invariant-loop-glob : goal.invariant-loop-glob
-invariant-loop-glob l = (r : Reader) → IsRightReader r → list_any (λ pieces. r.matches pieces l.path) (drop l.glob-index l.glob-items) ≡ covers r l.annotation l.path
+invariant-loop-glob l = (r : Reader) → IsRightReader r
+    → list_any (λ pieces. r.matches pieces l.path) (drop l.glob-index l.glob-items)
+    ≡ covers r l.annotation l.path

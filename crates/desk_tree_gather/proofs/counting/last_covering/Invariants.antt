@@ -9,4 +9,6 @@ use Rattle.desk_tree_gather.proofs.counting.last_covering.Given as goal
 -- the last of the rest, or the last so far
 abbrev pub invariant-loop-number : goal.invariant-loop-number
 invariant-loop-number l = (r : Reader) → IsRightReader r
-    → or_else (last_covering r l.path (annotations_at l.all (drop l.number-index l.numbers))) (option_and_then (slice_get l.all) l.last) ≡ last_covering r l.path (annotations_at l.all l.numbers)
+    → or_else (last_covering r l.path (annotations_at l.all (drop l.number-index l.numbers)))
+    (option_and_then (slice_get l.all) l.last)
+    ≡ last_covering r l.path (annotations_at l.all l.numbers)

@@ -13,9 +13,14 @@ loop-file-preserved c =
     let are = c.sources.ensures ∙ ap (sources_in of) c.file-item.is in
     record {
       knows = c.in_ok-texts.ensures.knows;
-      seen = seen_more all of files i _ c.loop-file-test.true c.loop-file.seen.texts c.unseen.new.seen.texts c.sources.result.now are c.loop-file.invariant.seen c.in_ok-texts.ensures.seen;
+      seen = seen_more all of files i _ c.loop-file-test.true c.loop-file.seen.texts
+          c.unseen.new.seen.texts c.sources.result.now are c.loop-file.invariant.seen
+          c.in_ok-texts.ensures.seen;
       so_far =
-          firsts_more all of files i _ c.loop-file-test.true c.loop-file.firsts.items c.push.new.self.items _ c.loop-file.seen.texts c.sources.result.now c.in_ok-push.ensures.items
-          (c.as_str-path.ensures ∙ ap (λ (f : Covered). f.path) c.file-item.is) are c.loop-file.invariant.seen c.in_ok-texts.ensures.unseen
+          firsts_more all of files i _ c.loop-file-test.true c.loop-file.firsts.items
+          c.push.new.self.items _ c.loop-file.seen.texts c.sources.result.now
+          c.in_ok-push.ensures.items
+          (c.as_str-path.ensures ∙ ap (λ (f : Covered). f.path) c.file-item.is) are
+          c.loop-file.invariant.seen c.in_ok-texts.ensures.unseen
           ∙ c.loop-file.invariant.so_far;
     }

@@ -9,7 +9,10 @@ use Rattle.desk_tree_gather.proofs.firsts.firsts_of.Given as goal
 abbrev pub invariant-loop-file : goal.invariant-loop-file
 invariant-loop-file l = record {
   knows : Knows l.all l.of l.seen;
-  seen : (t : List ℕ) → has_text l.seen.texts t ≡ is_among (flat_map (texts_in l.of) (infos_at l.all (take l.file-index l.files))) t;
-  so_far : map first_in l.firsts.items ++ firsts_behind l.of (flat_map (texts_in l.of) (infos_at l.all (take l.file-index l.files))) (infos_at l.all (drop l.file-index l.files))
+  seen : (t : List ℕ) → has_text l.seen.texts t
+      ≡ is_among (flat_map (texts_in l.of) (infos_at l.all (take l.file-index l.files))) t;
+  so_far : map first_in l.firsts.items
+      ++ firsts_behind l.of (flat_map (texts_in l.of) (infos_at l.all (take l.file-index l.files)))
+      (infos_at l.all (drop l.file-index l.files))
       ≡ firsts_of l.of (infos_at l.all l.files);
 }

@@ -6,5 +6,6 @@ use Rattle.desk_tree_gather.proofs.firsts.unseen.Given as goal
 abbrev pub invariant-loop-number : goal.invariant-loop-number
 invariant-loop-number l = record {
   knows : Knows l.all l.of l.seen;
-  adds : AddsUnseen (texts_at l.all l.of (take l.number-index l.number-items)) l.initial.seen.texts l.seen.texts [] l.list.items;
+  adds : AddsUnseen (texts_at l.all l.of (take l.number-index l.number-items)) l.initial.seen.texts
+      l.seen.texts [] l.list.items;
 }

@@ -6,5 +6,6 @@ use Rattle.desk_tree_gather.proofs.folders.add.Given as goal
 abbrev pub invariant-loop-annotation : goal.invariant-loop-annotation
 invariant-loop-annotation l = record {
   all : l.all.items ≡ l.initial.all.items ++ l.yielded;
-  numbers : (more : List Annotation) → annotations_at (l.all.items ++ more) l.numbers.items ≡ l.yielded;
+  numbers : (more : List Annotation)
+      → annotations_at (l.all.items ++ more) l.numbers.items ≡ l.yielded;
 }

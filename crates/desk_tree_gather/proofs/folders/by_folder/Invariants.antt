@@ -6,11 +6,13 @@ use Rattle.desk_tree_gather.specs.Shown.{tomls_in}
 use Rattle.desk_tree_gather.proofs.FolderLemmas.{annotations_or}
 use Rattle.desk_tree_gather.proofs.folders.by_folder.Given as goal
 
--- the files that are left, before those that are kept, are all; this stays true whatever annotations come
--- after them
+-- the files that are left, before those that are kept, are all; this stays true whatever
+-- annotations come after them
 abbrev pub invariant-loop-toml : goal.invariant-loop-toml
 invariant-loop-toml l = (more : List Annotation) (folder : List ℕ)
-    → annotations_or (tomls_in l.tomls.items) folder (annotations_at (l.all.items ++ more) (numbers_for l.numbers folder)) ≡ annotations_or (tomls_in l.fn.tomls.items) folder []
+    → annotations_or (tomls_in l.tomls.items) folder
+    (annotations_at (l.all.items ++ more) (numbers_for l.numbers folder))
+    ≡ annotations_or (tomls_in l.fn.tomls.items) folder []
 
 abbrev pub decreases-loop-toml : goal.decreases-loop-toml
 decreases-loop-toml l = vec_len l.tomls

@@ -8,6 +8,7 @@ use Rattle.desk_tree_gather.proofs.gathering.bad_line.Given as goal
 
 abbrev pub invariant-loop-tag : goal.invariant-loop-tag
 invariant-loop-tag l = record {
-  line : (r : Reader) → IsRightReader r → bad_line r (map tag_text (drop l.tag-index l.tags)) ≡ bad_line r (map tag_text l.tags);
+  line : (r : Reader) → IsRightReader r
+      → bad_line r (map tag_text (drop l.tag-index l.tags)) ≡ bad_line r (map tag_text l.tags);
   known : IfSome l.known (λ text. Tells text.now true);
 }

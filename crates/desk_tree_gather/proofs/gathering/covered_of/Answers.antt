@@ -13,7 +13,9 @@ use Rattle.desk_tree_gather.proofs.gathering.covered_of.Goals as goal
 
 pub returns : goal.returns
 returns c = λ r right tomls holds.
-    subst (λ (f : Folders). IfOk c.each_info.result (Gives (each is_covered (info_of r tomls (tree_in c.args.known.now.tree)) (files_of c.args.files.now))
+    subst (λ (f : Folders). IfOk c.each_info.result
+    (Gives (each is_covered (info_of r tomls (tree_in c.args.known.now.tree))
+    (files_of c.args.files.now))
     (λ (v : Vec Covered Global). infos_at f.all.items v.items)))
     c.in_ok-trail.ensures
     (c.each_info.ensures r right tomls (subst (Holds tomls) (sym c.in_ok-trail.ensures) holds))

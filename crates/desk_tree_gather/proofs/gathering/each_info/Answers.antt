@@ -18,10 +18,13 @@ returns-in-Err c = λ r right tomls holds.
     let was = c.args.trail.now.folders.now in
     let read = info_of r tomls (tree_in c.args.tree.now) in
     sym (c.loop-file.invariant.infos r right tomls holds)
-    ∙ onto-fault is_covered read (infos_at was.all.items c.loop-file.infos.items) c.args.files.now c.loop-file.file-index _ c.loop-file-test.true c.in-Err.fault
+    ∙ onto-fault is_covered read (infos_at was.all.items c.loop-file.infos.items) c.args.files.now
+    c.loop-file.file-index _ c.loop-file-test.true c.in-Err.fault
     (sym c.is_covered.ensures ∙ c.if-not-is_covered.false)
-    (gives_fault _ (λ (f : Folders). info_at f.all.items) was c.loop-file.trail.folders.now c.loop-file.invariant.same _
-    (c.in_ok-info.ensures.info r right tomls (subst (Holds tomls) (sym c.loop-file.invariant.same) holds)) c.in-Err.fault c.in-Err.is)
+    (gives_fault _ (λ (f : Folders). info_at f.all.items) was c.loop-file.trail.folders.now
+    c.loop-file.invariant.same _
+    (c.in_ok-info.ensures.info r right tomls
+    (subst (Holds tomls) (sym c.loop-file.invariant.same) holds)) c.in-Err.fault c.in-Err.is)
 
 pub loop-file-preserved : goal.loop-file-preserved
 loop-file-preserved c = record {
@@ -30,12 +33,17 @@ loop-file-preserved c = record {
       let was = c.args.trail.now.folders.now in
       let all = was.all.items in
       let read = info_of r tomls (tree_in c.args.tree.now) in
-      ap (λ done. onto done (each is_covered read (files_of (drop (c.loop-file.file-index + 1) c.args.files.now))))
-      (ap (infos_at all) c.in_ok-push-in-Ok.ensures.items ∙ map-append (info_at all) c.loop-file.infos.items (c.in-Ok.info ∷ []))
-      ∙ sym (onto-item is_covered read (infos_at all c.loop-file.infos.items) c.args.files.now c.loop-file.file-index _ c.loop-file-test.true (info_at all c.in-Ok.info)
+      ap (λ done. onto done (each is_covered read
+      (files_of (drop (c.loop-file.file-index + 1) c.args.files.now))))
+      (ap (infos_at all) c.in_ok-push-in-Ok.ensures.items
+      ∙ map-append (info_at all) c.loop-file.infos.items (c.in-Ok.info ∷ []))
+      ∙ sym (onto-item is_covered read (infos_at all c.loop-file.infos.items) c.args.files.now
+      c.loop-file.file-index _ c.loop-file-test.true (info_at all c.in-Ok.info)
       (sym c.is_covered.ensures ∙ c.if-not-is_covered.false)
-      (gives_at _ (λ (f : Folders). info_at f.all.items) was c.loop-file.trail.folders.now c.loop-file.invariant.same _
-      (c.in_ok-info.ensures.info r right tomls (subst (Holds tomls) (sym c.loop-file.invariant.same) holds)) c.in-Ok.info c.in-Ok.is))
+      (gives_at _ (λ (f : Folders). info_at f.all.items) was c.loop-file.trail.folders.now
+      c.loop-file.invariant.same _
+      (c.in_ok-info.ensures.info r right tomls
+      (subst (Holds tomls) (sym c.loop-file.invariant.same) holds)) c.in-Ok.info c.in-Ok.is))
       ∙ c.loop-file.invariant.infos r right tomls holds;
 }
 
@@ -43,5 +51,6 @@ pub returns : goal.returns
 returns c = λ r right tomls holds.
     let done = infos_at c.args.trail.now.folders.now.all.items c.loop-file.infos.items in
     sym (c.loop-file.invariant.infos r right tomls holds)
-    ∙ ap (λ left. onto done (each is_covered (info_of r tomls (tree_in c.args.tree.now)) (files_of left))) (drop_all c.loop-file.file-index c.args.files.now c.loop-file-test.false)
+    ∙ ap (λ left. onto done (each is_covered (info_of r tomls (tree_in c.args.tree.now))
+    (files_of left))) (drop_all c.loop-file.file-index c.args.files.now c.loop-file-test.false)
     ∙ ap Ok (append-nil done)

@@ -11,11 +11,15 @@ use Rattle.desk_tree_gather.proofs.gathering.infos_of.Goals as goal
 
 pub returns-in-Err : goal.returns-in-Err
 returns-in-Err c = λ r right tomls holds.
-    subst (Gives (each is_covered (info_of r tomls (tree_in c.args.known.tree)) (files_of c.args.files.now)) (λ (v : Vec Covered Global). infos_at c.args.known.folders.all.items v.items)) c.in-Err.is
+    subst (Gives (each is_covered (info_of r tomls (tree_in c.args.known.tree))
+    (files_of c.args.files.now)) (λ (v : Vec Covered Global). infos_at
+    c.args.known.folders.all.items v.items)) c.in-Err.is
     (c.in_ok-covered.ensures r right tomls holds)
 
 pub returns : goal.returns
 returns c = λ r right tomls holds.
-    subst (Gives (each is_covered (info_of r tomls (tree_in c.args.known.tree)) (files_of c.args.files.now)) (λ (v : Vec Covered Global). infos_at c.args.known.folders.all.items v.items)) c.in-Ok.is
+    subst (Gives (each is_covered (info_of r tomls (tree_in c.args.known.tree))
+    (files_of c.args.files.now)) (λ (v : Vec Covered Global). infos_at
+    c.args.known.folders.all.items v.items)) c.in-Ok.is
     (c.in_ok-covered.ensures r right tomls holds)
     ∙ ap Ok (sym c.of.ensures)

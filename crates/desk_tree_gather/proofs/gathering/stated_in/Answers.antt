@@ -10,13 +10,17 @@ use Rattle.desk_tree_gather.proofs.gathering.stated_in.Goals as goal
 
 pub returns-in-Some : goal.returns-in-Some
 returns-in-Some c = λ r right.
-    stated_along r (record { path = c.args.path.now; bytes = c.args.bytes.now }) (stated_of c.in_ok-info.info) (Some c.in-Some.line)
+    stated_along r (record { path = c.args.path.now; bytes = c.args.bytes.now })
+    (stated_of c.in_ok-info.info) (Some c.in-Some.line)
     (same_stated r right c.args.bytes.now (stated_of c.in_ok-info.info) c.in_ok-info.ensures)
-    (sym c.in-Some.is ∙ c.in_ok-line.ensures r right ∙ ap (λ l. bad_line r (map tag_text l)) c.as_slice.ensures.value)
+    (sym c.in-Some.is ∙ c.in_ok-line.ensures r right
+    ∙ ap (λ l. bad_line r (map tag_text l)) c.as_slice.ensures.value)
     ∙ ap (λ p. Err (BadExpression p c.in-Some.line)) (sym c.in_ok-of-in-Some.ensures)
 
 pub returns : goal.returns
 returns c = λ r right.
-    stated_along r (record { path = c.args.path.now; bytes = c.args.bytes.now }) (stated_of c.in_ok-info.info) None
+    stated_along r (record { path = c.args.path.now; bytes = c.args.bytes.now })
+    (stated_of c.in_ok-info.info) None
     (same_stated r right c.args.bytes.now (stated_of c.in_ok-info.info) c.in_ok-info.ensures)
-    (sym c.in-None.is ∙ c.in_ok-line.ensures r right ∙ ap (λ l. bad_line r (map tag_text l)) c.as_slice.ensures.value)
+    (sym c.in-None.is ∙ c.in_ok-line.ensures r right
+    ∙ ap (λ l. bad_line r (map tag_text l)) c.as_slice.ensures.value)

@@ -8,5 +8,7 @@ use Rattle.desk_tree_gather.proofs.information.given.Given as goal
 -- the texts so far, and what the rest adds to them, are those of all
 abbrev pub invariant-loop-number : goal.invariant-loop-number
 invariant-loop-number l =
-    running l.of l.own.items (texts_at l.all l.of l.numbers.items) (texts_at l.all l.of (option_to_list l.closest)) (annotations_at l.all (drop l.number-index l.counting))
+    running l.of l.own.items (texts_at l.all l.of l.numbers.items)
+    (texts_at l.all l.of (option_to_list l.closest))
+    (annotations_at l.all (drop l.number-index l.counting))
     ≡ given l.of l.own.items (annotations_at l.all l.counting)

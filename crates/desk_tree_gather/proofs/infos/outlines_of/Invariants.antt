@@ -3,4 +3,5 @@ use Rattle.desk_tree_gather.specs.Sharing.{infos_at, outline_of, outline_in}
 use Rattle.desk_tree_gather.proofs.infos.outlines_of.Given as goal
 
 abbrev pub invariant-loop-file : goal.invariant-loop-file
-invariant-loop-file l = map outline_in l.outlines.items ≡ map outline_of (infos_at l.all (take l.file-index l.files))
+invariant-loop-file l = map outline_in l.outlines.items
+    ≡ map outline_of (infos_at l.all (take l.file-index l.files))

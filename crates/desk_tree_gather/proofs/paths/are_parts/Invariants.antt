@@ -5,4 +5,5 @@ use Rattle.desk_tree_gather.proofs.paths.are_parts.Given as goal
 use Rattle.desk_base.specs.Borrowed.{texts}
 
 abbrev pub invariant-loop-part : goal.invariant-loop-part
-invariant-loop-part l = list_all is_part (texts (drop l.part-index l.parts)) ≡ list_all is_part (texts l.parts)
+invariant-loop-part l = list_all is_part (texts (drop l.part-index l.parts))
+    ≡ list_all is_part (texts l.parts)

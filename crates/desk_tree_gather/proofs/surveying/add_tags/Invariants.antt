@@ -9,6 +9,8 @@ use Rattle.desk_tree_gather.proofs.surveying.add_tags.Given as goal
 
 abbrev pub invariant-loop-tag : goal.invariant-loop-tag
 invariant-loop-tag l = record {
-  flaws : (r : Reader) → IsRightReader r → l.flaws ≡ l.initial.flaws ++ flat_map (tag_flaws r l.path) (map tag_text (take l.tag-index l.tags));
+  flaws : (r : Reader) → IsRightReader r
+      → l.flaws ≡ l.initial.flaws ++ flat_map (tag_flaws r l.path)
+      (map tag_text (take l.tag-index l.tags));
   known : IfSome l.known (λ text. Tells text.now true);
 }

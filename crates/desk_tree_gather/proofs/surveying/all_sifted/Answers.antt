@@ -11,6 +11,9 @@ use Rattle.desk_tree_gather.proofs.surveying.all_sifted.Goals as goal
 
 pub returns-clause-infos : goal.returns-clause-infos
 returns-clause-infos c = λ r right tomls holds.
-    subst (λ (f : Folders). IfOk c.each_sifted.result (λ (v : Vec Covered Global). infos_at f.all.items v.items ≡ map (info_sifted r tomls (tree_in c.args.known.now.tree)) (files_of c.args.files.now)))
+    subst (λ (f : Folders). IfOk c.each_sifted.result
+    (λ (v : Vec Covered Global). infos_at f.all.items v.items
+    ≡ map (info_sifted r tomls (tree_in c.args.known.now.tree)) (files_of c.args.files.now)))
     c.in_ok-trail.ensures
-    (c.each_sifted.ensures.infos r right tomls (subst (Holds tomls) (sym c.in_ok-trail.ensures) holds))
+    (c.each_sifted.ensures.infos r right tomls
+    (subst (Holds tomls) (sym c.in_ok-trail.ensures) holds))

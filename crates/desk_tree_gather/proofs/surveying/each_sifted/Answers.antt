@@ -19,21 +19,29 @@ loop-file-preserved c =
           let all = c.args.trail.now.folders.now.all.items in
           ap (infos_at all) c.in_ok-push.ensures.items
           ∙ map-append (info_at all) c.loop-file.infos.items (c.in_ok-info.info ∷ [])
-          ∙ infos_more c.args.files.now c.loop-file.file-index _ (info_sifted r tomls tree) (infos_at all c.loop-file.infos.items) (info_at all c.in_ok-info.info) c.loop-file-test.true
+          ∙ infos_more c.args.files.now c.loop-file.file-index _ (info_sifted r tomls tree)
+          (infos_at all c.loop-file.infos.items) (info_at all c.in_ok-info.info)
+          c.loop-file-test.true
           (c.loop-file.invariant.infos r right tomls holds)
-          (ap (λ (f : Folders). info_at f.all.items c.in_ok-info.info) (sym c.loop-file.invariant.same)
-          ∙ c.in_ok-info.ensures.info r right tomls (subst (Holds tomls) (sym c.loop-file.invariant.same) holds));
+          (ap (λ (f : Folders). info_at f.all.items c.in_ok-info.info)
+          (sym c.loop-file.invariant.same)
+          ∙ c.in_ok-info.ensures.info r right tomls
+          (subst (Holds tomls) (sym c.loop-file.invariant.same) holds));
       flaws = λ r right.
-          flaws_more c.args.files.now c.loop-file.file-index _ (λ f. stated_flaws r (holder tree f)) c.args.flaws.now c.loop-file.flaws c.info_sifted.new.flaws c.loop-file-test.true
+          flaws_more c.args.files.now c.loop-file.file-index _ (λ f. stated_flaws r (holder tree f))
+          c.args.flaws.now c.loop-file.flaws c.info_sifted.new.flaws c.loop-file-test.true
           (c.loop-file.invariant.flaws r right) (c.in_ok-info.ensures.flaws r right);
     }
 
 pub returns-clause-infos : goal.returns-clause-infos
 returns-clause-infos c = λ r right tomls holds.
     c.loop-file.invariant.infos r right tomls holds
-    ∙ ap (λ fs. map (info_sifted r tomls (tree_in c.args.tree.now)) (files_of fs)) (take_all c.loop-file.file-index c.args.files.now c.loop-file-test.false)
+    ∙ ap (λ fs. map (info_sifted r tomls (tree_in c.args.tree.now)) (files_of fs))
+    (take_all c.loop-file.file-index c.args.files.now c.loop-file-test.false)
 
 pub returns-clause-flaws : goal.returns-clause-flaws
 returns-clause-flaws c = λ r right.
     c.loop-file.invariant.flaws r right
-    ∙ ap (λ fs. c.args.flaws.now ++ flat_map (λ f. stated_flaws r (holder (tree_in c.args.tree.now) f)) (files_of fs)) (take_all c.loop-file.file-index c.args.files.now c.loop-file-test.false)
+    ∙ ap (λ fs. c.args.flaws.now ++ flat_map
+    (λ f. stated_flaws r (holder (tree_in c.args.tree.now) f)) (files_of fs))
+    (take_all c.loop-file.file-index c.args.files.now c.loop-file-test.false)

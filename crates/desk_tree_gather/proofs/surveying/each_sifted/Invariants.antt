@@ -12,8 +12,11 @@ use Rattle.desk_tree_gather.proofs.surveying.each_sifted.Given as goal
 abbrev pub invariant-loop-file : goal.invariant-loop-file
 invariant-loop-file l = record {
   same : l.trail.folders.now ≡ l.initial.trail.folders.now;
-  infos : (r : Reader) → IsRightReader r → (tomls : List TomlText) → Holds tomls l.initial.trail.folders.now
-      → infos_at l.initial.trail.folders.now.all.items l.infos.items ≡ map (info_sifted r tomls (tree_in l.tree)) (files_of (take l.file-index l.files));
+  infos : (r : Reader) → IsRightReader r → (tomls : List TomlText)
+      → Holds tomls l.initial.trail.folders.now
+      → infos_at l.initial.trail.folders.now.all.items l.infos.items
+      ≡ map (info_sifted r tomls (tree_in l.tree)) (files_of (take l.file-index l.files));
   flaws : (r : Reader) → IsRightReader r
-      → l.flaws ≡ l.initial.flaws ++ flat_map (λ f. stated_flaws r (holder (tree_in l.tree) f)) (files_of (take l.file-index l.files));
+      → l.flaws ≡ l.initial.flaws ++ flat_map (λ f. stated_flaws r (holder (tree_in l.tree) f))
+      (files_of (take l.file-index l.files));
 }

@@ -8,12 +8,16 @@ use Rattle.desk_tree_gather.proofs.surveying.own_sifted.Goals as goal
 
 pub returns-clause-info : goal.returns-clause-info
 returns-clause-info c = λ r right.
-    sym (same_stated r right c.in_ok-held.held.bytes.now (stated_of c.in_ok-info.info) c.in_ok-info.ensures) ∙ ap (λ h. r.stated h.bytes) c.in_ok-held.ensures
+    sym (same_stated r right c.in_ok-held.held.bytes.now (stated_of c.in_ok-info.info)
+    c.in_ok-info.ensures) ∙ ap (λ h. r.stated h.bytes) c.in_ok-held.ensures
 
 pub returns-clause-flaws : goal.returns-clause-flaws
 returns-clause-flaws c = λ r right.
     c.in_ok-add_tags.ensures r right
     ∙ ap (λ l. c.args.flaws.now ++ l)
-    (stated_flaws_are r (held_in c.in_ok-held.held) (stated_of c.in_ok-info.info) c.as_str.result.now (map tag_text c.as_slice.result.now) c.as_str.ensures.value (ap (map tag_text) c.as_slice.ensures.value)
-    (same_stated r right c.in_ok-held.held.bytes.now (stated_of c.in_ok-info.info) c.in_ok-info.ensures)
+    (stated_flaws_are r (held_in c.in_ok-held.held) (stated_of c.in_ok-info.info)
+    c.as_str.result.now (map tag_text c.as_slice.result.now) c.as_str.ensures.value
+    (ap (map tag_text) c.as_slice.ensures.value)
+    (same_stated r right c.in_ok-held.held.bytes.now (stated_of c.in_ok-info.info)
+    c.in_ok-info.ensures)
     ∙ ap (stated_flaws r) c.in_ok-held.ensures)

@@ -14,5 +14,8 @@ returns-clause-flaws c = λ r right.
     joined c.args.flaws c.tomls_sifted.new.flaws c.all_sifted.new.flaws _ _ _ _
     (c.in_ok-covered-2.ensures.flaws r right)
     (c.in_ok-tomls-2.ensures.flaws r right)
-    (ap (flat_map (toml_flaws r)) (ap files_of c.as_slice-2.ensures.value ∙ c.in_ok-tomls.ensures ∙ ap (filter is_toml) (ap files_of c.as_slice.ensures.value ∙ c.in_ok-files.ensures)))
-    (ap (flat_map held) (ap files_of c.as_slice-4.ensures.value ∙ c.in_ok-covered.ensures ∙ ap (filter is_covered) (ap files_of c.as_slice-3.ensures.value ∙ c.in_ok-files.ensures)))
+    (ap (flat_map (toml_flaws r))
+    (ap files_of c.as_slice-2.ensures.value ∙ c.in_ok-tomls.ensures
+    ∙ ap (filter is_toml) (ap files_of c.as_slice.ensures.value ∙ c.in_ok-files.ensures)))
+    (ap (flat_map held) (ap files_of c.as_slice-4.ensures.value ∙ c.in_ok-covered.ensures
+    ∙ ap (filter is_covered) (ap files_of c.as_slice-3.ensures.value ∙ c.in_ok-files.ensures)))

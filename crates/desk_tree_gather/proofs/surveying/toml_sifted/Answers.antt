@@ -8,16 +8,23 @@ use Rattle.desk_tree_gather.proofs.surveying.toml_sifted.Goals as goal
 
 pub returns-in_default-clause-toml : goal.returns-in_default-clause-toml
 returns-in_default-clause-toml c = λ r right.
-    sifted_no_text r (file_of c.args.file) c.folder_of-folder.result.now c.new.result c.in_default.ensures.cases.0 (c.folder_of-folder.ensures ∙ ap folder_of c.as_bytes.ensures.value) c.new.ensures
+    sifted_no_text r (file_of c.args.file) c.folder_of-folder.result.now c.new.result
+    c.in_default.ensures.cases.0 (c.folder_of-folder.ensures
+    ∙ ap folder_of c.as_bytes.ensures.value) c.new.ensures
 
 pub returns-in_default-clause-flaws : goal.returns-in_default-clause-flaws
 returns-in_default-clause-flaws c = λ r right.
-    c.in_ok-push.ensures.ok ∙ ap (λ l. c.args.flaws.now ++ l) (flaws_no_text r (file_of c.args.file) c.in_ok-of.field-0 c.in_default.ensures.cases.0 c.in_ok-of.ensures)
+    c.in_ok-push.ensures.ok ∙ ap (λ l. c.args.flaws.now ++ l)
+    (flaws_no_text r (file_of c.args.file) c.in_ok-of.field-0 c.in_default.ensures.cases.0
+    c.in_ok-of.ensures)
 
 pub returns-clause-toml : goal.returns-clause-toml
 returns-clause-toml c = λ r right.
-    sifted_text r (file_of c.args.file) c.folder_of-folder.result.now c.in_ok-annotations.field-0.annotations c.in-Ok.ensures.cases.1 (c.folder_of-folder.ensures ∙ ap folder_of c.as_bytes.ensures.value)
-    (c.in_ok-annotations.ensures.annotations r.reading right.reading ∙ ap (good_annotations r.reading) c.in-Ok.ensures.cases.0)
+    sifted_text r (file_of c.args.file) c.folder_of-folder.result.now
+    c.in_ok-annotations.field-0.annotations c.in-Ok.ensures.cases.1
+    (c.folder_of-folder.ensures ∙ ap folder_of c.as_bytes.ensures.value)
+    (c.in_ok-annotations.ensures.annotations r.reading right.reading
+    ∙ ap (good_annotations r.reading) c.in-Ok.ensures.cases.0)
 
 pub returns-clause-flaws : goal.returns-clause-flaws
 returns-clause-flaws c = λ r right.
@@ -25,4 +32,5 @@ returns-clause-flaws c = λ r right.
     ∙ ap (λ l. c.args.flaws.now ++ l)
     (ap (map (flaw_of c.args.file.path.now)) c.as_slice.ensures
     ∙ flaws_text r (file_of c.args.file) c.in_ok-annotations.field-0.faults c.in-Ok.ensures.cases.1
-    (c.in_ok-annotations.ensures.faults r.reading right.reading ∙ ap (annotation_faults r.reading) c.in-Ok.ensures.cases.0))
+    (c.in_ok-annotations.ensures.faults r.reading right.reading
+    ∙ ap (annotation_faults r.reading) c.in-Ok.ensures.cases.0))

@@ -7,6 +7,8 @@ use Rattle.desk_tree_gather.proofs.surveying.tomls_sifted.Given as goal
 
 abbrev pub invariant-loop-file : goal.invariant-loop-file
 invariant-loop-file l = record {
-  tomls : (r : Reader) → IsRightReader r → tomls_in l.tomls.items ≡ map (toml_sifted r) (files_of (take l.file-index l.files));
-  flaws : (r : Reader) → IsRightReader r → l.flaws ≡ l.initial.flaws ++ flat_map (toml_flaws r) (files_of (take l.file-index l.files));
+  tomls : (r : Reader) → IsRightReader r
+      → tomls_in l.tomls.items ≡ map (toml_sifted r) (files_of (take l.file-index l.files));
+  flaws : (r : Reader) → IsRightReader r
+      → l.flaws ≡ l.initial.flaws ++ flat_map (toml_flaws r) (files_of (take l.file-index l.files));
 }

@@ -7,5 +7,6 @@ use Rattle.desk_tree_gather.proofs.surveying.tree_kept.Given as goal
 abbrev pub invariant-loop-file : goal.invariant-loop-file
 invariant-loop-file l = record {
   tree : sifted (tree_in l.tree) (drop l.file-index l.files) ≡ sifted [] l.files;
-  flaws : l.flaws ++ path_flaws (tree_in l.tree) (drop l.file-index l.files) ≡ l.initial.flaws ++ path_flaws [] l.files;
+  flaws : l.flaws ++ path_flaws (tree_in l.tree) (drop l.file-index l.files) ≡ l.initial.flaws
+      ++ path_flaws [] l.files;
 }

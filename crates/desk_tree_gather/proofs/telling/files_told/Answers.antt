@@ -11,6 +11,8 @@ use Rattle.desk_tree_gather.proofs.telling.files_told.Goals as goal
 
 pub returns : goal.returns
 returns c = λ r right tomls holds.
-    subst (λ (f : Folders). IfOk c.each_told.result (Gives (told_in r tomls (left_in c.args.tree)) (λ (v : Vec Digested Global). all_told f.all.items v.items)))
+    subst (λ (f : Folders). IfOk c.each_told.result
+    (Gives (told_in r tomls (left_in c.args.tree))
+    (λ (v : Vec Digested Global). all_told f.all.items v.items)))
     c.in_ok-trail.ensures
     (c.each_told.ensures r right tomls (subst (Holds tomls) (sym c.in_ok-trail.ensures) holds))

@@ -6,4 +6,5 @@ use Rattle.desk_tree_gather.proofs.telling.placed.Given as goal
 
 -- the files so far and the rest of them give what all give
 abbrev pub invariant-loop-file : goal.invariant-loop-file
-invariant-loop-file l = placed (left_in l.left) (into_iter_items l.file-iterator) ≡ placed [] l.fn.files.items
+invariant-loop-file l = placed (left_in l.left) (into_iter_items l.file-iterator)
+    ≡ placed [] l.fn.files.items

@@ -10,4 +10,6 @@ use Rattle.desk_base.proofs.Results.{onto}
 -- what is read so far, and what the rest gives, is that of all
 abbrev pub invariant-loop-file : goal.invariant-loop-file
 invariant-loop-file l = (r : Reader) → IsRightReader r
-    → onto (tomls_in l.tomls.items) (each is_toml (toml_of r) (files_of (drop l.file-index l.files))) ≡ tomls_of r (files_of l.files)
+    → onto (tomls_in l.tomls.items)
+    (each is_toml (toml_of r) (files_of (drop l.file-index l.files)))
+    ≡ tomls_of r (files_of l.files)

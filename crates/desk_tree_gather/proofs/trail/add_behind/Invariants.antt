@@ -9,7 +9,8 @@ abbrev pub invariant-loop-byte : goal.invariant-loop-byte
 invariant-loop-byte l = record {
   within : length l.rest ≤ length l.path;
   so_far : lists_of l.lists.items ++ map (kept_for l.folders) (map (way l.path) (rests l.rest))
-      ≡ lists_of l.initial.lists.items ++ map (kept_for l.folders) (map (way l.path) (rests l.fn.rest));
+      ≡ lists_of l.initial.lists.items
+      ++ map (kept_for l.folders) (map (way l.path) (rests l.fn.rest));
 }
 
 abbrev pub decreases-loop-byte : goal.decreases-loop-byte

@@ -4,4 +4,5 @@ use Rattle.desk_tree_lint.specs.Shown.{texts_in}
 use Rattle.desk_tree_lint.proofs.lists.missing.Given as goal
 
 abbrev pub invariant-loop-key : goal.invariant-loop-key
-invariant-loop-key l = l.lacking ++ missing (drop l.key-index l.used) (texts_in l.fn.listed) ≡ missing l.used (texts_in l.fn.listed)
+invariant-loop-key l = l.lacking ++ missing (drop l.key-index l.used) (texts_in l.fn.listed)
+    ≡ missing l.used (texts_in l.fn.listed)

@@ -7,4 +7,6 @@ use Rattle.desk_base.specs.Borrowed.{texts}
 
 -- what is still to come and what the set has are all
 abbrev pub invariant-loop-text : goal.invariant-loop-text
-invariant-loop-text l = (q : List ℕ) → (is_among (texts (drop l.text-index l.listed)) q || has_text l.set q) ≡ is_among (texts l.listed) q
+invariant-loop-text l = (q : List ℕ)
+    → (is_among (texts (drop l.text-index l.listed)) q || has_text l.set q)
+    ≡ is_among (texts l.listed) q

@@ -7,8 +7,11 @@ use Rattle.desk_tree_lint.proofs.lists.unused.Goals as goal
 
 pub loop-text-preserved : goal.loop-text-preserved
 loop-text-preserved c = λ up.
-    ap (λ l. l ++ unused c.args.used.now (texts_in (drop (c.loop-text.text-index + 1) c.args.listed.now))) c.in_ok-add_if.ensures
-    ∙ unused_more c.args.used.now c.args.listed.now c.loop-text.text-index c.text-item.result c.loop-text.paths _ _ c.loop-text-test.true
+    ap (λ l. l ++ unused c.args.used.now
+    (texts_in (drop (c.loop-text.text-index + 1) c.args.listed.now))) c.in_ok-add_if.ensures
+    ∙ unused_more c.args.used.now c.args.listed.now c.loop-text.text-index c.text-item.result
+    c.loop-text.paths _ _ c.loop-text-test.true
     (ap (λ t. (text_in t).path) c.text-item.is)
-    (ap not (c.has_key-needless.ensures up ∙ ap (is_among c.args.used.now) (ap (λ t. (text_in t).key) c.text-item.is)))
+    (ap not (c.has_key-needless.ensures up
+    ∙ ap (is_among c.args.used.now) (ap (λ t. (text_in t).key) c.text-item.is)))
     ∙ c.loop-text.invariant up

@@ -8,4 +8,5 @@ use Rattle.desk_tree_lint.proofs.lists.unused.Given as goal
 
 abbrev pub invariant-loop-text : goal.invariant-loop-text
 invariant-loop-text l = IsStrictlySortedBy (slice_cmp nat_cmp) l.fn.used
-    → l.paths ++ unused l.fn.used (texts_in (drop l.text-index l.listed)) ≡ unused l.fn.used (texts_in l.listed)
+    → l.paths ++ unused l.fn.used (texts_in (drop l.text-index l.listed))
+    ≡ unused l.fn.used (texts_in l.listed)

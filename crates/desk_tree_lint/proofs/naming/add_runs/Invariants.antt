@@ -5,4 +5,5 @@ use Rattle.desk_tree_lint.proofs.naming.add_runs.Given as goal
 
 -- those that were added, and those in what is left, are all
 abbrev pub invariant-loop-run : goal.invariant-loop-run
-invariant-loop-run l = texts_in l.found ++ ids_in (texts (drop l.run-index l.listed)) ≡ texts_in l.initial.found ++ ids_in (texts l.listed)
+invariant-loop-run l = texts_in l.found ++ ids_in (texts (drop l.run-index l.listed))
+    ≡ texts_in l.initial.found ++ ids_in (texts l.listed)

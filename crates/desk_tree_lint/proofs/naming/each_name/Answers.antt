@@ -11,6 +11,8 @@ loop-place-preserved c = λ all ms holds are.
     let i = c.loop-place.place in
     let within : i < length keys = omega (arith, c.loop-place-test.true, c.len-place-end.ensures) in
     let key = c.at-key.ensures in
-    let first = c.first_of.ensures all ms holds (are _ (ap (is_among keys) key ∙ here_among keys i _ within)) in
+    let first = c.first_of.ensures all ms holds
+    (are _ (ap (is_among keys) key ∙ here_among keys i _ within)) in
     let name = ap (name_by c.at-key.result.now) first ∙ ap (λ k. name_by k (first_with k ms)) key in
-    c.in_ok-add_name.ensures ∙ (λ j. c.loop-place.invariant all ms holds are j ++ name j ∷ []) ∙ sym (map_more (λ k. name_by k (first_with k ms)) keys i _ within)
+    c.in_ok-add_name.ensures ∙ (λ j. c.loop-place.invariant all ms holds are j ++ name j ∷ [])
+    ∙ sym (map_more (λ k. name_by k (first_with k ms)) keys i _ within)

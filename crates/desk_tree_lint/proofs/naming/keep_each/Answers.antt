@@ -7,7 +7,8 @@ use Rattle.desk_tree_lint.proofs.FirstLemmas.{shown_more}
 use Rattle.desk_tree_lint.proofs.naming.keep_each.Goals as goal
 
 pub loop-id-init : goal.loop-id-init
-loop-id-init c = λ keys ms holds. subst (λ (l : List MentionText). Holds keys l c.args.asked.now) (sym (append-nil ms)) holds
+loop-id-init c = λ keys ms holds. subst (λ (l : List MentionText). Holds keys l c.args.asked.now)
+    (sym (append-nil ms)) holds
 
 pub loop-id-preserved : goal.loop-id-preserved
 loop-id-preserved c = λ keys ms holds.

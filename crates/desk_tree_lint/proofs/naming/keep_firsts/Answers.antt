@@ -20,4 +20,5 @@ loop-first-preserved c = λ keys holds.
 pub returns : goal.returns
 returns c = λ keys holds.
     subst (λ fs. Holds keys (first_mentions (map first_in fs)) c.loop-first.asked)
-    (take_all c.loop-first.first-index c.args.listed.now c.loop-first-test.false) (c.loop-first.invariant keys holds)
+    (take_all c.loop-first.first-index c.args.listed.now c.loop-first-test.false)
+    (c.loop-first.invariant keys holds)

@@ -6,4 +6,6 @@ use Rattle.desk_tree_lint.proofs.naming.keep_licence.Goals as goal
 
 pub returns : goal.returns
 returns c =
-    holds_along c.keep_each.result c.args.asked.now c.keep_each.new.asked _ _ (ap (map (mention c.args.path.now)) (ap texts c.as_slice.ensures.value ∙ c.in_ok-ids.ensures)) c.keep_each.ensures
+    holds_along c.keep_each.result c.args.asked.now c.keep_each.new.asked _ _
+    (ap (map (mention c.args.path.now)) (ap texts c.as_slice.ensures.value ∙ c.in_ok-ids.ensures))
+    c.keep_each.ensures

@@ -13,12 +13,21 @@ pub returns : goal.returns
 returns c = λ infos are.
     let keys = texts_in c.in_ok-ordered.ordered in
     let none : Holds keys [] c.as_mut_slice.result.now =
-    record { ordered = c.in_ok-ordered.ensures.ordered; firsts = ap (map asked_in) c.as_mut_slice.ensures.value ∙ c.in_ok-asked.ensures ∙ ap (λ ks. asked_of (texts ks) []) c.as_slice.ensures.value } in
-    let holds = subst (λ fs. Holds keys (first_mentions fs) c.keep_firsts.new.asked) are (c.in_ok-keep_firsts.ensures keys none) in
-    let same : c.in_ok-asked.asked.len ≡ length c.keep_firsts.new.asked = omega (arith, c.as_mut_slice.ensures.len, c.keep_firsts.auto.asked) in
+    record {
+      ordered = c.in_ok-ordered.ensures.ordered;
+      firsts = ap (map asked_in) c.as_mut_slice.ensures.value ∙ c.in_ok-asked.ensures
+          ∙ ap (λ ks. asked_of (texts ks) []) c.as_slice.ensures.value;
+    } in
+    let holds = subst (λ fs. Holds keys (first_mentions fs) c.keep_firsts.new.asked) are
+    (c.in_ok-keep_firsts.ensures keys none) in
+    let same : c.in_ok-asked.asked.len ≡ length c.keep_firsts.new.asked =
+    omega (arith, c.as_mut_slice.ensures.len, c.keep_firsts.auto.asked) in
     let back : c.as_slice-2.result.now ≡ c.keep_firsts.new.asked =
-    c.as_slice-2.ensures.value ∙ take_at c.keep_firsts.new.asked (drop (length c.keep_firsts.new.asked) c.in_ok-asked.asked.items) c.in_ok-asked.asked.len (sym same) in
+    c.as_slice-2.ensures.value ∙ take_at c.keep_firsts.new.asked
+    (drop (length c.keep_firsts.new.asked) c.in_ok-asked.asked.items) c.in_ok-asked.asked.len
+    (sym same) in
     subst (λ names. IfOk c.each_name.result (λ x. x ≡ names))
     (λ i. map (λ key. name_by key (sym (mentions_alike infos key) i)) c.args.keys.now)
-    (c.each_name.ensures keys (first_mentions (firsts_of Licences infos)) (subst (λ asked. Holds keys (first_mentions (firsts_of Licences infos)) asked) (sym back) holds)
+    (c.each_name.ensures keys (first_mentions (firsts_of Licences infos))
+    (subst (λ asked. Holds keys (first_mentions (firsts_of Licences infos)) asked) (sym back) holds)
     c.in_ok-ordered.ensures.members)

@@ -13,11 +13,16 @@ pub returns-in-Ok-clause-found : goal.returns-in-Ok-clause-found
 returns-in-Ok-clause-found c =
     let key = c.args.key.now in
     let side : Asked → Ordering = λ a. slice_cmp nat_cmp a.key.now key in
-    let found = c.in-Ok.ensures.position side (always_returns_same _ (λ a r. r ≡ side a.0.now) _ (λ a r q k. search rules)) in
-    (c.in-Ok.ensures.bound, λ a. (bytes_eq-Decides _ key).0 (sym (is_eq-slice_cmp _ key) ∙ ap is_eq (found a)))
+    let found = c.in-Ok.ensures.position side
+    (always_returns_same _ (λ a r. r ≡ side a.0.now) _ (λ a r q k. search rules)) in (
+      c.in-Ok.ensures.bound,
+      λ a. (bytes_eq-Decides _ key).0 (sym (is_eq-slice_cmp _ key) ∙ ap is_eq (found a)),
+    )
 
 pub returns-in-Err-clause-none : goal.returns-in-Err-clause-none
 returns-in-Err-clause-none c = λ up.
     let key = c.args.key.now in
     let side : Asked → Ordering = λ a. slice_cmp nat_cmp a.key.now key in
-    halved_none (λ (a : Asked). a.key.now) c.args.asked.now key c.in-Err.field-0 up (c.in-Err.ensures.position side (always_returns_same _ (λ a r. r ≡ side a.0.now) _ (λ a r q k. search rules)))
+    halved_none (λ (a : Asked). a.key.now) c.args.asked.now key c.in-Err.field-0 up
+    (c.in-Err.ensures.position side
+    (always_returns_same _ (λ a r. r ≡ side a.0.now) _ (λ a r q k. search rules)))

@@ -20,11 +20,17 @@ pub returns : goal.returns
 returns c = λ infos are.
     let is = dedup_is _ _ _ c.dedup.ensures.filtered in
     let moved = c.in_ok-sort.ensures.permutation in
-    let ordered = IsStrictlySortedBy-dedup total-law matches_eq-law c.sort.new.self.items c.in_ok-sort.ensures.sorted in
+    let ordered = IsStrictlySortedBy-dedup total-law matches_eq-law c.sort.new.self.items
+    c.in_ok-sort.ensures.sorted in
     record {
-      members = λ key. let known = along (subst (λ fs. Contains c.in_ok-keys.keys.items key ↔ IsFirstUsed fs key) are (c.in_ok-keys.ensures key)) (used_first infos key) in (
-        (λ h. known.0 (Contains-permutation _ _ key (IsPermutation-sym _ _ moved) (Contains-from_dedup _ _ key (subst (λ l. Contains l key) is h)))),
-        (λ h. subst (λ l. Contains l key) (sym is) (Contains-dedup laws-law same c.sort.new.self.items key (Contains-permutation _ _ key moved (known.1 h)))),
-      );
+      members = λ key. let known = along
+          (subst (λ fs. Contains c.in_ok-keys.keys.items key ↔ IsFirstUsed fs key) are
+          (c.in_ok-keys.ensures key)) (used_first infos key) in (
+            (λ h. known.0 (Contains-permutation _ _ key (IsPermutation-sym _ _ moved)
+                (Contains-from_dedup _ _ key (subst (λ l. Contains l key) is h)))),
+            (λ h. subst (λ l. Contains l key) (sym is)
+                (Contains-dedup laws-law same c.sort.new.self.items key
+                (Contains-permutation _ _ key moved (known.1 h)))),
+          );
       ordered = subst (IsStrictlySortedBy (slice_cmp nat_cmp)) (sym is) ordered;
     }

@@ -6,4 +6,5 @@ use Rattle.desk_tree_problems.proofs.blanks.blanks_in.Given as goal
 
 -- what was added, and what is still to come, is all
 abbrev pub invariant-loop-path : goal.invariant-loop-path
-invariant-loop-path l = (r : Reading) → IsRight r → l.blanks ++ blanks_in r (entries_of l.path-iterator) ≡ blanks_in r (tree_in l.tree)
+invariant-loop-path l = (r : Reading) → IsRight r
+    → l.blanks ++ blanks_in r (entries_of l.path-iterator) ≡ blanks_in r (tree_in l.tree)

@@ -10,4 +10,6 @@ returns c =
     let is = c.in_ok-value.ensures in
     c.in_ok-push.ensures.items
     ∙ ap (λ l. l ++ 10 ∷ [])
-    (ap (λ (v : Vec ℕ Global). v.items) c.into_bytes-text.ensures.value ∙ c.in_ok-to_string.ensures.text (ap has_float is ∙ report_has_no_float c.args.rows.now c.args.covered) ∙ ap compact_text is)
+    (ap (λ (v : Vec ℕ Global). v.items) c.into_bytes-text.ensures.value
+    ∙ c.in_ok-to_string.ensures.text
+    (ap has_float is ∙ report_has_no_float c.args.rows.now c.args.covered) ∙ ap compact_text is)

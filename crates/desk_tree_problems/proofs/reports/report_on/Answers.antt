@@ -12,5 +12,6 @@ returns c = λ r right.
       are_problems = c.in_ok-problems.ensures.problems r right;
       are_rows = text.1;
       text = text.2;
-      clean = ap (λ number. number == 0) (c.in_ok-number.ensures text.0 text.1) ∙ none_counted text.0;
+      clean = ap (λ number. number == 0) (c.in_ok-number.ensures text.0 text.1)
+          ∙ none_counted text.0;
     }

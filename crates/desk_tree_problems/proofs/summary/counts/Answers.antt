@@ -10,4 +10,6 @@ pub returns : goal.returns
 returns c = λ rows are is.
     IfOk-weaker c.counts_of.result _ _ (λ text told.
     told ∙ ap (λ some. counts_of some rows) c.kinds.ensures
-    ∙ sym (ap (λ b. cond b (codes "; nothing is wrong by the desk's rules") (counts_of kinds rows)) (ap (λ n. n == 0) (sym is) ∙ not_none c.args.number c.if-number-eq0.false))) (c.counts_of.ensures rows are)
+    ∙ sym (ap (λ b. cond b (codes "; nothing is wrong by the desk's rules") (counts_of kinds rows))
+    (ap (λ n. n == 0) (sym is) ∙ not_none c.args.number c.if-number-eq0.false)))
+    (c.counts_of.ensures rows are)

@@ -5,4 +5,5 @@ use Rattle.desk_tree_problems.specs.Rows.{AreRows}
 use Rattle.desk_tree_problems.proofs.summary.counts_of.Given as goal
 
 abbrev pub invariant-loop-kind : goal.invariant-loop-kind
-invariant-loop-kind l = (rows : List Row) → AreRows l.problems rows → l.text.items ≡ counts_of (take l.kind-index l.kinds) rows
+invariant-loop-kind l = (rows : List Row) → AreRows l.problems rows
+    → l.text.items ≡ counts_of (take l.kind-index l.kinds) rows

@@ -4,5 +4,9 @@ use Rattle.desk_tree_problems.proofs.summary.lines_text.Goals as goal
 
 pub returns : goal.returns
 returns c =
-    let lines = c.in_ok-text.ensures in
-    (lines.0, lines.1, c.in_ok-add_summary.ensures lines.0 lines.1 ∙ ap (λ text. text ++ summary lines.0 c.args.problems.now.covered) lines.2)
+    let lines = c.in_ok-text.ensures in (
+      lines.0,
+      lines.1,
+      c.in_ok-add_summary.ensures lines.0 lines.1
+          ∙ ap (λ text. text ++ summary lines.0 c.args.problems.now.covered) lines.2,
+    )

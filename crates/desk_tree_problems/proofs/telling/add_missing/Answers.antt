@@ -6,6 +6,9 @@ use Rattle.desk_tree_problems.proofs.telling.add_missing.Goals as goal
 
 pub loop-place-preserved : goal.loop-place-preserved
 loop-place-preserved c =
-    let within : c.loop-place.place < length c.args.names.now = omega (arith, c.loop-place-test.true, c.len-place-end.ensures) in
-    lines_more (line_if c.args.only) missing_row c.args.names.now c.loop-place.place _ c.args.text.now.items c.loop-place.text.items c.add_row.new.text.items c.in_ok-row.row
-    within c.loop-place.invariant (c.in_ok-row.ensures ∙ ap missing_row c.in_ok-at.ensures) c.in_ok-add_row.ensures
+    let within : c.loop-place.place < length c.args.names.now =
+    omega (arith, c.loop-place-test.true, c.len-place-end.ensures) in
+    lines_more (line_if c.args.only) missing_row c.args.names.now c.loop-place.place _
+    c.args.text.now.items c.loop-place.text.items c.add_row.new.text.items c.in_ok-row.row
+    within c.loop-place.invariant (c.in_ok-row.ensures ∙ ap missing_row c.in_ok-at.ensures)
+    c.in_ok-add_row.ensures

@@ -10,6 +10,7 @@ abbrev pub invariant-loop-duty : goal.invariant-loop-duty
 invariant-loop-duty g l = record {
   same : Same (g.D.Desk.seen l.fn.desk) (g.D.Desk.seen l.desk);
   found : InHistory g.D.Desk.are_right
-      (λ w h. map (λ line. queried w h (query.Changes line.number)) (take l.duty-index l.duties) ≡ map answered.Changes l.changes.items)
+      (λ w h. map (λ line. queried w h (query.Changes line.number)) (take l.duty-index l.duties)
+      ≡ map answered.Changes l.changes.items)
       (g.D.Desk.seen l.fn.desk) (g.D.Desk.seen l.desk);
 }

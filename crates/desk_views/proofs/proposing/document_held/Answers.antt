@@ -13,7 +13,10 @@ returns c =
     let held = with_conclusion c.args.snapshot.now c.args.number in
     let number : to_z w64 (of_z w64 c.args.number) ≡ c.args.number = search rules in
     let each = simp number at c.in-Ok.ensures in
-    let packages : map package_text c.from_vec.result ≡ map held (map package_text c.args.document.packages) =
-    ap (map package_text) c.from_vec.ensures ∙ (each ∙ (ap (map (λ (p : Package). held (package_text p))) c.as_slice.ensures
+    let packages : map package_text c.from_vec.result ≡ map held (map package_text
+    c.args.document.packages) =
+    ap (map package_text) c.from_vec.ensures
+    ∙ (each ∙ (ap (map (λ (p : Package). held (package_text p))) c.as_slice.ensures
     ∙ sym (map-map held package_text c.args.document.packages))) in
-    ap (λ (ps : List PackageText). record (document_text c.args.document) { packages = ps }) packages
+    ap (λ (ps : List PackageText). record (document_text c.args.document) { packages = ps })
+    packages

@@ -15,11 +15,14 @@ loop-release-preserved c =
     elim c.if-is_open_with.branch [
       | then-is_open_with+in_ok-clone+in_ok-push w ↦
           ap (λ v. v.items) w.names-is
-          ∙ passing_more f p rows c.loop-release.release-index c.release-item.result c.loop-release-test.true c.release-item.is c.loop-release.names.items
-          c.loop-release.invariant w.push.new.self.items w.in_ok-clone.field-0 (sym tested ∙ w.if-is_open_with.true)
+          ∙ passing_more f p rows c.loop-release.release-index c.release-item.result
+          c.loop-release-test.true c.release-item.is c.loop-release.names.items
+          c.loop-release.invariant w.push.new.self.items w.in_ok-clone.field-0
+          (sym tested ∙ w.if-is_open_with.true)
           w.in_ok-clone.ensures.cases w.in_ok-push.ensures.items
       | else-is_open_with w ↦
           ap (λ v. v.items) w.names-is
-          ∙ failing_more f p rows c.loop-release.release-index c.release-item.result c.loop-release-test.true c.release-item.is c.loop-release.names.items
+          ∙ failing_more f p rows c.loop-release.release-index c.release-item.result
+          c.loop-release-test.true c.release-item.is c.loop-release.names.items
           c.loop-release.invariant (sym tested ∙ w.if-is_open_with.false)
     ]

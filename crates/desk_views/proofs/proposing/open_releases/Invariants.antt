@@ -4,4 +4,6 @@ use Rattle.desk_views.proofs.proposing.open_releases.Given as goal
 
 -- the names of the open releases with the document before the index
 abbrev pub invariant-loop-release : goal.invariant-loop-release
-invariant-loop-release l = l.names.items ≡ map (λ row. row.name) (filter (is_open_with l.snapshot (pos l.number)) (take l.release-index l.release-items))
+invariant-loop-release l = l.names.items
+    ≡ map (λ row. row.name) (filter (is_open_with l.snapshot (pos l.number))
+    (take l.release-index l.release-items))

@@ -5,4 +5,6 @@ use Rattle.desk_views.proofs.proposing.packages_held.Given as goal
 
 -- each package before the index
 abbrev pub invariant-loop-text : goal.invariant-loop-text
-invariant-loop-text l = map package_text l.held.items ≡ map (λ text. with_conclusion l.snapshot l.document (package_text text)) (take l.text-index l.packages)
+invariant-loop-text l = map package_text l.held.items
+    ≡ map (λ text. with_conclusion l.snapshot l.document (package_text text))
+    (take l.text-index l.packages)

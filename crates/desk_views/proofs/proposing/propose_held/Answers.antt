@@ -17,7 +17,11 @@ returns-in_ok-document-in-Ok-clause-told g c = λ w reads right is.
     IfOk-weaker c.write_proposals-status.result _ _
     (λ status h. (
       h.0,
-      inl (document_text c.in-Ok.document, c.in-Ok.ensures.ok, subst (λ (d : DocumentText). HasLines reads c.args.number d h.0 status) held h.1),
+      inl (
+        document_text c.in-Ok.document,
+        c.in-Ok.ensures.ok,
+        subst (λ (d : DocumentText). HasLines reads c.args.number d h.0 status) held h.1,
+      ),
       h.2,
     ))
     (c.write_proposals-status.ensures.told reads reading)

@@ -8,5 +8,6 @@ use Rattle.desk_views.proofs.wanting.outcomes_of.Goals as goal
 pub loop-refusal-preserved : goal.loop-refusal-preserved
 loop-refusal-preserved c =
     let told = λ (refusal : Refusal). Answered (Refused refusal) in
-    c.in_ok-push.ensures.items ∙ ap (λ outcomes. outcomes ++ told c.in-Some.refusal ∷ []) c.loop-refusal.invariant
+    c.in_ok-push.ensures.items ∙ ap (λ outcomes. outcomes ++ told c.in-Some.refusal ∷ [])
+    c.loop-refusal.invariant
     ∙ sym (map-append told c.loop-refusal.yielded (c.in-Some.refusal ∷ []))

@@ -11,8 +11,12 @@ use Rattle.desk_views.proofs.wanting.tell_wanting.Goals as goal
 
 pub returns-clause-told : goal.returns-clause-told
 returns-clause-told g c =
-    let text = c.as_slice-3.ensures.value ∙ (c.in_ok-text.ensures ∙ (ap (flat_map outcome_line) (c.as_slice-2.ensures.value ∙ c.in_ok-outcomes.ensures)
-    ∙ flat_map-map outcome_line (λ (refusal : Refusal). Answered (Refused refusal)) c.args.refusals.items)) in (
+    let text = c.as_slice-3.ensures.value
+    ∙ (c.in_ok-text.ensures ∙ (ap (flat_map outcome_line)
+    (c.as_slice-2.ensures.value ∙ c.in_ok-outcomes.ensures)
+    ∙ flat_map-map outcome_line (λ (refusal : Refusal). Answered (Refused refusal))
+    c.args.refusals.items)) in (
       c.status_of-status.ensures ∙ ap wanting_status c.as_slice.ensures.value,
-      subst (Appends (g.W.Write.contents c.args.writer.now) (g.W.Write.contents c.write_text.new.writer)) text c.in_ok-write_text.ensures.ok,
+      subst (Appends (g.W.Write.contents c.args.writer.now)
+          (g.W.Write.contents c.write_text.new.writer)) text c.in_ok-write_text.ensures.ok,
     )

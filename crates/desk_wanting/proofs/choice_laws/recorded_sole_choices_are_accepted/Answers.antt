@@ -12,5 +12,6 @@ returns c =
     record {
       found = λ w h order is. finds w h (sorted w h order) is;
       accepted = λ w h r choices one lists order is e m.
-          sym (step-answer w h (Choose r one.document one.package_id one.terms)) ∙ accepted w (tables w h) r lists (finds w h (sorted w h order) is) choices one e m;
+          sym (step-answer w h (Choose r one.document one.package_id one.terms))
+          ∙ accepted w (tables w h) r lists (finds w h (sorted w h order) is) choices one e m;
     }

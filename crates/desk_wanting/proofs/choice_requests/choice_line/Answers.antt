@@ -7,4 +7,6 @@ pub returns : goal.returns
 returns c =
     let is = c.in_ok-value.ensures in
     c.in_ok-push_str.ensures.bytes
-    ∙ ap (λ text. text ++ codes "\n") (c.in_ok-line.ensures.text (ap has_float is ∙ request_has_no_float c.args.release.now c.args.choice.now) ∙ ap compact_text is)
+    ∙ ap (λ text. text ++ codes "\n")
+    (c.in_ok-line.ensures.text (ap has_float is
+    ∙ request_has_no_float c.args.release.now c.args.choice.now) ∙ ap compact_text is)

@@ -9,5 +9,6 @@ returns-in_err-packages-clause-kept g c =
 
 pub returns-clause-kept : goal.returns-clause-kept
 returns-clause-kept g c =
-    looked_after _ _ _ c.sole_choices_for.result (same_then_same _ _ _ c.in_ok-attached.ensures.kept c.in_ok-packages.ensures.kept)
+    looked_after _ _ _ c.sole_choices_for.result
+    (same_then_same _ _ _ c.in_ok-attached.ensures.kept c.in_ok-packages.ensures.kept)
     c.sole_choices_for.ensures.kept

@@ -7,5 +7,7 @@ returns-in_ok-shipped_choices-in-None-clause-kept g c =
 
 pub returns-in_err-shipped_choices-in-None-clause-kept : goal.returns-in_err-shipped_choices-in-None-clause-kept
 returns-in_err-shipped_choices-in-None-clause-kept g c =
-    looked_err _ _ c.from_residual-in_err-shipped_choices-in-None.result c.from_residual-in_err-shipped_choices-in-None.ensures.0
-    (same_then_kept _ _ _ c.in_ok-refusal.ensures.kept c.in_err-shipped_choices-in-None.ensures.kept)
+    looked_err _ _ c.from_residual-in_err-shipped_choices-in-None.result
+    c.from_residual-in_err-shipped_choices-in-None.ensures.0
+    (same_then_kept _ _ _ c.in_ok-refusal.ensures.kept
+    c.in_err-shipped_choices-in-None.ensures.kept)

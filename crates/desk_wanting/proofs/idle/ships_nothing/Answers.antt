@@ -11,4 +11,5 @@ returns-clause-found g c = λ h t held.
     let len : length rows.items ≡ vec_len rows = omega (arith, rows.ok) in
     c.is_empty.ensures
     ∙ (ap (λ (n : ℕ). n == 0) (sym len)
-    ∙ (ap (λ (rows : List PackageRow). length rows == 0) (c.in_ok-shipped.ensures.found h t held) ∙ nothing_passes (is_shipped_by c.args.document) t.packages))
+    ∙ (ap (λ (rows : List PackageRow). length rows == 0) (c.in_ok-shipped.ensures.found h t held)
+    ∙ nothing_passes (is_shipped_by c.args.document) t.packages))

@@ -23,23 +23,29 @@ returns-clause-found g c = λ w right.
     let held'' = two.kept.kept.spared.holds t held' in
     let terms : c.in_ok-terms.terms.items ≡ choice_found t c.args.release.now row =
     two.found honest'' t held'
-    ∙ ap₂ (λ (r i : List ℕ). map (λ row. row.term) (filter (is_choice_of r row.document i) t.choice)) c.as_str.ensures c.as_str-2.ensures in
+    ∙ ap₂ (λ (r i : List ℕ). map (λ row. row.term)
+    (filter (is_choice_of r row.document i) t.choice)) c.as_str.ensures c.as_str-2.ensures in
     let concluded : c.is_found-is_concluded.result ≡ is_some (conclusion_found w t row) =
     c.is_found-is_concluded.ensures ∙ ap is_some (one.found w right honest' t held) in
-    let bare = λ (terms : List (List ℕ)). applying (unconcluded (conclusion_found w t row) row ∷ unchosen row terms ∷ []) in
-    let behind = λ (terms : List (List ℕ)). term_refusals w t.adoption (rules_found t) c.args.form.now terms row in
+    let bare = λ (terms : List (List ℕ)). applying
+    (unconcluded (conclusion_found w t row) row ∷ unchosen row terms ∷ []) in
+    let behind = λ (terms : List (List ℕ)). term_refusals w t.adoption (rules_found t)
+    c.args.form.now terms row in
     told honest t held''
     ∙ ap₂ (λ (a b : List Refusal). a ++ b)
     (c.in_ok-add_bare.ensures (conclusion_found w t row) concluded
-    ∙ ap (λ (terms : List (List ℕ)). c.args.refusals.now.items ++ bare terms) (c.as_slice.ensures.value ∙ terms))
+    ∙ ap (λ (terms : List (List ℕ)). c.args.refusals.now.items ++ bare terms)
+    (c.as_slice.ensures.value ∙ terms))
     (ap behind (c.as_slice-2.ensures.value ∙ terms))
-    ∙ append_assoc c.args.refusals.now.items (bare (choice_found t c.args.release.now row)) (behind (choice_found t c.args.release.now row)))
+    ∙ append_assoc c.args.refusals.now.items (bare (choice_found t c.args.release.now row))
+    (behind (choice_found t c.args.release.now row)))
     (last.found w right)
 
 pub returns-clause-kept : goal.returns-clause-kept
 returns-clause-kept g c =
     looked_after _ _ _ c.add_term_refusals.result
-    (same_then_same _ _ _ c.in_ok-conclusion_of.ensures.kept c.in_ok-terms.ensures.kept) c.add_term_refusals.ensures.kept
+    (same_then_same _ _ _ c.in_ok-conclusion_of.ensures.kept c.in_ok-terms.ensures.kept)
+    c.add_term_refusals.ensures.kept
 
 pub returns-in_err-terms-clause-kept : goal.returns-in_err-terms-clause-kept
 returns-in_err-terms-clause-kept g c =

@@ -7,7 +7,9 @@ returns-in_err-terms-clause-kept g c =
     (same_then_kept _ _ _ c.in_ok-chosen.ensures.kept c.in_err-terms.ensures.kept)
 
 pub returns-in-Some-clause-kept : goal.returns-in-Some-clause-kept
-returns-in-Some-clause-kept g c = same_then_same _ _ _ c.in_ok-chosen.ensures.kept c.in_ok-terms.ensures.kept
+returns-in-Some-clause-kept g c = same_then_same _ _ _ c.in_ok-chosen.ensures.kept
+    c.in_ok-terms.ensures.kept
 
 pub returns-clause-kept : goal.returns-clause-kept
-returns-clause-kept g c = same_then_same _ _ _ c.in_ok-chosen.ensures.kept c.in_ok-terms.ensures.kept
+returns-clause-kept g c = same_then_same _ _ _ c.in_ok-chosen.ensures.kept
+    c.in_ok-terms.ensures.kept

@@ -10,27 +10,35 @@ use Rattle.desk_wanting.proofs.sole_choice.sole_choices_for.Goals as goal
 pub loop-row-init : goal.loop-row-init
 loop-row-init g c = record {
   same = same_self _;
-  found = λ w right h t held. ap (λ found. found ++ filter_map (sole_choice_found w t c.args.release.now) c.args.packages.now) c.new-choices.ensures.items;
+  found = λ w right h t held. ap (λ found. found
+      ++ filter_map (sole_choice_found w t c.args.release.now) c.args.packages.now)
+      c.new-choices.ensures.items;
 }
 
 pub loop-row-preserved : goal.loop-row-preserved
 loop-row-preserved g c =
     let told = λ (w : Readings) (t : Tables). sole_choice_found w t c.args.release.now in
-    option_turn g.T.Texts.are_right told c.args.packages.now c.loop-row.row-index c.row-item.result c.loop-row.choices.items
-    c.add_choice.new.choices.items (λ w t. filter_map (told w t) c.args.packages.now) c.in_ok-choice.choice
-    c.loop-row-test.true c.row-item.is c.loop-row.invariant c.in_ok-choice.ensures.kept c.in_ok-choice.ensures.found
+    option_turn g.T.Texts.are_right told c.args.packages.now c.loop-row.row-index c.row-item.result
+    c.loop-row.choices.items
+    c.add_choice.new.choices.items (λ w t. filter_map (told w t) c.args.packages.now)
+    c.in_ok-choice.choice
+    c.loop-row-test.true c.row-item.is c.loop-row.invariant c.in_ok-choice.ensures.kept
+    c.in_ok-choice.ensures.found
     c.in_ok-add_choice.ensures
 
 pub returns-in_err-choice-clause-kept : goal.returns-in_err-choice-clause-kept
 returns-in_err-choice-clause-kept g c =
-    fails _ _ _ c.from_residual.result c.from_residual.ensures.0 c.loop-row.invariant.same c.in_err-choice.ensures.kept
+    fails _ _ _ c.from_residual.result c.from_residual.ensures.0 c.loop-row.invariant.same
+    c.in_err-choice.ensures.kept
 
 pub returns-in_err-add_choice-clause-kept : goal.returns-in_err-add_choice-clause-kept
 returns-in_err-add_choice-clause-kept g c =
-    fails _ _ _ c.from_residual-in_err-add_choice.result c.from_residual-in_err-add_choice.ensures.0 c.loop-row.invariant.same c.in_ok-choice.ensures.kept.kept
+    fails _ _ _ c.from_residual-in_err-add_choice.result c.from_residual-in_err-add_choice.ensures.0
+    c.loop-row.invariant.same c.in_ok-choice.ensures.kept.kept
 
 pub returns-clause-found : goal.returns-clause-found
 returns-clause-found g c =
     let told = λ (w : Readings) (t : Tables). sole_choice_found w t c.args.release.now in
-    option_end g.T.Texts.are_right told c.args.packages.now c.loop-row.row-index c.loop-row.choices.items
+    option_end g.T.Texts.are_right told c.args.packages.now c.loop-row.row-index
+    c.loop-row.choices.items
     (λ w t. filter_map (told w t) c.args.packages.now) c.loop-row-test.false c.loop-row.invariant

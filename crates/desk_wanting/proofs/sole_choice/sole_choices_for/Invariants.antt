@@ -10,6 +10,7 @@ abbrev pub invariant-loop-row : goal.invariant-loop-row
 invariant-loop-row g l =
     SoFar
     (λ old new. (w : Readings) → g.T.Texts.are_right w
-    → OfRows (λ t. l.choices.items ++ filter_map (sole_choice_found w t l.release) (drop l.row-index l.packages)
+    → OfRows (λ t. l.choices.items
+    ++ filter_map (sole_choice_found w t l.release) (drop l.row-index l.packages)
     ≡ filter_map (sole_choice_found w t l.release) l.packages) old new)
     (g.S.Store.seen l.fn.store) (g.S.Store.seen l.store)

@@ -13,21 +13,29 @@ loop-term-init g c = record { same = same_self _; found = λ w right h t held. r
 pub loop-term-preserved : goal.loop-term-preserved
 loop-term-preserved g c =
     let told = λ (w : Readings) (t : Tables). unadopted w t.adoption c.args.document in
-    option_turn g.T.Texts.are_right told c.args.terms.now c.loop-term.term-index c.term-item.result c.loop-term.refusals.items
-    c.add_refusal.new.refusals.items (λ w t. c.args.refusals.now.items ++ filter_map (told w t) c.args.terms.now)
-    c.in_ok-refusal.refusal c.loop-term-test.true c.term-item.is c.loop-term.invariant c.in_ok-refusal.ensures.kept
+    option_turn g.T.Texts.are_right told c.args.terms.now c.loop-term.term-index c.term-item.result
+    c.loop-term.refusals.items
+    c.add_refusal.new.refusals.items
+    (λ w t. c.args.refusals.now.items ++ filter_map (told w t) c.args.terms.now)
+    c.in_ok-refusal.refusal c.loop-term-test.true c.term-item.is c.loop-term.invariant
+    c.in_ok-refusal.ensures.kept
     c.in_ok-refusal.ensures.found c.in_ok-add_refusal.ensures
 
 pub returns-in_err-refusal-clause-kept : goal.returns-in_err-refusal-clause-kept
 returns-in_err-refusal-clause-kept g c =
-    fails _ _ _ c.from_residual.result c.from_residual.ensures.0 c.loop-term.invariant.same c.in_err-refusal.ensures.kept
+    fails _ _ _ c.from_residual.result c.from_residual.ensures.0 c.loop-term.invariant.same
+    c.in_err-refusal.ensures.kept
 
 pub returns-in_err-add_refusal-clause-kept : goal.returns-in_err-add_refusal-clause-kept
 returns-in_err-add_refusal-clause-kept g c =
-    fails _ _ _ c.from_residual-in_err-add_refusal.result c.from_residual-in_err-add_refusal.ensures.0 c.loop-term.invariant.same c.in_ok-refusal.ensures.kept.kept
+    fails _ _ _ c.from_residual-in_err-add_refusal.result
+    c.from_residual-in_err-add_refusal.ensures.0 c.loop-term.invariant.same
+    c.in_ok-refusal.ensures.kept.kept
 
 pub returns-clause-found : goal.returns-clause-found
 returns-clause-found g c =
     let told = λ (w : Readings) (t : Tables). unadopted w t.adoption c.args.document in
-    option_end g.T.Texts.are_right told c.args.terms.now c.loop-term.term-index c.loop-term.refusals.items
-    (λ w t. c.args.refusals.now.items ++ filter_map (told w t) c.args.terms.now) c.loop-term-test.false c.loop-term.invariant
+    option_end g.T.Texts.are_right told c.args.terms.now c.loop-term.term-index
+    c.loop-term.refusals.items
+    (λ w t. c.args.refusals.now.items ++ filter_map (told w t) c.args.terms.now)
+    c.loop-term-test.false c.loop-term.invariant

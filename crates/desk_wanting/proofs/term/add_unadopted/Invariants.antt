@@ -10,6 +10,7 @@ abbrev pub invariant-loop-term : goal.invariant-loop-term
 invariant-loop-term g l =
     SoFar
     (λ old new. (w : Readings) → g.T.Texts.are_right w
-    → OfRows (λ t. l.refusals.items ++ filter_map (unadopted w t.adoption l.document) (drop l.term-index l.terms)
+    → OfRows (λ t. l.refusals.items
+    ++ filter_map (unadopted w t.adoption l.document) (drop l.term-index l.terms)
     ≡ l.fn.refusals.items ++ filter_map (unadopted w t.adoption l.document) l.terms) old new)
     (g.S.Store.seen l.fn.store) (g.S.Store.seen l.store)

@@ -11,6 +11,9 @@ abbrev pub invariant-loop-term : goal.invariant-loop-term
 invariant-loop-term g l =
     SoFar
     (λ old new. (w : Readings) → g.T.Texts.are_right w
-    → OfRows (λ t. l.refusals.items ++ filter_map (unruled_alone w t.adoption (rules_found t) l.form l.row) (drop l.term-index l.terms)
-    ≡ l.fn.refusals.items ++ filter_map (unruled_alone w t.adoption (rules_found t) l.form l.row) l.terms) old new)
+    → OfRows (λ t. l.refusals.items
+    ++ filter_map (unruled_alone w t.adoption (rules_found t) l.form l.row)
+    (drop l.term-index l.terms)
+    ≡ l.fn.refusals.items ++ filter_map (unruled_alone w t.adoption (rules_found t) l.form l.row)
+    l.terms) old new)
     (g.S.Store.seen l.fn.store) (g.S.Store.seen l.store)

@@ -5,4 +5,5 @@ use Rattle.desk_words.proofs.requests.are_texts.Given as goal
 
 -- the items from the index on decide
 abbrev pub invariant-loop-item : goal.invariant-loop-item
-invariant-loop-item l = are_texts (items_view (drop l.item-index l.items)) ≡ are_texts (items_view l.items)
+invariant-loop-item l = are_texts (items_view (drop l.item-index l.items))
+    ≡ are_texts (items_view l.items)

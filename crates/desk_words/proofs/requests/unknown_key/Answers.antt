@@ -14,16 +14,22 @@ abbrev IsMember : Data → String Global → Type 0
 IsMember d key = get (string_bytes key) d ≢ None
 
 pub loop-name-init : goal.loop-name-init
-loop-name-init c = subst (All (IsMember (view c.args.value.now))) (sym (c.into_iter-name-iterator.ensures.into_iter_gives ∙ c.keys-name-items.ensures.rest))
+loop-name-init c = subst (All (IsMember (view c.args.value.now)))
+    (sym (c.into_iter-name-iterator.ensures.into_iter_gives ∙ c.keys-name-items.ensures.rest))
     (keys_are_found (view c.args.value.now) c.in-Some.members.now.entries c.in-Some.ensures)
 
 pub returns-then-not-has : goal.returns-then-not-has
 returns-then-not-has c =
-    let left = rest_more deref c.loop-name.name-iterator c.next.new.self c.next.result c.in-Some-name.name c.in-Some-name.is c.next.ensures.steps in
-    let here = All-head (IsMember (view c.args.value.now)) c.in-Some-name.name.now c.next.new.self (subst (All (IsMember (view c.args.value.now))) left c.loop-name.invariant) in
-    subst (λ (key : List ℕ). get key (view c.args.value.now) ≢ None) (sym (c.in_ok-from_str.ensures.ok ∙ c.as_str-name.ensures.value)) here
+    let left = rest_more deref c.loop-name.name-iterator c.next.new.self c.next.result
+    c.in-Some-name.name c.in-Some-name.is c.next.ensures.steps in
+    let here = All-head (IsMember (view c.args.value.now)) c.in-Some-name.name.now c.next.new.self
+    (subst (All (IsMember (view c.args.value.now))) left c.loop-name.invariant) in
+    subst (λ (key : List ℕ). get key (view c.args.value.now) ≢ None)
+    (sym (c.in_ok-from_str.ensures.ok ∙ c.as_str-name.ensures.value)) here
 
 pub loop-name-preserved : goal.loop-name-preserved
 loop-name-preserved c =
-    let left = rest_more deref c.loop-name.name-iterator c.next.new.self c.next.result c.in-Some-name.name c.in-Some-name.is c.next.ensures.steps in
-    All-tail (IsMember (view c.args.value.now)) c.in-Some-name.name.now c.next.new.self (subst (All (IsMember (view c.args.value.now))) left c.loop-name.invariant)
+    let left = rest_more deref c.loop-name.name-iterator c.next.new.self c.next.result
+    c.in-Some-name.name c.in-Some-name.is c.next.ensures.steps in
+    All-tail (IsMember (view c.args.value.now)) c.in-Some-name.name.now c.next.new.self
+    (subst (All (IsMember (view c.args.value.now))) left c.loop-name.invariant)

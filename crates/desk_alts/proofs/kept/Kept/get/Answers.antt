@@ -18,4 +18,6 @@ pub returns : goal.returns
 returns c =
     let long = length_masks c.self.inside.lows.items c.self.inside.highs.items c.self.invariant in
     let e = ap length c.self.view_is in
-    got c.self.inside.lows.items c.self.inside.highs.items c.args.self.now c.args.at c.index.result.now c.index-2.result.now c.self.invariant (sym c.self.view_is) (omega (arith, c.requires, long, e)) c.index.ensures c.index-2.ensures _
+    got c.self.inside.lows.items c.self.inside.highs.items c.args.self.now c.args.at
+    c.index.result.now c.index-2.result.now c.self.invariant (sym c.self.view_is)
+    (omega (arith, c.requires, long, e)) c.index.ensures c.index-2.ensures _

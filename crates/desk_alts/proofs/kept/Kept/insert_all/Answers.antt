@@ -11,10 +11,14 @@ loop-at-preserved c =
     let within : at < length other = omega (arith, c.loop-at-test.true, c.len-at-end.ensures) in
     record {
       apart = c.in_ok-insert.ensures.apart;
-      exact = adds_more c.args.self.now c.loop-at.self c.insert.new.self (IsAbove (take at other)) (IsSubset c.get.result) (IsAbove (take (at + 1) other)) c.loop-at.invariant.exact c.in_ok-insert.ensures.exact
+      exact = adds_more c.args.self.now c.loop-at.self c.insert.new.self (IsAbove (take at other))
+          (IsSubset c.get.result) (IsAbove (take (at + 1) other)) c.loop-at.invariant.exact
+          c.in_ok-insert.ensures.exact
           (above_take_more other at c.get.result within c.get.ensures);
     }
 
 pub returns-clause-exact : goal.returns-clause-exact
 returns-clause-exact c =
-    taken_all (λ (l : List Mask). Adds c.args.self.now c.loop-at.self (IsAbove l)) c.args.other.now c.loop-at.at (omega (arith, c.loop-at-test.false, c.len-at-end.ensures)) c.loop-at.invariant.exact
+    taken_all (λ (l : List Mask). Adds c.args.self.now c.loop-at.self (IsAbove l)) c.args.other.now
+    c.loop-at.at (omega (arith, c.loop-at-test.false, c.len-at-end.ensures))
+    c.loop-at.invariant.exact

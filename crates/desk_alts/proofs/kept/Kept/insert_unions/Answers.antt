@@ -16,7 +16,9 @@ loop-union-preserved c =
     let here = union_at unions at d c.loop-union-test.true in
     record {
       apart = c.in_ok-insert.ensures.apart;
-      exact = adds_more c.args.self.now c.loop-union.self c.insert.new.self (IsAbove (take at sets)) (IsSubset got) (IsAbove (take (at + 1) sets)) c.loop-union.invariant.exact c.in_ok-insert.ensures.exact
+      exact = adds_more c.args.self.now c.loop-union.self c.insert.new.self (IsAbove (take at sets))
+          (IsSubset got) (IsAbove (take (at + 1) sets)) c.loop-union.invariant.exact
+          c.in_ok-insert.ensures.exact
           (above_take_more sets at got here.0 here.1);
     }
 
@@ -24,4 +26,6 @@ pub returns-clause-exact : goal.returns-clause-exact
 returns-clause-exact c =
     let sets : List Mask = union_masks c.args.unions.now in
     let long = length-map c.args.unions.now (λ (u : Union). u.mask) in
-    taken_all (λ (l : List Mask). Adds c.args.self.now c.loop-union.self (IsAbove l)) sets c.loop-union.union-index (omega (arith, c.loop-union-test.false, long)) c.loop-union.invariant.exact
+    taken_all (λ (l : List Mask). Adds c.args.self.now c.loop-union.self (IsAbove l)) sets
+    c.loop-union.union-index (omega (arith, c.loop-union-test.false, long))
+    c.loop-union.invariant.exact

@@ -12,4 +12,6 @@ remove-requires c =
     omega (arith, c.requires, long, e)
 
 pub returns : goal.returns
-returns c = ap₂ masks c.remove.ensures.items c.remove-2.ensures.items ∙ (masks_removed c.self.inside.lows.items c.self.inside.highs.items c.args.at c.self.invariant ∙ ap (λ (xs : List Mask). remove xs c.args.at) c.self.view_is)
+returns c = ap₂ masks c.remove.ensures.items c.remove-2.ensures.items
+    ∙ (masks_removed c.self.inside.lows.items c.self.inside.highs.items c.args.at c.self.invariant
+    ∙ ap (λ (xs : List Mask). remove xs c.args.at) c.self.view_is)

@@ -3,4 +3,5 @@ use Rattle.desk_alts.specs.Masks.{IsAbove, Adds, union_masks}
 use Rattle.desk_alts.proofs.kept.Kept.unions.Given as goal
 
 abbrev pub invariant-loop-at : goal.invariant-loop-at
-invariant-loop-at l = Adds (union_masks l.initial.unions.items) (union_masks l.unions.items) (λ m. IsAbove (take l.at l.self) m × IsAbove l.other m)
+invariant-loop-at l = Adds (union_masks l.initial.unions.items) (union_masks l.unions.items)
+    (λ m. IsAbove (take l.at l.self) m × IsAbove l.other m)

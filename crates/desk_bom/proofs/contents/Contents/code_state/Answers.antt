@@ -27,7 +27,8 @@ returns-in_ok-state-in-Some c =
     record {
       owner = p;
       at = c.package_at-package.ensures;
-      is = state_at d c.args.owner p fs c.in_ok-state-in-Some.state own c.in_ok-state-in-Some.ensures;
+      is = state_at d c.args.owner p fs c.in_ok-state-in-Some.state own
+          c.in_ok-state-in-Some.ensures;
     }
 
 pub returns-in-None : goal.returns-in-None

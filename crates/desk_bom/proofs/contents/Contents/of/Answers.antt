@@ -20,14 +20,22 @@ pub invariant_of-result : goal.invariant_of-result
 invariant_of-result c =
     let is = dedup_is _ _ _ c.dedup.ensures.filtered in
     record {
-      ascend = subst Ascend (sym is) (ascend_from_sorted _ (λ x y. refl) _ (IsStrictlySortedBy-dedup total-law matches_eq-law c.sort.new.self.items c.in_ok-sort.ensures.sorted));
+      ascend = subst Ascend (sym is)
+          (ascend_from_sorted _ (λ x y. refl) _
+          (IsStrictlySortedBy-dedup total-law matches_eq-law c.sort.new.self.items
+          c.in_ok-sort.ensures.sorted));
     }
 
 pub returns : goal.returns
 returns c = λ x.
     let is = dedup_is _ _ _ c.dedup.ensures.filtered in
     let moved = c.in_ok-sort.ensures.permutation in
-    let got : c.add_tied.new.found.items ≡ contents (document_text c.args.document.now) = search rules in (
-      (λ h. subst (λ l. Contains l x) got (Contains-permutation _ _ x (IsPermutation-sym _ _ moved) (Contains-from_dedup _ _ x (subst (λ l. Contains l x) is h)))),
-      (λ h. subst (λ l. Contains l x) (sym is) (Contains-dedup laws-law same c.sort.new.self.items x (Contains-permutation _ _ x moved (subst (λ l. Contains l x) (sym got) h)))),
+    let got : c.add_tied.new.found.items ≡ contents (document_text c.args.document.now) =
+    search rules in (
+      (λ h. subst (λ l. Contains l x) got
+          (Contains-permutation _ _ x (IsPermutation-sym _ _ moved)
+          (Contains-from_dedup _ _ x (subst (λ l. Contains l x) is h)))),
+      (λ h. subst (λ l. Contains l x) (sym is)
+          (Contains-dedup laws-law same c.sort.new.self.items x
+          (Contains-permutation _ _ x moved (subst (λ l. Contains l x) (sym got) h)))),
     )

@@ -5,4 +5,5 @@ use Rattle.desk_catalogue.proofs.catalogue.Catalogue.text.Given as goal
 
 -- what is found in the rest is what is found in all
 abbrev pub invariant-loop-text : goal.invariant-loop-text
-invariant-loop-text l = find (is_text_of l.id) (drop l.text-index l.text-items) ≡ find (is_text_of l.id) l.self.texts
+invariant-loop-text l = find (is_text_of l.id) (drop l.text-index l.text-items)
+    ≡ find (is_text_of l.id) l.self.texts

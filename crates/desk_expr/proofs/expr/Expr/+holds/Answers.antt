@@ -7,7 +7,8 @@ use Rattle.desk_expr.specs.Tree.{Tree, parts_of}
 use Rattle.desk_expr.specs.Meaning.{AllHold, Holds, SomeHolds}
 use Rattle.desk_expr.proofs.expr.Expr.+holds.Goals as goal
 
-module _ (set : Term → Type 0) (parts : List Tree) (i : ℕ) (part : Tree) (inside : i < length parts) (at : part ≡ get_or parts i part) where
+module _ (set : Term → Type 0) (parts : List Tree) (i : ℕ) (part : Tree) (inside : i < length parts)
+    (at : part ≡ get_or parts i part) where
   here : drop i parts ≡ part ∷ drop (i + 1) parts
   here = drop_more parts i part inside ∙ ap (λ (t : Tree). t ∷ drop (i + 1) parts) (sym at)
 
@@ -16,24 +17,31 @@ module _ (set : Term → Type 0) (parts : List Tree) (i : ℕ) (part : Tree) (in
       → AllHold set (parts_of parts) ↔ AllHold set (parts_of (drop (i + 1) parts))
   all_more holds so_far = (
     (λ all. (subst (λ (ts : List Tree). AllHold set (parts_of ts)) here (so_far.0 all)).1),
-    (λ rest. so_far.1 (subst (λ (ts : List Tree). AllHold set (parts_of ts)) (sym here) (holds, rest))),
+    (λ rest. so_far.1 (subst (λ (ts : List Tree). AllHold set (parts_of ts)) (sym here)
+        (holds, rest))),
   )
 
   -- a part doesn't hold, so some part does if one of the others does
-  some_more : (Holds set part → ⊥) → SomeHolds set (parts_of parts) ↔ SomeHolds set (parts_of (drop i parts))
+  some_more : (Holds set part → ⊥)
+      → SomeHolds set (parts_of parts) ↔ SomeHolds set (parts_of (drop i parts))
       → SomeHolds set (parts_of parts) ↔ SomeHolds set (parts_of (drop (i + 1) parts))
   some_more fails so_far = (
-    (λ some. elim (subst (λ (ts : List Tree). SomeHolds set (parts_of ts)) here (so_far.0 some)) [ inl holds ↦ absurd (fails holds) | inr rest ↦ rest ]),
-    (λ rest. so_far.1 (subst (λ (ts : List Tree). SomeHolds set (parts_of ts)) (sym here) (inr rest))),
+    (λ some. elim (subst (λ (ts : List Tree). SomeHolds set (parts_of ts)) here (so_far.0 some))
+        [ inl holds ↦ absurd (fails holds) | inr rest ↦ rest ]),
+    (λ rest. so_far.1 (subst (λ (ts : List Tree). SomeHolds set (parts_of ts)) (sym here)
+        (inr rest))),
   )
 
 pub loop-part-preserved : goal.loop-part-preserved
 loop-part-preserved t c =
-    all_more (Contains c.args.listed.chosen.now) c.deref-part-items.result.now c.loop-part.part-index c.part-item.result c.loop-part-test.true
+    all_more (Contains c.args.listed.chosen.now) c.deref-part-items.result.now
+    c.loop-part.part-index c.part-item.result c.loop-part-test.true
     c.part-item.is (c.holds.ensures.0 c.if-not-holds.false) c.loop-part.invariant
 
 pub loop-part-2-preserved : goal.loop-part-2-preserved
 loop-part-2-preserved t c =
-    some_more (Contains c.args.listed.chosen.now) c.deref-part-items-in-Any.result.now c.loop-part-2.part-index c.part-item-in-loop-part-2.result
+    some_more (Contains c.args.listed.chosen.now) c.deref-part-items-in-Any.result.now
+    c.loop-part-2.part-index c.part-item-in-loop-part-2.result
     c.loop-part-2-test.true c.part-item-in-loop-part-2.is
-    (λ holds. false≢true (sym c.if-holds.false ∙ c.holds-in-loop-part-2.ensures.1 holds)) c.loop-part-2.invariant
+    (λ holds. false≢true (sym c.if-holds.false ∙ c.holds-in-loop-part-2.ensures.1 holds))
+    c.loop-part-2.invariant

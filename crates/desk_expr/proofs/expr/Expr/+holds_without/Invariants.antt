@@ -9,12 +9,16 @@ use Rattle.desk_expr.proofs.expr.Expr.+holds_without.Given as goal
 -- all parts hold if the bit is set and the parts from the index on hold
 abbrev pub invariant-loop-part : goal.invariant-loop-part
 invariant-loop-part l =
-    (k place : ℕ) (gone : Term) → slice_get l.candidates k ≡ Some place → slice_get l.listed.chosen.now place ≡ Some gone →
+    (k place : ℕ) (gone : Term) → slice_get l.candidates k ≡ Some place
+    → slice_get l.listed.chosen.now place ≡ Some gone →
     AllHold (Without l.listed.chosen.now gone) (parts_of l.part-items)
-    ↔ ((bit_at l.marks k ≡ 1) × AllHold (Without l.listed.chosen.now gone) (parts_of (drop l.part-index l.part-items)))
+    ↔ ((bit_at l.marks k ≡ 1) × AllHold (Without l.listed.chosen.now gone)
+    (parts_of (drop l.part-index l.part-items)))
 
 abbrev pub invariant-loop-part-2 : goal.invariant-loop-part-2
 invariant-loop-part-2 l =
-    (k place : ℕ) (gone : Term) → slice_get l.candidates k ≡ Some place → slice_get l.listed.chosen.now place ≡ Some gone →
+    (k place : ℕ) (gone : Term) → slice_get l.candidates k ≡ Some place
+    → slice_get l.listed.chosen.now place ≡ Some gone →
     SomeHolds (Without l.listed.chosen.now gone) (parts_of l.part-items)
-    ↔ ((bit_at l.marks k ≡ 1) ⊎ SomeHolds (Without l.listed.chosen.now gone) (parts_of (drop l.part-index l.part-items)))
+    ↔ ((bit_at l.marks k ≡ 1) ⊎ SomeHolds (Without l.listed.chosen.now gone)
+    (parts_of (drop l.part-index l.part-items)))

@@ -9,18 +9,26 @@ loop-next-preserved c =
     let chosen = c.args.self.chosen.now in
     elim c.if-not-is_copy.branch [
       | then-not-is_copy w ↦
-          let items : c.if-not-is_copy.candidates.items ≡ c.loop-next.candidates.items ++ c.loop-next.next ∷ [] = ap (λ v. v.items) w.candidates-is ∙ w.push.ensures.items in
-          let grown : length c.if-not-is_copy.candidates.items ≡ length c.loop-next.candidates.items + 1 = ap length items ∙ length-append c.loop-next.candidates.items (c.loop-next.next ∷ []) in
+          let items : c.if-not-is_copy.candidates.items ≡ c.loop-next.candidates.items
+          ++ c.loop-next.next ∷ [] = ap (λ v. v.items) w.candidates-is ∙ w.push.ensures.items in
+          let grown : length c.if-not-is_copy.candidates.items ≡ length c.loop-next.candidates.items
+          + 1 = ap length items ∙ length-append c.loop-next.candidates.items
+          (c.loop-next.next ∷ []) in
           record {
             onward = omega (arith, grown, c.loop-next.invariant.onward);
             within = omega (arith, c.loop-next-test.true);
-            round = subst (IsRound chosen c.args.from (c.loop-next.next + 1)) (sym items) (round_takes chosen c.args.from c.loop-next.next c.loop-next.candidates.items c.loop-next.invariant.round);
+            round = subst (IsRound chosen c.args.from (c.loop-next.next + 1)) (sym items)
+                (round_takes chosen c.args.from c.loop-next.next c.loop-next.candidates.items
+                c.loop-next.invariant.round);
           }
       | else-not-is_copy w ↦
-          let items : c.if-not-is_copy.candidates.items ≡ c.loop-next.candidates.items = ap (λ v. v.items) w.candidates-is in
+          let items : c.if-not-is_copy.candidates.items ≡ c.loop-next.candidates.items =
+          ap (λ v. v.items) w.candidates-is in
           record {
             onward = omega (arith, ap length items, c.loop-next.invariant.onward);
             within = omega (arith, c.loop-next-test.true);
-            round = subst (IsRound chosen c.args.from (c.loop-next.next + 1)) (sym items) (round_passes chosen c.args.from c.loop-next.next c.loop-next.candidates.items (c.is_copy.ensures w.if-not-is_copy.false) c.loop-next.invariant.round);
+            round = subst (IsRound chosen c.args.from (c.loop-next.next + 1)) (sym items)
+                (round_passes chosen c.args.from c.loop-next.next c.loop-next.candidates.items
+                (c.is_copy.ensures w.if-not-is_copy.false) c.loop-next.invariant.round);
           }
     ]

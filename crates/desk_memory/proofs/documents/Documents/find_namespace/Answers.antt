@@ -13,10 +13,14 @@ returns-in-Some c =
     let place = c.in-Some.entry.now.place in
     c.item_at.ensures
     ∙ (ap (λ xs. slice_get xs place) c.as_slice.ensures.value
-    ∙ row_at (has_namespace namespace) place rows (sym (c.args.self.now.placed namespace) ∙ ap (option_map (λ (entry : NamespacePlace). entry.place)) (sym c.in-Some.ensures)))
+    ∙ row_at (has_namespace namespace) place rows
+    (sym (c.args.self.now.placed namespace)
+    ∙ ap (option_map (λ (entry : NamespacePlace). entry.place)) (sym c.in-Some.ensures)))
 
 pub returns-in-None : goal.returns-in-None
 returns-in-None c =
     let namespace = c.args.namespace.now in
     let rows = c.args.self.now.rows.rows.items in
-    sym (no_row (has_namespace namespace) 0 rows (sym (c.args.self.now.placed namespace) ∙ ap (option_map (λ (entry : NamespacePlace). entry.place)) (sym c.in-None.ensures)))
+    sym (no_row (has_namespace namespace) 0 rows
+    (sym (c.args.self.now.placed namespace)
+    ∙ ap (option_map (λ (entry : NamespacePlace). entry.place)) (sym c.in-None.ensures)))

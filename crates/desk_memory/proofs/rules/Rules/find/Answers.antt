@@ -18,7 +18,9 @@ returns-in-Some c =
     let found =
     c.item_at.ensures
     ∙ (ap (λ xs. slice_get xs place) c.as_slice.ensures.value
-    ∙ row_at (is_rule_row revision term form) place rows (sym (c.args.self.now.placed revision term form) ∙ ap (option_map (λ (entry : RulePlace). entry.place)) (sym c.in-Some.ensures))) in
+    ∙ row_at (is_rule_row revision term form) place rows
+    (sym (c.args.self.now.placed revision term form)
+    ∙ ap (option_map (λ (entry : RulePlace). entry.place)) (sym c.in-Some.ensures))) in
     ap (option_map rule_of) found ∙ rule_found revision term form rows
 
 pub returns-in-None : goal.returns-in-None
@@ -27,5 +29,7 @@ returns-in-None c =
     let term = c.args.term.now in
     let form = c.args.form.now in
     let rows = c.args.self.now.rows.items in
-    let none = no_row (is_rule_row revision term form) 0 rows (sym (c.args.self.now.placed revision term form) ∙ ap (option_map (λ (entry : RulePlace). entry.place)) (sym c.in-None.ensures)) in
+    let none = no_row (is_rule_row revision term form) 0 rows
+    (sym (c.args.self.now.placed revision term form)
+    ∙ ap (option_map (λ (entry : RulePlace). entry.place)) (sym c.in-None.ensures)) in
     ap (option_map rule_of) (sym none) ∙ rule_found revision term form rows

@@ -12,4 +12,5 @@ returns-clause-found c = λ h t held.
     ∙ (terms_read c.as_slice.result.now
     ∙ ap (map (λ (row : ChoiceRow). row.term))
     (ap (map (λ row. row.now)) c.as_slice.ensures.value
-    ∙ (c.in_ok-rows.ensures ∙ ap (λ (u : Tables). filter (is_choice_of c.args.release.now c.args.document c.args.id.now) u.choice) held.0)))
+    ∙ (c.in_ok-rows.ensures ∙ ap (λ (u : Tables). filter
+    (is_choice_of c.args.release.now c.args.document c.args.id.now) u.choice) held.0)))

@@ -26,14 +26,24 @@ returns-clause-wrote c =
       holds = λ h t held follows. (
         c.in_ok-write.ensures.ok ∙ ap (applied c.args.change) (same ∙ held.0),
         c.take.ensures (applied c.args.change t)
-            (subst (λ (k : Tallies). LeadsTo c.in-Some.step k (applied c.args.change t)) (sym c.write.ensures.tallies)
-            (subst (λ (u : Tables). LeadsTo c.in-Some.step planned.tallies (applied c.args.change u)) held.0
+            (subst (λ (k : Tallies). LeadsTo c.in-Some.step k (applied c.args.change t))
+            (sym c.write.ensures.tallies)
+            (subst (λ (u : Tables). LeadsTo c.in-Some.step planned.tallies
+            (applied c.args.change u)) held.0
             (leads
-            (subst (λ (u : Tables). Ascends release_below u.releases) (c.in_ok-write.ensures.ok ∙ ap (applied c.args.change) same) (ascends_from written.releases.rows.items written.releases.ascending))
+            (subst (λ (u : Tables). Ascends release_below u.releases)
+            (c.in_ok-write.ensures.ok ∙ ap (applied c.args.change) same)
+            (ascends_from written.releases.rows.items written.releases.ascending))
             (subst (λ (u : Tables). AreKept before.tallies u) (sym held.0) held.1)))),
-        subst (λ all. AreHolders all (applied c.args.change t)) (sym (c.in_ok-write.ensures.holders ∙ ap (λ (u : Tables). holders_after c.args.change u (rows_in planned.choices.holders.blocks.items)) (same ∙ held.0)))
-            (holders_kept c.args.change t (rows_in planned.choices.holders.blocks.items) (subst (λ (u : Tables). Ascends release_below u.releases) (same ∙ held.0) (ascends_from planned.releases.rows.items planned.releases.ascending)) follows
-            (subst (λ (s : MemStore). AreHolders (rows_in s.choices.holders.blocks.items) t) (sym c.plan.ensures.rest) held.2)),
+        subst (λ all. AreHolders all (applied c.args.change t))
+            (sym (c.in_ok-write.ensures.holders
+            ∙ ap (λ (u : Tables). holders_after c.args.change u
+            (rows_in planned.choices.holders.blocks.items)) (same ∙ held.0)))
+            (holders_kept c.args.change t (rows_in planned.choices.holders.blocks.items)
+            (subst (λ (u : Tables). Ascends release_below u.releases) (same ∙ held.0)
+            (ascends_from planned.releases.rows.items planned.releases.ascending)) follows
+            (subst (λ (s : MemStore). AreHolders (rows_in s.choices.holders.blocks.items) t)
+            (sym c.plan.ensures.rest) held.2)),
       );
       leaves = λ h t held follows x left. absurd left;
     }

@@ -8,4 +8,6 @@ use Rattle.desk_memory_rows.proofs.choices.Choices.holder.Goals as goal
 pub returns : goal.returns
 returns c = λ t places held.
     let holders = c.args.self.now.holders in
-    ap (option_map (λ (holder : Holder). holder.release)) c.find.ensures ∙ first_holder t (rows_in holders.blocks.items) places held c.args.document c.args.id.now holders.ascending
+    ap (option_map (λ (holder : Holder). holder.release)) c.find.ensures
+    ∙ first_holder t (rows_in holders.blocks.items) places held c.args.document c.args.id.now
+    holders.ascending

@@ -10,5 +10,6 @@ pub returns-clause-held : goal.returns-clause-held
 returns-clause-held c = λ t held same.
     let all = rows_in c.args.self.now.holders.blocks.items in
     c.drop_holders.ensures
-    ∙ (ap (λ rows. leaving c.args.place (filter (is_choice_in c.args.release.now) rows) all) (sym same)
+    ∙ (ap (λ rows. leaving c.args.place (filter (is_choice_in c.args.release.now) rows) all)
+    (sym same)
     ∙ leaves_all t all held c.args.release.now c.args.place)

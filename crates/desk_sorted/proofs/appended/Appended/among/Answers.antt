@@ -13,6 +13,8 @@ returns g c =
     let items = c.args.self.now.rows.items in
     let low = c.run_of-run.result.start in
     let high = c.run_of-run.result.end in
-    let run = subst (λ xs. IsRun side xs low high) c.as_slice-2.ensures.value c.run_of-run.ensures in
+    let run = subst (λ xs. IsRun side xs low high) c.as_slice-2.ensures.value
+    c.run_of-run.ensures in
     ap (λ xs. filter at (take (high - low) (drop low xs))) c.deref.ensures.value
-    ∙ (ap (filter at) (run_found at side (g.met.K.Sought.meets key) items low high run) ∙ within at at (λ x e. e) items)
+    ∙ (ap (filter at) (run_found at side (g.met.K.Sought.meets key) items low high run)
+    ∙ within at at (λ x e. e) items)

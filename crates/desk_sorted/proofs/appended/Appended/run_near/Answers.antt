@@ -14,4 +14,5 @@ returns-then-self-clause-found g c =
     let low = c.run_near.result.start in
     let high = c.run_near.result.end in
     let run = subst (λ xs. IsRun side xs low high) c.as_slice.ensures.value c.run_near.ensures in
-    ap (filter at) (run_found at side (g.met.K.Sought.meets key) items low high run) ∙ within at at (λ x e. e) items
+    ap (filter at) (run_found at side (g.met.K.Sought.meets key) items low high run)
+    ∙ within at at (λ x e. e) items

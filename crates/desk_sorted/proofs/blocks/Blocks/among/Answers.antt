@@ -15,8 +15,10 @@ returns-clause-found g c =
     let side = g.K.Sought.side key in
     let low = c.blocks_of-run.result.start in
     let high = c.blocks_of-run.result.end in
-    let run = subst (λ (bs : List (Vec g.row.R.Denot Global)). IsBlockRun side bs low high) c.as_slice.ensures.value c.blocks_of-run.ensures in
-    ap (λ (bs : List (Vec g.row.R.Denot Global)). filter at (rows_in (take (high - low) (drop low bs)))) c.deref.ensures.value
+    let run = subst (λ (bs : List (Vec g.row.R.Denot Global)). IsBlockRun side bs low high)
+    c.as_slice.ensures.value c.blocks_of-run.ensures in
+    ap (λ (bs : List (Vec g.row.R.Denot Global)). filter at
+    (rows_in (take (high - low) (drop low bs)))) c.deref.ensures.value
     ∙ found_in_run at side (g.met.K.Sought.meets key) c.args.self.now.blocks.items low high run
 
 pub returns-clause-ascending : goal.returns-clause-ascending
@@ -24,5 +26,7 @@ returns-clause-ascending g c =
     let below = below_by g.R.Keyed.order in
     let low = c.blocks_of-run.result.start in
     let high = c.blocks_of-run.result.end in
-    ap (λ (bs : List (Vec g.row.R.Denot Global)). ascends below (rows_in (take (high - low) (drop low bs)))) c.deref.ensures.value
-    ∙ ascends_take below (high - low) (drop low c.args.self.now.blocks.items) (ascends_drop below low c.args.self.now.blocks.items c.args.self.now.ascending)
+    ap (λ (bs : List (Vec g.row.R.Denot Global)). ascends below
+    (rows_in (take (high - low) (drop low bs)))) c.deref.ensures.value
+    ∙ ascends_take below (high - low) (drop low c.args.self.now.blocks.items)
+    (ascends_drop below low c.args.self.now.blocks.items c.args.self.now.ascending)

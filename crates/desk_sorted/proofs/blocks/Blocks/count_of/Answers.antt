@@ -16,24 +16,35 @@ loop-block-init g c = record {
 
 pub run_in-requires : goal.run_in-requires
 run_in-requires g c =
-    ap (ascends (below_by g.R.Keyed.order)) (c.as_slice.ensures.value ∙ ap (λ (b : Vec g.row.R.Denot Global). b.items) c.block-item.is)
-    ∙ block_ascends (below_by g.R.Keyed.order) c.among-block-items.result.now c.loop-block.block-index c.block-item.result c.loop-block-test.true c.loop-block.invariant.ascending
+    ap (ascends (below_by g.R.Keyed.order))
+    (c.as_slice.ensures.value ∙ ap (λ (b : Vec g.row.R.Denot Global). b.items) c.block-item.is)
+    ∙ block_ascends (below_by g.R.Keyed.order) c.among-block-items.result.now
+    c.loop-block.block-index c.block-item.result c.loop-block-test.true
+    c.loop-block.invariant.ascending
 
 pub overflow_add-count : goal.overflow_add-count
 overflow_add-count g c =
     let at = g.K.Sought.is_at c.args.key.now in
-    let here = c.run_in.ensures ∙ ap (filter at) (c.as_slice.ensures.value ∙ ap (λ (b : Vec g.row.R.Denot Global). b.items) c.block-item.is) in
+    let here = c.run_in.ensures ∙ ap (filter at)
+    (c.as_slice.ensures.value ∙ ap (λ (b : Vec g.row.R.Denot Global). b.items) c.block-item.is) in
     let all = length (filter at (rows_in c.args.self.now.blocks.items)) in
-    let more = more_found at c.among-block-items.result.now c.loop-block.block-index c.block-item.result c.run_in.result.now c.loop-block.count all c.loop-block-test.true here c.loop-block.invariant.found in
+    let more = more_found at c.among-block-items.result.now c.loop-block.block-index
+    c.block-item.result c.run_in.result.now c.loop-block.count all c.loop-block-test.true here
+    c.loop-block.invariant.found in
     let less = no_more at (rows_in c.args.self.now.blocks.items) in
     omega (arith, more, less, c.args.self.now.fits)
 
 pub loop-block-preserved : goal.loop-block-preserved
 loop-block-preserved g c =
     let at = g.K.Sought.is_at c.args.key.now in
-    let here = c.run_in.ensures ∙ ap (filter at) (c.as_slice.ensures.value ∙ ap (λ (b : Vec g.row.R.Denot Global). b.items) c.block-item.is) in
+    let here = c.run_in.ensures ∙ ap (filter at)
+    (c.as_slice.ensures.value ∙ ap (λ (b : Vec g.row.R.Denot Global). b.items) c.block-item.is) in
     let all = length (filter at (rows_in c.args.self.now.blocks.items)) in
     record {
-      found = more_found at c.among-block-items.result.now c.loop-block.block-index c.block-item.result c.run_in.result.now c.loop-block.count all c.loop-block-test.true here c.loop-block.invariant.found;
-      ascending = rest_ascends (below_by g.R.Keyed.order) c.among-block-items.result.now c.loop-block.block-index c.block-item.result c.loop-block-test.true c.loop-block.invariant.ascending;
+      found = more_found at c.among-block-items.result.now c.loop-block.block-index
+          c.block-item.result c.run_in.result.now c.loop-block.count all c.loop-block-test.true here
+          c.loop-block.invariant.found;
+      ascending = rest_ascends (below_by g.R.Keyed.order) c.among-block-items.result.now
+          c.loop-block.block-index c.block-item.result c.loop-block-test.true
+          c.loop-block.invariant.ascending;
     }

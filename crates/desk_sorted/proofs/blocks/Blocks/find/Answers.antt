@@ -10,20 +10,28 @@ use Rattle.desk_sorted.proofs.blocks.Blocks.find.Goals as goal
 
 pub loop-block-init : goal.loop-block-init
 loop-block-init g c = record {
-  found = find_same (g.K.Sought.is_at c.args.key.now) (rows_in c.among-block-items.result.now) (rows_in c.args.self.now.blocks.items) c.among-block-items.ensures.found;
+  found = find_same (g.K.Sought.is_at c.args.key.now) (rows_in c.among-block-items.result.now)
+      (rows_in c.args.self.now.blocks.items) c.among-block-items.ensures.found;
   ascending = c.among-block-items.ensures.ascending;
 }
 
 pub run_in-requires : goal.run_in-requires
 run_in-requires g c =
-    ap (ascends (below_by g.R.Keyed.order)) (c.as_slice.ensures.value ∙ ap (λ (b : Vec g.row.R.Denot Global). b.items) c.block-item.is)
-    ∙ block_ascends (below_by g.R.Keyed.order) c.among-block-items.result.now c.loop-block.block-index c.block-item.result c.loop-block-test.true c.loop-block.invariant.ascending
+    ap (ascends (below_by g.R.Keyed.order))
+    (c.as_slice.ensures.value ∙ ap (λ (b : Vec g.row.R.Denot Global). b.items) c.block-item.is)
+    ∙ block_ascends (below_by g.R.Keyed.order) c.among-block-items.result.now
+    c.loop-block.block-index c.block-item.result c.loop-block-test.true
+    c.loop-block.invariant.ascending
 
 pub returns-in-Some : goal.returns-in-Some
 returns-in-Some g c =
     let at = g.K.Sought.is_at c.args.key.now in
-    find_here at c.among-block-items.result.now c.loop-block.block-index c.block-item.result c.in-Some.row.now c.loop-block-test.true
-    (c.in-Some.ensures.value ∙ (ap (λ xs. slice_get xs 0) (c.run_in.ensures ∙ ap (filter at) (c.as_slice.ensures.value ∙ ap (λ (b : Vec g.row.R.Denot Global). b.items) c.block-item.is)) ∙ first_found at _))
+    find_here at c.among-block-items.result.now c.loop-block.block-index c.block-item.result
+    c.in-Some.row.now c.loop-block-test.true
+    (c.in-Some.ensures.value ∙ (ap (λ xs. slice_get xs 0)
+    (c.run_in.ensures ∙ ap (filter at)
+    (c.as_slice.ensures.value ∙ ap (λ (b : Vec g.row.R.Denot Global). b.items) c.block-item.is))
+    ∙ first_found at _))
     ∙ c.loop-block.invariant.found
 
 pub loop-block-preserved : goal.loop-block-preserved
@@ -31,8 +39,14 @@ loop-block-preserved g c =
     let at = g.K.Sought.is_at c.args.key.now in
     record {
       found =
-          find_later at c.among-block-items.result.now c.loop-block.block-index c.block-item.result c.loop-block-test.true
-          (c.in_default.ensures.value ∙ (ap (λ xs. slice_get xs 0) (c.run_in.ensures ∙ ap (filter at) (c.as_slice.ensures.value ∙ ap (λ (b : Vec g.row.R.Denot Global). b.items) c.block-item.is)) ∙ first_found at _))
+          find_later at c.among-block-items.result.now c.loop-block.block-index c.block-item.result
+          c.loop-block-test.true
+          (c.in_default.ensures.value ∙ (ap (λ xs. slice_get xs 0)
+          (c.run_in.ensures ∙ ap (filter at)
+          (c.as_slice.ensures.value ∙ ap (λ (b : Vec g.row.R.Denot Global). b.items)
+          c.block-item.is)) ∙ first_found at _))
           ∙ c.loop-block.invariant.found;
-      ascending = rest_ascends (below_by g.R.Keyed.order) c.among-block-items.result.now c.loop-block.block-index c.block-item.result c.loop-block-test.true c.loop-block.invariant.ascending;
+      ascending = rest_ascends (below_by g.R.Keyed.order) c.among-block-items.result.now
+          c.loop-block.block-index c.block-item.result c.loop-block-test.true
+          c.loop-block.invariant.ascending;
     }

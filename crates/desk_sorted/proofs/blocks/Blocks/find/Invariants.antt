@@ -7,6 +7,8 @@ use Rattle.desk_sorted.proofs.blocks.Blocks.find.Given as goal
 
 abbrev pub invariant-loop-block : goal.invariant-loop-block
 invariant-loop-block g l = record {
-  found : find (g.K.Sought.is_at l.key) (rows_in (drop l.block-index l.block-items)) ≡ find (g.K.Sought.is_at l.key) (rows_in l.self.blocks.items);
-  ascending : ascends (below_by g.R.Keyed.order) (rows_in (drop l.block-index l.block-items)) ≡ true;
+  found : find (g.K.Sought.is_at l.key) (rows_in (drop l.block-index l.block-items))
+      ≡ find (g.K.Sought.is_at l.key) (rows_in l.self.blocks.items);
+  ascending : ascends (below_by g.R.Keyed.order) (rows_in (drop l.block-index l.block-items))
+      ≡ true;
 }

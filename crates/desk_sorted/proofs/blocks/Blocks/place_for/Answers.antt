@@ -16,11 +16,17 @@ returns-in-Some-clause-place g c =
     let first = c.in-Some.first.now in
     let all = sym c.are_at.ensures ∙ c.if-are_at.true in
     if_ok c.open.result
-    (λ at place. all_between g.R.Keyed.order (order_of g.met.R.Keyed.total) (g.K.Sought.side key) (g.met.K.Sought.splits key) (g.K.Sought.is_at key) (g.met.K.Sought.meets key) first (rows_in (take at blocks)) (rows_in (drop (suc at) blocks)) more (first_at (g.K.Sought.is_at key) more first c.in-Some.ensures.value all) all place)
+    (λ at place. all_between g.R.Keyed.order (order_of g.met.R.Keyed.total) (g.K.Sought.side key)
+    (g.met.K.Sought.splits key) (g.K.Sought.is_at key) (g.met.K.Sought.meets key) first
+    (rows_in (take at blocks)) (rows_in (drop (suc at) blocks)) more
+    (first_at (g.K.Sought.is_at key) more first c.in-Some.ensures.value all) all place)
     c.open.ensures.place
 
 pub returns-in_ok-join-in-Some-2-clause-place : goal.returns-in_ok-join-in-Some-2-clause-place
 returns-in_ok-join-in-Some-2-clause-place g c =
     let key = c.args.key.now in
-    let one : length c.join.new.blocks.items ≤ 1 = omega (arith, c.join.new.blocks.ok.0, c.in_ok-join-in-Some-2.ensures.one) in
-    between_none (below_by g.R.Keyed.order) _ c.args.more.now (ap (λ (l : List (Vec g.row.R.Denot Global)). filter (λ row. not (g.K.Sought.is_at key row)) (rows_in l)) (drop_all 1 c.join.new.blocks.items one))
+    let one : length c.join.new.blocks.items ≤ 1 =
+    omega (arith, c.join.new.blocks.ok.0, c.in_ok-join-in-Some-2.ensures.one) in
+    between_none (below_by g.R.Keyed.order) _ c.args.more.now
+    (ap (λ (l : List (Vec g.row.R.Denot Global)). filter (λ row. not (g.K.Sought.is_at key row))
+    (rows_in l)) (drop_all 1 c.join.new.blocks.items one))

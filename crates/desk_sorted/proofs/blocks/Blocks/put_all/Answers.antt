@@ -7,4 +7,5 @@ use Rattle.desk_sorted.proofs.blocks.Blocks.put_all.Goals as goal
 
 pub returns : goal.returns
 returns g c =
-    c.replace.ensures ∙ ap (put_all (below_by g.R.Keyed.order) c.args.more.items) (filter-true (rows_in c.args.self.now.blocks.items))
+    c.replace.ensures ∙ ap (put_all (below_by g.R.Keyed.order) c.args.more.items)
+    (filter-true (rows_in c.args.self.now.blocks.items))

@@ -7,6 +7,9 @@ use Rattle.desk_sorted.proofs.blocks.Blocks.run.Given as goal
 
 abbrev pub invariant-loop-block : goal.invariant-loop-block
 invariant-loop-block g l = record {
-  found : map (λ row. row.now) l.found.items ++ filter (g.K.Sought.is_at l.key) (rows_in (drop l.block-index l.block-items)) ≡ filter (g.K.Sought.is_at l.key) (rows_in l.self.blocks.items);
-  ascending : ascends (below_by g.R.Keyed.order) (rows_in (drop l.block-index l.block-items)) ≡ true;
+  found : map (λ row. row.now) l.found.items
+      ++ filter (g.K.Sought.is_at l.key) (rows_in (drop l.block-index l.block-items))
+      ≡ filter (g.K.Sought.is_at l.key) (rows_in l.self.blocks.items);
+  ascending : ascends (below_by g.R.Keyed.order) (rows_in (drop l.block-index l.block-items))
+      ≡ true;
 }

@@ -7,4 +7,8 @@ use Rattle.desk_sorted.proofs.sorted.Sorted.put.Goals as goal
 pub invariant_of-self : goal.invariant_of-self
 invariant_of-self g c =
     let below = below_by g.R.Keyed.order in
-    record { ascending = ap (ascends below) c.put_row.ensures.items ∙ ascends-put below (order_of g.met.R.Keyed.total) c.args.row c.args.self.now.rows.items c.args.self.now.ascending }
+    record {
+      ascending = ap (ascends below) c.put_row.ensures.items
+          ∙ ascends-put below (order_of g.met.R.Keyed.total) c.args.row c.args.self.now.rows.items
+          c.args.self.now.ascending;
+    }

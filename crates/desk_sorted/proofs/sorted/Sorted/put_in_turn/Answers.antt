@@ -8,6 +8,8 @@ pub loop-row-preserved : goal.loop-row-preserved
 loop-row-preserved g c =
     let below = below_by g.R.Keyed.order in
     record {
-      items = c.put.ensures.items ∙ (ap (put below c.in-Some.row) c.loop-row.invariant.items ∙ sym (put_in_turn-push below c.loop-row.yielded c.in-Some.row c.args.self.now.rows.items));
+      items = c.put.ensures.items ∙ (ap (put below c.in-Some.row) c.loop-row.invariant.items
+          ∙ sym (put_in_turn-push below c.loop-row.yielded c.in-Some.row
+          c.args.self.now.rows.items));
       room = search rules;
     }

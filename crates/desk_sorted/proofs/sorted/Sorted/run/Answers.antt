@@ -10,4 +10,6 @@ returns g c =
     let low = c.run_of-run.result.start in
     let high = c.run_of-run.result.end in
     let run = subst (λ xs. IsRun side xs low high) c.as_slice.ensures.value c.run_of-run.ensures in
-    ap (λ xs. take (high - low) (drop low xs)) c.deref.ensures.value ∙ run_found (g.K.Sought.is_at key) side (g.met.K.Sought.meets key) c.args.self.now.rows.items low high run
+    ap (λ xs. take (high - low) (drop low xs)) c.deref.ensures.value
+    ∙ run_found (g.K.Sought.is_at key) side (g.met.K.Sought.meets key) c.args.self.now.rows.items
+    low high run

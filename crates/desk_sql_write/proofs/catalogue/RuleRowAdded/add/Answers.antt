@@ -8,8 +8,12 @@ use Rattle.desk_sql_write.proofs.catalogue.RuleRowAdded.add.Goals as goal
 
 pub returns-clause-adds : goal.returns-clause-adds
 returns-clause-adds g c =
-    rule_added c.args.self.now (state g.S.Store c.args.tx.now.conn.now) (state g.S.Store c.execute.new.tx.conn.now) c.execute.result
-    (rw c.rule_values.ensures at c.execute.ensures.ran) (rw c.rule_values.ensures at c.execute.ensures.into) c.execute.ensures.survives
+    rule_added c.args.self.now (state g.S.Store c.args.tx.now.conn.now)
+    (state g.S.Store c.execute.new.tx.conn.now) c.execute.result
+    (rw c.rule_values.ensures at c.execute.ensures.ran)
+    (rw c.rule_values.ensures at c.execute.ensures.into) c.execute.ensures.survives
 
 pub returns-in_err-codes-clause-adds : goal.returns-in_err-codes-clause-adds
-returns-in_err-codes-clause-adds g c = memory_turns (λ rows. rows) (with_rows 2 (rule_cells c.args.self.now ∷ [])) 1 (state g.S.Store c.args.tx.now.conn.now) c.from_residual.result (search rules)
+returns-in_err-codes-clause-adds g c = memory_turns (λ rows. rows)
+    (with_rows 2 (rule_cells c.args.self.now ∷ [])) 1 (state g.S.Store c.args.tx.now.conn.now)
+    c.from_residual.result (search rules)

@@ -4,5 +4,7 @@ use Rattle.desk_sql_write.proofs.duty.DutyRowAddedInEights.add_one.Goals as goal
 
 pub returns-clause-adds : goal.returns-clause-adds
 returns-clause-adds g c =
-    duty_added c.args.self.now (state g.S.Store c.args.tx.now.conn.now) (state g.S.Store c.execute.new.tx.conn.now) c.execute.result
-    (rw c.duty_values.ensures at c.execute.ensures.ran) (rw c.duty_values.ensures at c.execute.ensures.into) c.execute.ensures.survives
+    duty_added c.args.self.now (state g.S.Store c.args.tx.now.conn.now)
+    (state g.S.Store c.execute.new.tx.conn.now) c.execute.result
+    (rw c.duty_values.ensures at c.execute.ensures.ran)
+    (rw c.duty_values.ensures at c.execute.ensures.into) c.execute.ensures.survives

@@ -8,8 +8,13 @@ use Rattle.desk_sql_write.proofs.release.FrozenRowAddedInEights.add_eight.Goals 
 
 pub returns-clause-adds : goal.returns-clause-adds
 returns-clause-adds g c =
-    frozen_terms_added c.args.rows.now c.requires (state g.S.Store c.args.tx.now.conn.now) (state g.S.Store c.execute.new.tx.conn.now) c.execute.result
-    (rw (c.as_slice.ensures.value, c.in_ok-values.ensures) at c.execute.ensures.ran) (rw (c.as_slice.ensures.value, c.in_ok-values.ensures) at c.execute.ensures.into) c.execute.ensures.survives
+    frozen_terms_added c.args.rows.now c.requires (state g.S.Store c.args.tx.now.conn.now)
+    (state g.S.Store c.execute.new.tx.conn.now) c.execute.result
+    (rw (c.as_slice.ensures.value, c.in_ok-values.ensures) at c.execute.ensures.ran)
+    (rw (c.as_slice.ensures.value, c.in_ok-values.ensures) at c.execute.ensures.into)
+    c.execute.ensures.survives
 
 pub returns-in_err-values-clause-adds : goal.returns-in_err-values-clause-adds
-returns-in_err-values-clause-adds g c = memory_turns (λ rows. rows) (with_rows 21 (map frozen_cells c.args.rows.now)) (length c.args.rows.now) (state g.S.Store c.args.tx.now.conn.now) c.from_residual.result (search rules)
+returns-in_err-values-clause-adds g c = memory_turns (λ rows. rows)
+    (with_rows 21 (map frozen_cells c.args.rows.now)) (length c.args.rows.now)
+    (state g.S.Store c.args.tx.now.conn.now) c.from_residual.result (search rules)

@@ -8,5 +8,7 @@ use Rattle.desk_store.proofs.adoptions.Adoptions.adopt.Goals as goal
 pub returns-clause-references : goal.returns-clause-references
 returns-clause-references c = λ other.
     let old = c.args.self.now.references in
-    btree_set_updates_text (string_bytes c.in_ok-key.key) old c.insert.new.self true c.in_ok-insert.ensures.updates other
-    ∙ (ap (λ text. cond (bytes_eq text other) true (contains_text old other)) c.in_ok-key.ensures.ok ∙ or_is (bytes_eq c.args.reference.now other) (contains_text old other))
+    btree_set_updates_text (string_bytes c.in_ok-key.key) old c.insert.new.self true
+    c.in_ok-insert.ensures.updates other
+    ∙ (ap (λ text. cond (bytes_eq text other) true (contains_text old other)) c.in_ok-key.ensures.ok
+    ∙ or_is (bytes_eq c.args.reference.now other) (contains_text old other))

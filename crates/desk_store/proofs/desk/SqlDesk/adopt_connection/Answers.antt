@@ -9,10 +9,13 @@ returns-in-Ok-clause-rows g c = λ w right honest t held forms.
     let old = state g.S.Store c.args.conn in
     let new = state g.S.Store c.examine_desk.new.conn in
     let clean = rw c.over.ensures.same at honest in
-    c.over.ensures.holds t (c.in-Ok.ensures.known w right clean t held forms) (c.in-Ok.ensures.kept clean t held) ((kept old new c.in-Ok.ensures.stayed.0).spared.holds t held)
+    c.over.ensures.holds t (c.in-Ok.ensures.known w right clean t held forms)
+    (c.in-Ok.ensures.kept clean t held)
+    ((kept old new c.in-Ok.ensures.stayed.0).spared.holds t held)
 
 pub returns-in-Ok-clause-holds : goal.returns-in-Ok-clause-holds
-returns-in-Ok-clause-holds g c = λ w right honest h ok held. returns-in-Ok-clause-rows g c w right honest (tables w h) held (history_forms w h)
+returns-in-Ok-clause-holds g c = λ w right honest h ok held. returns-in-Ok-clause-rows g c w right
+    honest (tables w h) held (history_forms w h)
 
 pub returns-in-Err-clause-adopts : goal.returns-in-Err-clause-adopts
 returns-in-Err-clause-adopts g c = c.in-Err.ensures.sound

@@ -12,11 +12,14 @@ returns-in-Ok-clause-empty g c =
       is_open = λ clean. rw same (founded (rw same at clean)).is_open;
       holds = λ clean w.
           let it = founded (rw same at clean) in
-          c.over.ensures.holds (tables w []) (rw c.new-forms.ensures refl) (c.new-tallies.ensures (tables w []) refl refl) (λ _ _. record { holds = it.holds; settled = it.settled });
+          c.over.ensures.holds (tables w []) (rw c.new-forms.ensures refl)
+          (c.new-tallies.ensures (tables w []) refl refl)
+          (λ _ _. record { holds = it.holds; settled = it.settled });
       leaves = λ clean x left w.
           let it = founded (rw same at clean) in (
             (state g.S.Store c.create_tables.new.conn).now,
             it.holds,
-            c.in-Ok.ensures.stop it.is_open x (rw same at left) ∙ ap (λ (db : Database). db.trees) it.settled,
+            c.in-Ok.ensures.stop it.is_open x (rw same at left)
+                ∙ ap (λ (db : Database). db.trees) it.settled,
           );
     }

@@ -12,6 +12,9 @@ pub returns-clause-found : goal.returns-clause-found
 returns-clause-found g c =
     let before = c.args.self.now.desk.store in
     let after = c.idle_documents.new.store in
-    found_by_all {Left = Trees} AreRight (λ numbers t. numbers.items ≡ idle_found t c.args.release.now)
-    (tallied before.found before.tallies (known_by before.counts before.forms) (seen_of (state g.S.Store before.conn)))
-    (tallied after.found after.tallies (known_by after.counts after.forms) (seen_of (state g.S.Store after.conn))) c.idle_documents.result c.idle_documents.ensures.found
+    found_by_all {Left = Trees} AreRight
+    (λ numbers t. numbers.items ≡ idle_found t c.args.release.now)
+    (tallied before.found before.tallies (known_by before.counts before.forms)
+    (seen_of (state g.S.Store before.conn)))
+    (tallied after.found after.tallies (known_by after.counts after.forms)
+    (seen_of (state g.S.Store after.conn))) c.idle_documents.result c.idle_documents.ensures.found

@@ -13,6 +13,10 @@ pub returns-clause-found : goal.returns-clause-found
 returns-clause-found g c =
     let before = c.args.self.now.desk.store in
     let after = c.sole_choices.new.store in
-    found_by_each {Left = Trees} AreRight (λ found w t. result_map_both (λ choices. choices.items) (λ refusal. refusal) found ≡ sole_choices_found w t c.args.release.now)
-    (tallied before.found before.tallies (known_by before.counts before.forms) (seen_of (state g.S.Store before.conn)))
-    (tallied after.found after.tallies (known_by after.counts after.forms) (seen_of (state g.S.Store after.conn))) c.sole_choices.result c.sole_choices.ensures.found
+    found_by_each {Left = Trees} AreRight
+    (λ found w t. result_map_both (λ choices. choices.items) (λ refusal. refusal) found
+    ≡ sole_choices_found w t c.args.release.now)
+    (tallied before.found before.tallies (known_by before.counts before.forms)
+    (seen_of (state g.S.Store before.conn)))
+    (tallied after.found after.tallies (known_by after.counts after.forms)
+    (seen_of (state g.S.Store after.conn))) c.sole_choices.result c.sole_choices.ensures.found

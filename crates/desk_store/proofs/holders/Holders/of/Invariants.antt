@@ -4,4 +4,5 @@ use Rattle.desk_store.specs.Holding.{AreHoldersOf}
 use Rattle.desk_store.proofs.holders.Holders.of.Given as goal
 
 abbrev pub invariant-loop-row : goal.invariant-loop-row
-invariant-loop-row l = AreHoldersOf l.releases (take l.row-index l.choices) (rows_in l.rows.blocks.items)
+invariant-loop-row l = AreHoldersOf l.releases (take l.row-index l.choices)
+    (rows_in l.rows.blocks.items)

@@ -6,7 +6,8 @@ use Rattle.desk_store.proofs.last.Last.keep_rule.Goals as goal
 pub returns-in_ok-copy_of-clause-ok : goal.returns-in_ok-copy_of-clause-ok
 returns-in_ok-copy_of-clause-ok c = λ t term form is are. record {
   document = are.document;
-  rule = rw c.in_ok-copy_of.ensures (rule_is_own (rules_found t) term form c.in-Some.rule (sym is ∙ c.in-Some.is));
+  rule = rw c.in_ok-copy_of.ensures
+      (rule_is_own (rules_found t) term form c.in-Some.rule (sym is ∙ c.in-Some.is));
   conclusions = are.conclusions;
   choices = are.choices;
 }

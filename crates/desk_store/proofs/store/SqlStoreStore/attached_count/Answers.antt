@@ -5,4 +5,5 @@ use Rattle.desk_store.proofs.store.SqlStoreStore.attached_count.Goals as goal
 pub returns : goal.returns
 returns g c =
     let self = c.args.self.now in
-    finds g.S.Store self.found self.tallies (known_by self.counts self.forms) self.conn c.attached_count.new.conn c.attached_count.result c.attached_count.ensures
+    finds g.S.Store self.found self.tallies (known_by self.counts self.forms) self.conn
+    c.attached_count.new.conn c.attached_count.result c.attached_count.ensures

@@ -6,4 +6,6 @@ use Rattle.desk_store.proofs.store.SqlStoreStore.catalogue_text.Goals as goal
 pub returns : goal.returns
 returns g c =
     let self = c.args.self.now in
-    finds_so g.S.Store self.found self.tallies (known_by self.counts self.forms) self.conn c.catalogue_text.new.conn c.catalogue_text.result c.catalogue_text.ensures (λ t. Unit {0}) _ (λ t same any. any) (λ x t same is. is (ap (λ k. k.revisions) same))
+    finds_so g.S.Store self.found self.tallies (known_by self.counts self.forms) self.conn
+    c.catalogue_text.new.conn c.catalogue_text.result c.catalogue_text.ensures (λ t. Unit {0}) _
+    (λ t same any. any) (λ x t same is. is (ap (λ k. k.revisions) same))

@@ -5,4 +5,5 @@ use Rattle.desk_store.proofs.store.SqlStoreStore.duties_of.Goals as goal
 pub returns : goal.returns
 returns g c =
     let self = c.args.self.now in
-    finds g.S.Store self.found self.tallies (known_by self.counts self.forms) self.conn c.duties_of.new.conn c.duties_of.result c.duties_of.ensures
+    finds g.S.Store self.found self.tallies (known_by self.counts self.forms) self.conn
+    c.duties_of.new.conn c.duties_of.result c.duties_of.ensures

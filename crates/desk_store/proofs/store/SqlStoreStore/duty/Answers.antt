@@ -6,4 +6,5 @@ use Rattle.desk_store.proofs.store.SqlStoreStore.duty.Goals as goal
 pub returns-clause-looks : goal.returns-clause-looks
 returns-clause-looks g c =
     let self = c.args.self.now in
-    finds_if g.S.Store self.found self.tallies (known_by self.counts self.forms) self.conn c.duty.new.conn c.duty.result c.duty.ensures.looks (λ t same. ap (λ k. k.duties) same)
+    finds_if g.S.Store self.found self.tallies (known_by self.counts self.forms) self.conn
+    c.duty.new.conn c.duty.result c.duty.ensures.looks (λ t same. ap (λ k. k.duties) same)

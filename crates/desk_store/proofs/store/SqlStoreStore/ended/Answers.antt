@@ -6,4 +6,5 @@ use Rattle.desk_store.proofs.store.SqlStoreStore.ended.Goals as goal
 pub returns : goal.returns
 returns g c =
     let self = c.args.self.now in
-    finds_if g.S.Store self.found self.tallies (known_by self.counts self.forms) self.conn c.ended.new.conn c.ended.result c.ended.ensures (λ t same. ap (λ k. k.duties) same)
+    finds_if g.S.Store self.found self.tallies (known_by self.counts self.forms) self.conn
+    c.ended.new.conn c.ended.result c.ended.ensures (λ t same. ap (λ k. k.duties) same)

@@ -5,4 +5,5 @@ use Rattle.desk_store.proofs.store.SqlStoreStore.extracted_text.Goals as goal
 pub returns : goal.returns
 returns g c =
     let self = c.args.self.now in
-    finds g.S.Store self.found self.tallies (known_by self.counts self.forms) self.conn c.extracted_text.new.conn c.extracted_text.result c.extracted_text.ensures
+    finds g.S.Store self.found self.tallies (known_by self.counts self.forms) self.conn
+    c.extracted_text.new.conn c.extracted_text.result c.extracted_text.ensures

@@ -5,4 +5,5 @@ use Rattle.desk_store.proofs.store.SqlStoreStore.last_day.Goals as goal
 pub returns : goal.returns
 returns g c =
     let self = c.args.self.now in
-    finds g.S.Store self.found self.tallies (known_by self.counts self.forms) self.conn c.last_day.new.conn c.last_day.result c.last_day.ensures
+    finds g.S.Store self.found self.tallies (known_by self.counts self.forms) self.conn
+    c.last_day.new.conn c.last_day.result c.last_day.ensures

@@ -5,4 +5,5 @@ use Rattle.desk_store.proofs.store.SqlStoreStore.releases.Goals as goal
 pub returns : goal.returns
 returns g c =
     let self = c.args.self.now in
-    finds g.S.Store self.found self.tallies (known_by self.counts self.forms) self.conn c.release_rows.new.conn c.release_rows.result c.release_rows.ensures
+    finds g.S.Store self.found self.tallies (known_by self.counts self.forms) self.conn
+    c.release_rows.new.conn c.release_rows.result c.release_rows.ensures

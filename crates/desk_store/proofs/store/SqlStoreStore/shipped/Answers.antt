@@ -5,4 +5,5 @@ use Rattle.desk_store.proofs.store.SqlStoreStore.shipped.Goals as goal
 pub returns : goal.returns
 returns g c =
     let self = c.args.self.now in
-    finds g.S.Store self.found self.tallies (known_by self.counts self.forms) self.conn c.shipped.new.conn c.shipped.result c.shipped.ensures
+    finds g.S.Store self.found self.tallies (known_by self.counts self.forms) self.conn
+    c.shipped.new.conn c.shipped.result c.shipped.ensures

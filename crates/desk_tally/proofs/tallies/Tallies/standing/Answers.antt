@@ -8,6 +8,9 @@ pub returns-clause-kept : goal.returns-clause-kept
 returns-clause-kept c = λ t from.
     let places = c.args.places.now in
     let tallies = c.in_ok-tallies.tallies in
-    let free : are_places (length places) (λ place. false) places ≡ true = cc (c.in_ok-are_places.ensures) in
-    let same : length tallies.items ≡ length places = omega (arith, tallies.ok.0, c.in_ok-tallies.ensures.len) in
-    subst (λ (n : ℕ). IsKept n c.args.stands.items t) (sym same) (counted_are_kept places c.args.stands.items t free from)
+    let free : are_places (length places) (λ place. false) places ≡ true =
+    cc (c.in_ok-are_places.ensures) in
+    let same : length tallies.items ≡ length places =
+    omega (arith, tallies.ok.0, c.in_ok-tallies.ensures.len) in
+    subst (λ (n : ℕ). IsKept n c.args.stands.items t) (sym same)
+    (counted_are_kept places c.args.stands.items t free from)

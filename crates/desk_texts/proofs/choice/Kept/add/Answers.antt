@@ -19,7 +19,8 @@ returns c = λ own chosen kept is at.
     let slot = c.args.slot in
     let marks = old.is_met.items in
     let within : slot < length marks = omega (arith, c.requires, old.is_met.ok.0) in
-    let unset = met_at marks slot c.index.result.now false within c.index.ensures c.if-index.false in
+    let unset = met_at marks slot c.index.result.now false within c.index.ensures
+    c.if-index.false in
     let new : Kept = record {
       is_met = with_item old.is_met slot true;
       terms = c.push.new.self;

@@ -4,4 +4,5 @@ use Rattle.desk_texts.proofs.standard.StandardTexts.adopted_as.Goals as goal
 
 pub returns : goal.returns
 returns c =
-    λ w right. IfOk-weaker c.adopted_as.result _ _ (λ adopted is. is ∙ sym (right.adopted c.args.licence.now c.args.term.now)) c.adopted_as.ensures
+    λ w right. IfOk-weaker c.adopted_as.result _ _
+    (λ adopted is. is ∙ sym (right.adopted c.args.licence.now c.args.term.now)) c.adopted_as.ensures

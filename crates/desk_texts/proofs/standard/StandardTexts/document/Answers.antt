@@ -4,4 +4,6 @@ use Rattle.desk_texts.proofs.standard.StandardTexts.document.Goals as goal
 
 pub returns : goal.returns
 returns c =
-    λ w right. IfOk-weaker c.read_document.result _ _ (λ answer (read, spells, keeps). sym (right.document c.args.bytes.now read answer spells keeps)) c.read_document.ensures
+    λ w right. IfOk-weaker c.read_document.result _ _
+    (λ answer (read, spells, keeps). sym (right.document c.args.bytes.now read answer spells keeps))
+    c.read_document.ensures

@@ -3,19 +3,36 @@ use Rattle.desk_tree_lint.proofs.NameLemmas.{names_long, name_there}
 use Rattle.desk_tree_lint.proofs.names.Names.at.Goals as goal
 
 pub at-requires : goal.at-requires
-at-requires c = let s = c.self.inside in omega (arith, c.requires, ap length c.self.view_is, names_long s.ids s.paths.items c.self.invariant, c.self.invariant)
+at-requires c = let s = c.self.inside in
+    omega (
+      arith,
+      c.requires,
+      ap length c.self.view_is,
+      names_long s.ids s.paths.items c.self.invariant,
+      c.self.invariant,
+    )
 
 pub index-requires : goal.index-requires
-index-requires c = let s = c.self.inside in omega (arith, c.requires, ap length c.self.view_is, names_long s.ids s.paths.items c.self.invariant, s.paths.ok.0)
+index-requires c = let s = c.self.inside in
+    omega (
+      arith,
+      c.requires,
+      ap length c.self.view_is,
+      names_long s.ids s.paths.items c.self.invariant,
+      s.paths.ok.0,
+    )
 
 pub returns-in_ok-clone-in-Some : goal.returns-in_ok-clone-in-Some
 returns-in_ok-clone-in-Some c =
     let s = c.self.inside in
-    name_there s.ids s.paths.items c.args.self.now c.args.place c.in_ok-id.id _ c.index.result.now c.self.invariant c.self.view_is c.requires (c.in_ok-id.ensures ∙ c.at.ensures)
+    name_there s.ids s.paths.items c.args.self.now c.args.place c.in_ok-id.id _ c.index.result.now
+    c.self.invariant c.self.view_is c.requires (c.in_ok-id.ensures ∙ c.at.ensures)
     (ap Some c.in_ok-clone-in-Some.ensures.cases ∙ sym c.in-Some.is ∙ c.index.ensures)
 
 pub returns-in-None : goal.returns-in-None
 returns-in-None c =
     let s = c.self.inside in
-    name_there s.ids s.paths.items c.args.self.now c.args.place c.in_ok-id.id None c.index.result.now c.self.invariant c.self.view_is c.requires (c.in_ok-id.ensures ∙ c.at.ensures)
+    name_there s.ids s.paths.items c.args.self.now c.args.place c.in_ok-id.id None
+    c.index.result.now c.self.invariant c.self.view_is c.requires
+    (c.in_ok-id.ensures ∙ c.at.ensures)
     (sym c.in-None.is ∙ c.index.ensures)
