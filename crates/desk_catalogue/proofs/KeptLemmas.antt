@@ -1,59 +1,23 @@
--- Texts and rules in their places.
-use Rattle.std.proofs.Common.{◌≡◌, ◌∙◌, inl, inr, ℕ, Bool, true, false, cond, List, [], ◌∷◌, ◌++◌}
+-- Rules in their places.
+use Rattle.std.proofs.Common.{◌≡◌, ◌∙◌, inl, inr, ℕ, Bool, true, false, cond, List, [], ◌∷◌}
 use Rattle.std.proofs.Common.{map, Option, Some, sym, ap, refl, Ordering, Less, Equal, Greater}
 use Rattle.std.proofs.Common.{nat_cmp, is_eq, subst}
 use Rattle.std.specs.Prelude.{◌&&◌, ◌||◌, not, is_some}
-use Rattle.std.specs.Ordering.{is_lt, on, then_cmp, match_ordering, ordering_then}
+use Rattle.std.specs.Ordering.{on, then_cmp, match_ordering, ordering_then}
 use Rattle.std.specs.Str.{bytes_eq}
 use Rattle.std.specs.Cmp.Lexicographic.{slice_cmp}
 use Rattle.std.specs.BTreeMap.{insert_entry, is_at}
 use Rattle.std.specs.Map.{lookup}
-use Rattle.std.specs.BTreeSet.{insert_key}
 use Rattle.std.proofs.lemmas.Map.Text.{is_eq-slice_cmp}
 use Rattle.std.proofs.lemmas.Map.Lookups.{exact_bytes}
-use denote.Ref.{Bor}
 use Rattle.desk_model.specs.Keys.{is_rule}
 use Rattle.desk_model.specs.declared.reading.Rule.{Rule}
-use Rattle.desk_model.specs.Texts.{text_below, put_new, sorted_set}
 use Rattle.desk_catalogue.specs.declared.order.Subject.{Subject}
 use Rattle.desk_catalogue.specs.declared.order.Said.{Said}
 use Rattle.desk_catalogue.specs.Kept.{put_rule, has_rule}
 use Rattle.desk_catalogue.specs.Shown.{rule_of_entry}
-use Rattle.desk_base.specs.Borrowed.{texts, borrowed_cmp}
+use Rattle.desk_base.specs.Borrowed.{texts}
 use Rattle.desk_base.proofs.Texts.{text_tells}
-
--- ---- texts
-
-abbrev pub put_texts : List (List ℕ) → List (List ℕ) → List (List ℕ)
-put_texts [] sorted = sorted
-put_texts (x ∷ xs) sorted = put_new x (put_texts xs sorted)
-
-pub put_texts-none : (xs : List (List ℕ)) → put_texts xs [] ≡ sorted_set xs
-put_texts-none [] = refl
-put_texts-none (x ∷ xs) = ap (put_new x) (put_texts-none xs)
-
--- the last of some borrowed texts is added first
-pub put_texts-last : (xs : List (Bor (List ℕ))) (x : Bor (List ℕ)) (sorted : List (List ℕ))
-    → put_texts (texts (xs ++ x ∷ [])) sorted ≡ put_texts (texts xs) (put_new x.now sorted)
-put_texts-last [] x sorted = refl
-put_texts-last (y ∷ ys) x sorted = ap (put_new y.now) (put_texts-last ys x sorted)
-
-by_order : (o : Ordering) (b : Bool) (x y z : List (Bor (List ℕ))) → is_eq o ≡ b
-    → texts (match_ordering o x y z) ≡ cond (is_lt o) (texts x) (cond b (texts y) (texts z))
-by_order Less b x y z is = refl
-by_order Equal true x y z is = refl
-by_order Equal false x y z is = absurd cc
-by_order Greater true x y z is = absurd cc
-by_order Greater false x y z is = refl
-
-pub texts-insert_key : (ks : List (Bor (List ℕ))) (k : Bor (List ℕ))
-    → texts (insert_key borrowed_cmp ks k) ≡ put_new k.now (texts ks)
-texts-insert_key [] k = refl
-texts-insert_key (x ∷ xs) k =
-    by_order (slice_cmp nat_cmp k.now x.now) (bytes_eq k.now x.now) (k ∷ x ∷ xs) (x ∷ xs)
-    (x ∷ insert_key borrowed_cmp xs k) (is_eq-slice_cmp k.now x.now)
-    ∙ ap (λ l. cond (text_below k.now x.now) (k.now ∷ x.now ∷ texts xs)
-    (cond (bytes_eq k.now x.now) (x.now ∷ texts xs) (x.now ∷ l))) (texts-insert_key xs k)
 
 -- ---- rules
 

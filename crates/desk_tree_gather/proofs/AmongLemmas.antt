@@ -23,7 +23,7 @@ use Rattle.desk_tree_annotations.specs.declared.annotation.Annotation.{Annotatio
 use Rattle.desk_tree_gather.specs.declared.information.Subject.{Subject}
 use Rattle.desk_tree_gather.specs.Information.{aggregated, some_or, nearest, topmost, given, given_by}
 use Rattle.desk_tree_gather.specs.Sharing.{is_none}
-use Rattle.desk_tree_gather.proofs.SetLemmas.{insert_key-is}
+use Rattle.desk_model.proofs.TextSets.{insert_key-is}
 
 abbrev Texts : Type 0
 Texts = List (List ℕ)

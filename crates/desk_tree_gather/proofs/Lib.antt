@@ -9,7 +9,6 @@ pub mod TomlLemmas
 pub mod StatedLemmas
 pub mod RestLemmas
 pub mod WayLemmas
-pub mod SetLemmas
 pub mod AmongLemmas
 pub mod FirstsLemmas
 pub mod GatheredLemmas

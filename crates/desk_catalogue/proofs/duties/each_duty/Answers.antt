@@ -8,7 +8,7 @@ use Rattle.desk_catalogue.specs.Values.{is_among}
 use Rattle.desk_catalogue.specs.Reading.{duty_at}
 use Rattle.desk_catalogue.specs.Shown.{Gives}
 use Rattle.desk_catalogue.proofs.EntryLemmas.{step_twice, step_added}
-use Rattle.desk_catalogue.proofs.KeptLemmas.{texts-insert_key}
+use Rattle.desk_model.proofs.TextSets.{texts-insert_key}
 use Rattle.desk_catalogue.proofs.SetLemmas.{has_text}
 use Rattle.desk_catalogue.proofs.duties.each_duty.Goals as goal
 use Rattle.desk_base.specs.Borrowed.{texts}

@@ -1,6 +1,6 @@
 use Rattle.std.proofs.Common.{◌≡◌, ◌++◌, vec_len}
 use Rattle.desk_model.specs.Texts.{sorted_set}
-use Rattle.desk_catalogue.proofs.KeptLemmas.{put_texts}
+use Rattle.desk_model.proofs.TextSets.{put_texts}
 use Rattle.desk_catalogue.proofs.order.sorted_set.Given as goal
 use Rattle.desk_base.specs.Borrowed.{texts, texts_in}
 

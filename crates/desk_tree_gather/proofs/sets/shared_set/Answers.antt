@@ -1,6 +1,5 @@
 use Rattle.std.proofs.Common.{◌∙◌, sym, ap}
-use Rattle.desk_catalogue.proofs.KeptLemmas.{put_texts, put_texts-none}
-use Rattle.desk_tree_gather.proofs.SetLemmas.{put_texts-last, insert_key-is}
+use Rattle.desk_model.proofs.TextSets.{put_texts, put_texts-none, put_texts-last, insert_key-is}
 use Rattle.desk_tree_gather.proofs.sets.shared_set.Goals as goal
 
 pub loop-last-init : goal.loop-last-init

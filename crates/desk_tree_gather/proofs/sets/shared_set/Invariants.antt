@@ -1,5 +1,5 @@
 use Rattle.std.proofs.Common.{◌≡◌, ◌++◌, vec_len}
-use Rattle.desk_catalogue.proofs.KeptLemmas.{put_texts}
+use Rattle.desk_model.proofs.TextSets.{put_texts}
 use Rattle.desk_model.specs.Texts.{sorted_set}
 use Rattle.desk_tree_gather.proofs.sets.shared_set.Given as goal
 
