@@ -1,12 +1,16 @@
 -- Rows in blocks.
 use Rattle.std.proofs.Common.{◌≡◌, ℕ, zero, suc, ◌-◌, ◌<◌, ◌≤◌, Bool, true, false, List, [], ◌∷◌}
 use Rattle.std.proofs.Common.{◌++◌, length, take, drop, get_or, Some, sym, refl, ap, ◌∙◌, arith}
+use Rattle.std.proofs.Common.{Bor}
+use denote.Param.Members.{Mut}
+use Rattle.std.specs.Fn.{Called, ComputesKey}
 use Rattle.std.specs.Prelude.{◌||◌, not, slice_get, Vec}
 use Rattle.std.specs.List.{list_all, list_any, AllWithin}
 use Rattle.std.specs.List.Sorted.{IsPartitionPoint, IsPartitionedBy}
 use Rattle.std.specs.declared.alloc.Global.{Global}
 use Rattle.std.proofs.lemmas.List.{take-append-drop}
 use Rattle.std.proofs.lemmas.List.Folds.{list_any-append, list_all-append}
+use Rattle.std.proofs.lemmas.List.Sorted.{IsPartitionPoint-from_clause}
 use Rattle.std.proofs.lemmas.Grind.{flat_map-append}
 use Rattle.desk_model.specs.Lists.{over, ascends}
 use Rattle.desk_sorted.specs.Blocks.{are_filled, ends_in, has_rows, last_of, rows_in, IsSplit}
@@ -173,7 +177,7 @@ module _ {R : Type 0} (below : R → R → Bool) (test : R → Bool) (t : Turns 
   first_passes b bs false f up some = absurd (contrary (list_any test (rows_in bs)) some
       (none_after below test t b.items (rows_in bs) up f))
 
-  pub blocks_turn : (bs : List (Vec R Global)) → ascends below (rows_in bs) ≡ true
+  blocks_turn : (bs : List (Vec R Global)) → ascends below (rows_in bs) ≡ true
       → are_filled bs ≡ true → IsPartitionedBy (λ b. ends_in test b.items) bs
   blocks_turn [] up some i j d le lt e = absurd (omega (arith, lt))
   blocks_turn (b ∷ bs) up some zero zero d le lt e = e
@@ -207,7 +211,7 @@ module _ {R : Type 0} (below : R → R → Bool) (test : R → Bool) (t : Turns 
       back_none bs n (ascends_back below b.items (rows_in bs) up)
       (λ k d a lt. h (suc k) d (omega (arith, a)) (omega (arith, lt)))
 
-  pub is_split : (bs : List (Vec R Global)) (n : ℕ) → n ≤ length bs
+  is_split : (bs : List (Vec R Global)) (n : ℕ) → n ≤ length bs
       → ascends below (rows_in bs) ≡ true
       → IsPartitionPoint (λ b. ends_in test b.items ≡ true) (λ b. ends_in test b.items ≡ false) bs n
       → IsSplit test bs n
@@ -216,3 +220,15 @@ module _ {R : Type 0} (below : R → R → Bool) (test : R → Bool) (t : Turns 
     front = front_all bs n up p.0;
     back = back_none bs n up p.1;
   }
+
+  -- the place that partition_point finds
+  pub is_parted : {F : Type 0} {g : Mut F (Bor (Vec R Global) × Unit {0}) Bool} {f : F}
+      (bs : List (Vec R Global)) (n : ℕ) → n ≤ length bs → ascends below (rows_in bs) ≡ true
+      → are_filled bs ≡ true
+      → ((q : Vec R Global → Bool) → ComputesKey g q f → IsPartitionedBy q bs
+      → IsPartitionPoint (λ b. q b ≡ true) (λ b. q b ≡ false) bs n)
+      → ((a : Bor (Vec R Global) × Unit {0}) (r : Bool) (f' : F) → Called g f a r f'
+      → (r ≡ ends_in test a.0.now.items) × (f' ≡ f)) → IsSplit test bs n
+  is_parted bs n within up some clause same = is_split bs n within up
+      (IsPartitionPoint-from_clause (λ b. ends_in test b.items) bs n clause
+      (blocks_turn bs up some) same)

@@ -2,10 +2,11 @@
 use Rattle.std.proofs.Common.{◌≡◌, ℕ, zero, suc, ◌+◌, ◌-◌, ◌<◌, ◌≤◌, Bool, true, false, cond, List}
 use Rattle.std.proofs.Common.{[], ◌∷◌, ◌++◌, length, map, take, drop, get_or, set, sym, refl, ap}
 use Rattle.std.proofs.Common.{◌∙◌, arith}
-use Rattle.std.specs.Prelude.{filter, flat_map, insert, ◌&&◌, ◌==◌, not, Vec}
+use Rattle.std.specs.Prelude.{filter, flat_map, insert, ◌&&◌, ◌==◌, not, Vec, vec_len}
 use Rattle.std.specs.List.{list_all, list_any}
+use Rattle.std.specs.Vec.{with_items}
 use Rattle.std.specs.declared.alloc.Global.{Global}
-use Rattle.std.proofs.lemmas.List.{append-nil, append_assoc, take-map, drop-map, map-append}
+use Rattle.std.proofs.lemmas.List.{append-nil, append_assoc, take-map, drop-map, map-append, with_items_is}
 use Rattle.std.proofs.lemmas.List.Folds.{flat_map-map, list_all-append}
 use Rattle.desk_model.specs.Lists.{put, put_all}
 use Rattle.desk_sorted.specs.Blocks.{are_all_filled, are_filled, has_rows, is_between, rows_in}
@@ -158,6 +159,24 @@ pub alike_filled : {R : Type 0} (bs cs : List (Vec R Global)) → parts bs ≡ p
     → are_filled bs ≡ are_filled cs
 alike_filled bs cs e = filled_parts bs
     ∙ (ap (λ l. list_all has_rows (drop 1 l)) e ∙ sym (filled_parts cs))
+
+-- a block that changes only its memory
+pub record Alike {R : Type 0} (bs cs : List (Vec R Global)) : Type 0 where
+  pub items : parts bs ≡ parts cs
+  pub rows : rows_in bs ≡ rows_in cs
+  pub filled : are_filled bs ≡ are_filled cs
+
+pub kept_at : {R : Type 0} (blocks : Vec (Vec R Global) Global) (at : ℕ) (kept was : Vec R Global)
+    → at < vec_len blocks → kept.items ≡ was.items → was ≡ get_or blocks.items at was
+    → Alike (set blocks.items at kept) blocks.items
+kept_at blocks at kept was within same is =
+    let items = set_alike blocks.items at kept was (omega (arith, blocks.ok.0, within))
+    (same ∙ ap (λ b. b.items) is) in
+    record {
+      items = items;
+      rows = alike_rows (set blocks.items at kept) blocks.items items;
+      filled = alike_filled (set blocks.items at kept) blocks.items items;
+    }
 
 -- a block that changes
 
@@ -357,3 +376,19 @@ pub filled_around : {R : Type 0} (front back : List (Vec R Global)) (b : Vec R G
 filled_around front back b e some all =
     filled_both front (b ∷ back) e
     (both (has_rows b.items) (list_all (λ c. has_rows c.items) back) (row_there b.items some) all)
+
+-- blocks that are changed in their place, and then those without rows are dropped
+module _ {R : Type 0} (blocks : Vec (Vec R Global) Global) (old new : List (Vec R Global))
+    (length_is : length new ≡ length old) (was : old ≡ blocks.items) where
+  changed_are : (with_items blocks new).items ≡ new
+  changed_are = with_items_is blocks new (length_is ∙ (ap length was ∙ sym blocks.ok.0))
+
+  pub changed_filled : are_filled new ≡ true → are_filled (with_items blocks new).items ≡ true
+  changed_filled filled = ap are_filled changed_are ∙ filled
+
+  pub changed_rows : (change : List R → List R) (left : List (Vec R Global))
+      → rows_in left ≡ rows_in (with_items blocks new).items
+      → rows_in new ≡ change (rows_in old) → rows_in left ≡ change (rows_in blocks.items)
+  changed_rows change left dropped changed =
+      dropped ∙ (ap (λ (bs : List (Vec R Global)). rows_in bs) changed_are
+      ∙ (changed ∙ ap (λ (bs : List (Vec R Global)). change (rows_in bs)) was))

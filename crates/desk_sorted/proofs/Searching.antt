@@ -13,6 +13,9 @@ use Rattle.std.proofs.lemmas.List.Elements.{filter-append}
 use Rattle.std.proofs.lemmas.List.Folds.{list_all-append}
 use Rattle.desk_model.specs.Keys.{below_by}
 use Rattle.desk_sorted.specs.Blocks.{is_between, rows_in, IsBlockRun}
+use Rattle.desk_sorted.specs.Sides.{side_by}
+use Rattle.desk_sorted.proofs.Blocking.{Turns}
+use Rattle.desk_sorted.proofs.Halving.{le_by}
 use Rattle.desk_sorted.proofs.Halving.{turned_le, turned_gt}
 use Rattle.desk_sorted.proofs.Blocking.{rows_split}
 use Rattle.desk_base.proofs.Bools.{and_left, and_right, both, or_left, or_right}
@@ -162,3 +165,9 @@ pub none_left : {R : Type 0} (test : R → Bool) (bs : List (Vec R Global)) (n :
     → list_any test (rows_in (drop n bs)) ≡ false
 none_left {R = R} test bs n le = ap (λ (d : List (Vec R Global)). list_any test (rows_in d))
     (drop_all n bs le)
+
+-- rows that come after one that is at most a row are at most it too
+pub row_turns : {A : Type 0} {order : A → A → Ordering} → IsTotalOrder order → (row : A)
+    → Turns (below_by order) (λ y. is_le (order y row))
+row_turns {order = order} total row x y out e = le_by (order x row) (order y row)
+    (side_by order (λ x. x) order total (λ x y e. e) row x y out) e

@@ -64,6 +64,20 @@ block_ascends {R = R} below bs i d lt up =
     ascends_front below (get_or bs i d).items (rows_in (drop (i + 1) bs))
     (ap (λ (l : List (Vec R Global)). ascends below (rows_in l)) (sym (drop_one bs i d lt)) ∙ up)
 
+-- the rows of a block, seen as a slice
+module _ {R : Type 0} (bs : List (Vec R Global)) (i : ℕ) (d : Vec R Global) {slice : List R}
+    (seen : slice ≡ d.items) (is : d ≡ get_or bs i d) where
+  pub slice_is : slice ≡ (get_or bs i d).items
+  slice_is = seen ∙ ap (λ (b : Vec R Global). b.items) is
+
+  pub slice_ascends : (below : R → R → Bool) → i < length bs
+      → ascends below (rows_in (drop i bs)) ≡ true → ascends below slice ≡ true
+  slice_ascends below lt up = ap (ascends below) slice_is ∙ block_ascends below bs i d lt up
+
+  pub slice_found : (test : R → Bool) {found : List R} → found ≡ filter test slice
+      → found ≡ filter test (get_or bs i d).items
+  slice_found test found = found ∙ ap (filter test) slice_is
+
 pub rest_ascends : {R : Type 0} (below : R → R → Bool) (bs : List (Vec R Global)) (i : ℕ)
     (d : Vec R Global) → i < length bs → ascends below (rows_in (drop i bs)) ≡ true
     → ascends below (rows_in (drop (i + 1) bs)) ≡ true

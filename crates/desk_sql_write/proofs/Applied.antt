@@ -1,8 +1,10 @@
 -- What a change writes is what it does to the tables, apart from the order of their rows, and it
 -- fails as these writes do.
-use Rattle.std.proofs.Common.{◌≡◌, ℕ, Bool, true, false, not, cond, find, List, [], ◌∷◌, ◌++◌}
-use Rattle.std.proofs.Common.{filter, map, length, ◌+◌, ◌∙◌, Option, Some, None, Ok, Err, Result}
-use Rattle.std.proofs.Common.{refl, sym, ap, subst}
+use Rattle.std.proofs.Common.{◌≡◌, ℕ, Bool, true, false, not, cond, if◌then◌else◌, find, List, []}
+use Rattle.std.proofs.Common.{◌∷◌, ◌++◌, drop, filter, get_or, map, length, ◌+◌, ◌∙◌, Option, Some}
+use Rattle.std.proofs.Common.{None, Ok, Err, Result, refl, sym, ap, subst, arith}
+use Rattle.std.specs.Prelude.{◌==◌}
+use Rattle.std.proofs.lemmas.Bool.Decides.{nat_tests}
 use Rattle.std.specs.Option.{option_map}
 use Rattle.std.specs.List.{AllByRecursion}
 use Rattle.std.specs.List.Sorted.{IsPermutation}
@@ -155,6 +157,57 @@ written : (after : Tables → ℕ → List Row) (many : ℕ) (change : Change)
     → ((t : Tables) → AreSame (rows_of (applied change t)) (after t)) → IsWritten after many change
 written = written_from (λ t. t)
 
+-- ---- the tables of a change
+
+abbrev is_in : ℕ → List ℕ → Bool
+is_in tree [] = false
+is_in tree (t ∷ trees) = if tree == t then true else is_in tree trees
+
+true_of : (P : ℕ → Type 0) (tree : ℕ) (trees : List ℕ) → AllByRecursion P trees
+    → is_in tree trees ≡ true → P tree
+true_of P tree [] all is = absurd (cc)
+true_of P tree (t ∷ trees) all is = go (true_of P tree trees all.1) (tree == t) refl is
+  where
+    go : (is_in tree trees ≡ true → P tree) → (b : Bool) → (tree == t) ≡ b
+        → cond b true (is_in tree trees) ≡ true → P tree
+    go later true same is = let one : tree ≡ t = grind (arith, nat_tests) in
+        subst P (sym one) all.0
+    go later false same is = later is
+
+-- the rows of the tables but for some
+abbrev rows_but : List ℕ → List Table → (ℕ → List Row) → List (List Row)
+rows_but trees tables rows = map (λ t. if is_in t.tree trees then [] else rows t.tree) tables
+
+-- these tables have the same rows in some order, and the others have the same rows
+same_but : (trees : List ℕ) (rows other : ℕ → List Row)
+    → AllByRecursion (λ tree. IsPermutation (rows tree) (other tree)) trees
+    → rows_but trees desk_schema.tables rows ≡ rows_but trees desk_schema.tables other
+    → AreSame rows other
+same_but trees rows other some rest = each desk_schema.tables rest
+  where
+    one : (t : Table) (b : Bool) → is_in t.tree trees ≡ b
+        → cond b [] (rows t.tree) ≡ cond b [] (other t.tree)
+        → IsPermutation (rows t.tree) (other t.tree)
+    one t true is same = true_of (λ tree. IsPermutation (rows tree) (other tree)) t.tree trees
+        some is
+    one t false is same = IsPermutation-same _ _ same
+
+    each : (tables : List Table) → rows_but trees tables rows ≡ rows_but trees tables other
+        → AllByRecursion (λ t. IsPermutation (rows t.tree) (other t.tree)) tables
+    each [] rest = tt
+    each (t ∷ tables) rest = (
+      one t (is_in t.tree trees) refl (ap (λ l. get_or l 0 []) rest),
+      each tables (ap (drop 1) rest),
+    )
+
+written_but : {after : Tables → ℕ → List Row} {many : ℕ} (change : Change) (trees : List ℕ)
+    → ((t : Tables)
+    → AllByRecursion (λ tree. IsPermutation (rows_of (applied change t) tree) (after t tree)) trees)
+    → ((t : Tables) → rows_but trees desk_schema.tables (rows_of (applied change t))
+    ≡ rows_but trees desk_schema.tables (after t)) → IsWritten after many change
+written_but {after} {many} change trees some rest = written after many change
+    (λ t. same_but trees (rows_of (applied change t)) (after t) (some t) (rest t))
+
 -- ---- a row in its place is a row after the others, in another order
 
 added : {X : Type 0} (cells : X → Row) (xs ys : List X)
@@ -217,43 +270,49 @@ pub loaded : (row : CatalogueRow) (rules : List RuleRow) (forms : List (List ℕ
     → IsWritten (λ t. with_rows rule_table.tree (map rule_cells rules)
     (with_rows catalogue_table.tree (catalogue_cells row ∷ []) (rows_of t))) (1 + length rules)
     (Loaded row rules forms)
-loaded row rules forms = written
-    (λ t. with_rows rule_table.tree (map rule_cells rules)
-    (with_rows catalogue_table.tree (catalogue_cells row ∷ []) (rows_of t))) (1 + length rules)
-    (Loaded row rules forms)
-    (λ t. (IsPermutation-refl _, (added catalogue_cells t.catalogue (row ∷ []), (added rule_cells t.rule rules, (IsPermutation-refl _, (IsPermutation-refl _, (IsPermutation-refl _, (IsPermutation-refl _, (IsPermutation-refl _, (IsPermutation-refl _, (IsPermutation-refl _, (IsPermutation-refl _, (IsPermutation-refl _, (IsPermutation-refl _, (IsPermutation-refl _, (IsPermutation-refl _, (IsPermutation-refl _, tt)))))))))))))))))
+loaded row rules forms = written_but (Loaded row rules forms) (1 ∷ 2 ∷ [])
+    (λ t. (added catalogue_cells t.catalogue (row ∷ []), (added rule_cells t.rule rules, tt)))
+    (λ t. refl)
 
 pub imported : (row : DocumentRow) (packages : List PackageRow) (references : List ExtractedRow)
     → IsWritten (λ t. with_parts packages references (with_document row (rows_of t)))
     (2 + (length packages + length references)) (Imported row packages references)
-imported row packages references = written
-    (λ t. with_parts packages references (with_document row (rows_of t)))
-    (2 + (length packages + length references)) (Imported row packages references)
-    (λ t. (IsPermutation-refl _, (IsPermutation-refl _, (IsPermutation-refl _, (added document_cells t.document (row ∷ []), (added package_cells t.packages packages, (added extracted_cells t.extracted references, (IsPermutation-refl _, (IsPermutation-refl _, (IsPermutation-refl _, (IsPermutation-refl _, (IsPermutation-refl _, (IsPermutation-refl _, (IsPermutation-refl _, (IsPermutation-refl _, (added reading_cells t.document (row ∷ []), (IsPermutation-refl _, tt)))))))))))))))))
+imported row packages references = written_but (Imported row packages references)
+    (4 ∷ 6 ∷ 8 ∷ 27 ∷ [])
+    (λ t. (
+      added document_cells t.document (row ∷ []),
+      (
+        added package_cells t.packages packages,
+        (
+          added extracted_cells t.extracted references,
+          (added reading_cells t.document (row ∷ []), tt),
+        ),
+      ),
+    )) (λ t. refl)
 
 pub opened : (row : ReleaseRow)
     → IsWritten (λ t. with_rows releases_table.tree (release_cells row ∷ []) (rows_of t)) (1)
     (Opened row)
-opened row = written (λ t. with_rows releases_table.tree (release_cells row ∷ []) (rows_of t)) (1)
-    (Opened row)
-    (λ t. (IsPermutation-refl _, (IsPermutation-refl _, (IsPermutation-refl _, (IsPermutation-refl _, (IsPermutation-refl _, (IsPermutation-refl _, (IsPermutation-refl _, (IsPermutation-refl _, (placed release_cells release_below row t.releases, (IsPermutation-refl _, (IsPermutation-refl _, (IsPermutation-refl _, (IsPermutation-refl _, (IsPermutation-refl _, (IsPermutation-refl _, (IsPermutation-refl _, tt)))))))))))))))))
+opened row = written_but (Opened row) (14 ∷ [])
+    (λ t. (placed release_cells release_below row t.releases, tt)) (λ t. refl)
 
 pub attached : (row : AttachedRow)
     → IsWritten (λ t. with_rows attached_table.tree (attached_cells row ∷ []) (rows_of t)) (1)
     (Attached row)
-attached row = written (λ t. with_rows attached_table.tree (attached_cells row ∷ []) (rows_of t))
-    (1) (Attached row)
-    (λ t. (IsPermutation-refl _, (IsPermutation-refl _, (IsPermutation-refl _, (IsPermutation-refl _, (IsPermutation-refl _, (IsPermutation-refl _, (IsPermutation-refl _, (IsPermutation-refl _, (IsPermutation-refl _, (placed attached_cells (below_by attached_order) row t.attached, (IsPermutation-refl _, (IsPermutation-refl _, (IsPermutation-refl _, (IsPermutation-refl _, (IsPermutation-refl _, (IsPermutation-refl _, tt)))))))))))))))))
+attached row = written_but (Attached row) (17 ∷ [])
+    (λ t. (placed attached_cells (below_by attached_order) row t.attached, tt)) (λ t. refl)
 
 pub chosen : (release : List ℕ) (document : ℕ) (package_id : List ℕ) (rows : List ChoiceRow)
     → IsWritten (λ t. with_rows choice_table.tree (map choice_cells rows)
     (rows_of (record t { choice = filter (is_other_choice release document package_id) t.choice })))
     (length rows) (Chosen release document package_id rows)
-chosen release document package_id rows = written
-    (λ t. with_rows choice_table.tree (map choice_cells rows)
-    (rows_of (record t { choice = filter (is_other_choice release document package_id) t.choice })))
-    (length rows) (Chosen release document package_id rows)
-    (λ t. (IsPermutation-refl _, (IsPermutation-refl _, (IsPermutation-refl _, (IsPermutation-refl _, (IsPermutation-refl _, (IsPermutation-refl _, (IsPermutation-refl _, (IsPermutation-refl _, (IsPermutation-refl _, (IsPermutation-refl _, (all_placed choice_cells (below_by choice_order) rows (filter (is_other_choice release document package_id) t.choice), (IsPermutation-refl _, (IsPermutation-refl _, (IsPermutation-refl _, (IsPermutation-refl _, (IsPermutation-refl _, tt)))))))))))))))))
+chosen release document package_id rows = written_but (Chosen release document package_id rows)
+    (19 ∷ [])
+    (λ t. (
+      all_placed choice_cells (below_by choice_order) rows
+          (filter (is_other_choice release document package_id) t.choice),
+      tt,
+    )) (λ t. refl)
 
 pub froze : (release : List ℕ) (revision : ℕ) (frozen : List FrozenRow) (duties : List DutyRow)
     (changes : List ChangeRow) → IsWritten
@@ -264,23 +323,24 @@ pub froze : (release : List ℕ) (revision : ℕ) (frozen : List FrozenRow) (dut
           (with_release_state Frozen revision) t.releases;
     })))) (length frozen + (length duties + (length changes + length changes)))
     (Froze release revision frozen duties changes)
-froze release revision frozen duties changes = written
-    (λ t. with_raised duties changes
-    (with_rows frozen_table.tree (map frozen_cells frozen)
-    (rows_of (record t {
-      releases = updated (is_release release)
-          (with_release_state Frozen revision) t.releases;
-    })))) (length frozen + (length duties + (length changes + length changes)))
-    (Froze release revision frozen duties changes)
-    (λ t. (IsPermutation-refl _, (IsPermutation-refl _, (IsPermutation-refl _, (IsPermutation-refl _, (IsPermutation-refl _, (IsPermutation-refl _, (IsPermutation-refl _, (IsPermutation-refl _, (IsPermutation-refl _, (IsPermutation-refl _, (IsPermutation-refl _, (all_placed frozen_cells (below_by frozen_order) frozen t.frozen, (added duty_cells t.duty duties, (added change_cells t.changes changes, (IsPermutation-refl _, (waivers_added t.changes changes, tt)))))))))))))))))
+froze release revision frozen duties changes = written_but
+    (Froze release revision frozen duties changes) (21 ∷ 23 ∷ 25 ∷ 28 ∷ [])
+    (λ t. (
+      all_placed frozen_cells (below_by frozen_order) frozen t.frozen,
+      (
+        added duty_cells t.duty duties,
+        (added change_cells t.changes changes, (waivers_added t.changes changes, tt)),
+      ),
+    )) (λ t. refl)
 
 pub moved : (changes : List ChangeRow)
     → IsWritten (λ t. with_steps changes (rows_of (record t { duty = moved_by changes t.duty })))
     (length changes + length changes) (Moved changes)
-moved changes = written (λ t. with_steps changes
-    (rows_of (record t { duty = moved_by changes t.duty }))) (length changes + length changes)
-    (Moved changes)
-    (λ t. (IsPermutation-refl _, (IsPermutation-refl _, (IsPermutation-refl _, (IsPermutation-refl _, (IsPermutation-refl _, (IsPermutation-refl _, (IsPermutation-refl _, (IsPermutation-refl _, (IsPermutation-refl _, (IsPermutation-refl _, (IsPermutation-refl _, (IsPermutation-refl _, (IsPermutation-refl _, (all_placed change_cells change_below changes t.changes, (IsPermutation-refl _, (waivers_placed changes t.changes, tt)))))))))))))))))
+moved changes = written_but (Moved changes) (25 ∷ 28 ∷ [])
+    (λ t. (
+      all_placed change_cells change_below changes t.changes,
+      (waivers_placed changes t.changes, tt),
+    )) (λ t. refl)
 
 pub withdrew : (release : List ℕ) (changes : List ChangeRow)
     → IsWritten (λ t. with_steps changes
@@ -289,14 +349,11 @@ pub withdrew : (release : List ℕ) (changes : List ChangeRow)
       choice = filter (is_choice_elsewhere release) t.choice;
       duty = moved_by changes t.duty;
     }))) (length changes + length changes) (Withdrew release changes)
-withdrew release changes = written
-    (λ t. with_steps changes (rows_of
-    (record t {
-      releases = updated (is_release release) withdrawn_release t.releases;
-      choice = filter (is_choice_elsewhere release) t.choice;
-      duty = moved_by changes t.duty;
-    }))) (length changes + length changes) (Withdrew release changes)
-    (λ t. (IsPermutation-refl _, (IsPermutation-refl _, (IsPermutation-refl _, (IsPermutation-refl _, (IsPermutation-refl _, (IsPermutation-refl _, (IsPermutation-refl _, (IsPermutation-refl _, (IsPermutation-refl _, (IsPermutation-refl _, (IsPermutation-refl _, (IsPermutation-refl _, (IsPermutation-refl _, (all_placed change_cells change_below changes t.changes, (IsPermutation-refl _, (waivers_placed changes t.changes, tt)))))))))))))))))
+withdrew release changes = written_but (Withdrew release changes) (25 ∷ 28 ∷ [])
+    (λ t. (
+      all_placed change_cells change_below changes t.changes,
+      (waivers_placed changes t.changes, tt),
+    )) (λ t. refl)
 
 pub concluded : (row : ConclusionRow)
     → IsWritten (λ t. with_rows conclusion_table.tree (conclusion_cells row ∷ [])
@@ -304,54 +361,21 @@ pub concluded : (row : ConclusionRow)
       conclusion = filter
           (λ other. not (is_conclusion row.document row.package_id other)) t.conclusion;
     }))) (1) (Concluded row)
-concluded row = written (λ t. with_rows conclusion_table.tree (conclusion_cells row ∷ [])
-    (rows_of (record t {
-      conclusion = filter
-          (λ other. not (is_conclusion row.document row.package_id other)) t.conclusion;
-    }))) (1) (Concluded row)
-    (λ t. (IsPermutation-refl _, (IsPermutation-refl _, (IsPermutation-refl _, (IsPermutation-refl _, (IsPermutation-refl _, (IsPermutation-refl _, (placed conclusion_cells (below_by conclusion_order) row (filter (λ other. not (is_conclusion row.document row.package_id other)) t.conclusion), (IsPermutation-refl _, (IsPermutation-refl _, (IsPermutation-refl _, (IsPermutation-refl _, (IsPermutation-refl _, (IsPermutation-refl _, (IsPermutation-refl _, (IsPermutation-refl _, (IsPermutation-refl _, tt)))))))))))))))))
+concluded row = written_but (Concluded row) (10 ∷ [])
+    (λ t. (
+      placed conclusion_cells (below_by conclusion_order) row
+          (filter (λ other. not (is_conclusion row.document row.package_id other)) t.conclusion),
+      tt,
+    )) (λ t. refl)
 
 -- an adoption after the others
 adoption_placed : (row : AdoptionRow) (t : Tables)
     → AreSame (rows_of (record t { adoption = put (below_by adoption_order) row t.adoption }))
     (with_rows adoption_table.tree (adoption_cells row ∷ []) (rows_of t))
-adoption_placed row t = (
-  IsPermutation-refl _,
-  (
-    IsPermutation-refl _,
-    (
-      IsPermutation-refl _,
-      (
-        IsPermutation-refl _,
-        (
-          IsPermutation-refl _,
-          (
-            IsPermutation-refl _,
-            (
-              IsPermutation-refl _,
-              (
-                placed adoption_cells (below_by adoption_order) row t.adoption,
-                (
-                  IsPermutation-refl _,
-                  (
-                    IsPermutation-refl _,
-                    (
-                      IsPermutation-refl _,
-                      (
-                        IsPermutation-refl _,
-                        (IsPermutation-refl _, (IsPermutation-refl _, (IsPermutation-refl _, (IsPermutation-refl _, tt)))),
-                      ),
-                    ),
-                  ),
-                ),
-              ),
-            ),
-          ),
-        ),
-      ),
-    ),
-  ),
-)
+adoption_placed row t = same_but (12 ∷ [])
+    (rows_of (record t { adoption = put (below_by adoption_order) row t.adoption }))
+    (with_rows adoption_table.tree (adoption_cells row ∷ []) (rows_of t))
+    (placed adoption_cells (below_by adoption_order) row t.adoption, tt) refl
 
 pub adopted : (row : AdoptionRow)
     → IsWritten (λ t. with_rows adoption_table.tree (adoption_cells row ∷ [])

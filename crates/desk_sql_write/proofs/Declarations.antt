@@ -497,7 +497,58 @@ declarations = (d.meta_text, bare d.meta_table) ∷ (d.catalogue_text, bare d.ca
     ∷ (d.reading_text, bare d.reading_table) ∷ (d.waiver_text, bare d.waiver_table) ∷ []
 
 pub all_are_declared : AreDeclared declarations d.no_schema
-all_are_declared = (meta_is, (meta_taken, (catalogue_is, (catalogue_taken, (rule_is, (rule_taken, (document_is, (document_taken, (package_is, (package_taken, (extracted_is, (extracted_taken, (conclusion_is, (conclusion_taken, (adoption_is, (adoption_taken, (releases_is, (releases_taken, (attached_is, (attached_taken, (choice_is, (choice_taken, (frozen_is, (frozen_taken, (duty_is, (duty_taken, (change_is, (change_taken, (reading_is, (reading_taken, (waiver_is, (waiver_taken, tt))))))))))))))))))))))))))))))))
+all_are_declared = (
+  meta_is,
+  (
+    meta_taken,
+    (
+      catalogue_is,
+      (
+        catalogue_taken,
+        (
+          rule_is,
+          (
+            rule_taken,
+            (
+              document_is,
+              (
+                document_taken,
+                (
+                  package_is,
+                  (
+                    package_taken,
+                    (
+                      extracted_is,
+                      (
+                        extracted_taken,
+                        (
+                          conclusion_is,
+                          (
+                            conclusion_taken,
+                            (
+                              adoption_is,
+                              (
+                                adoption_taken,
+                                (
+                                  releases_is,
+                                  (releases_taken, (attached_is, (attached_taken, (choice_is, (choice_taken, (frozen_is, (frozen_taken, (duty_is, (duty_taken, (change_is, (change_taken, (reading_is, (reading_taken, (waiver_is, (waiver_taken, tt))))))))))))))),
+                                ),
+                              ),
+                            ),
+                          ),
+                        ),
+                      ),
+                    ),
+                  ),
+                ),
+              ),
+            ),
+          ),
+        ),
+      ),
+    ),
+  ),
+)
 
 pub desk_schema_is : schema_after d.no_schema declarations ≡ d.desk_schema
 desk_schema_is = refl

@@ -24,7 +24,9 @@ use Rattle.desk_sql_layout.specs.Faults.{fault_by}
 use Rattle.sqlite.specs.Listing.{understood}
 use Rattle.sqlite.specs.Effect.{Database}
 use Rattle.sqlite.specs.State.{State, HasCleanDisk, Survives}
+use Rattle.sqlite.proofs.Callers.{survives_begin}
 use Rattle.sqlite.proofs.InsideLemmas.{keeps_then}
+use Rattle.sqlite.proofs.StateLemmas.{survives_then}
 use Rattle.desk_model.specs.declared.command.Fault.{Fault}
 use Rattle.desk_sql_layout.specs.Layout as d
 use Rattle.desk_sql_layout.specs.Cells.{number, meta_cells}
@@ -92,7 +94,31 @@ bare_rows db bare =
     let e = bare.empty in
     record {
       declared = bare.declared;
-      stored = (no_rows d.meta_table _ e.0, (no_rows d.catalogue_table _ e.1.0, (no_rows d.rule_table _ e.1.1.0, (no_rows d.document_table _ e.1.1.1.0, (no_rows d.package_table _ e.1.1.1.1.0, (no_rows d.extracted_table _ e.1.1.1.1.1.0, (no_rows d.conclusion_table _ e.1.1.1.1.1.1.0, (no_rows d.adoption_table _ e.1.1.1.1.1.1.1.0, (no_rows d.releases_table _ e.1.1.1.1.1.1.1.1.0, (no_rows d.attached_table _ e.1.1.1.1.1.1.1.1.1.0, (no_rows d.choice_table _ e.1.1.1.1.1.1.1.1.1.1.0, (no_rows d.frozen_table _ e.1.1.1.1.1.1.1.1.1.1.1.0, (no_rows d.duty_table _ e.1.1.1.1.1.1.1.1.1.1.1.1.0, (no_rows d.change_table _ e.1.1.1.1.1.1.1.1.1.1.1.1.1.0, (no_rows d.reading_table _ e.1.1.1.1.1.1.1.1.1.1.1.1.1.1.0, (no_rows d.waiver_table _ e.1.1.1.1.1.1.1.1.1.1.1.1.1.1.1.0, tt))))))))))))))));
+      stored = (
+        no_rows d.meta_table _ e.0,
+        (
+          no_rows d.catalogue_table _ e.1.0,
+          (
+            no_rows d.rule_table _ e.1.1.0,
+            (
+              no_rows d.document_table _ e.1.1.1.0,
+              (
+                no_rows d.package_table _ e.1.1.1.1.0,
+                (
+                  no_rows d.extracted_table _ e.1.1.1.1.1.0,
+                  (
+                    no_rows d.conclusion_table _ e.1.1.1.1.1.1.0,
+                    (
+                      no_rows d.adoption_table _ e.1.1.1.1.1.1.1.0,
+                      (no_rows d.releases_table _ e.1.1.1.1.1.1.1.1.0, (no_rows d.attached_table _ e.1.1.1.1.1.1.1.1.1.0, (no_rows d.choice_table _ e.1.1.1.1.1.1.1.1.1.1.0, (no_rows d.frozen_table _ e.1.1.1.1.1.1.1.1.1.1.1.0, (no_rows d.duty_table _ e.1.1.1.1.1.1.1.1.1.1.1.1.0, (no_rows d.change_table _ e.1.1.1.1.1.1.1.1.1.1.1.1.1.0, (no_rows d.reading_table _ e.1.1.1.1.1.1.1.1.1.1.1.1.1.1.0, (no_rows d.waiver_table _ e.1.1.1.1.1.1.1.1.1.1.1.1.1.1.1.0, tt)))))))),
+                    ),
+                  ),
+                ),
+              ),
+            ),
+          ),
+        ),
+      );
       sound = bare.sound;
     }
 
@@ -125,7 +151,22 @@ orderly = record {
 
 none_stand : CanStand nothing
 none_stand = record {
-  small = (tt, (tt, (tt, (tt, (tt, (tt, (tt, (tt, (tt, (tt, (tt, (tt, (tt, (tt, (tt, (tt, tt))))))))))))))));
+  small = (
+    tt,
+    (
+      tt,
+      (
+        tt,
+        (
+          tt,
+          (
+            tt,
+            (tt, (tt, (tt, (tt, (tt, (tt, (tt, (tt, (tt, (tt, (tt, tt))))))))))),
+          ),
+        ),
+      ),
+    ),
+  );
   keys = all_from (λ t. AllByRecursion (StandsOnce []) (t.primary ∷ t.uniques)) d.desk_schema.tables
       (λ t there. once (t.primary ∷ t.uniques));
 }
@@ -136,7 +177,10 @@ none_stand = record {
 
 version_stands : CanStand (with_rows 0 (meta_cells ∷ []) nothing)
 version_stands = record {
-  small = (((omega arith, tt), tt), (tt, (tt, (tt, (tt, (tt, (tt, (tt, (tt, (tt, (tt, (tt, (tt, (tt, (tt, (tt, tt))))))))))))))));
+  small = (
+    ((omega arith, tt), tt),
+    (tt, (tt, (tt, (tt, (tt, (tt, (tt, (tt, (tt, (tt, (tt, (tt, (tt, (tt, (tt, tt))))))))))))))),
+  );
   keys = all_from (λ t. AllByRecursion (StandsOnce (with_rows 0 (meta_cells ∷ []) nothing t.tree))
       (t.primary ∷ t.uniques)) d.desk_schema.tables
       (λ t there. each (t.tree == 0) (t.primary ∷ t.uniques));
@@ -240,6 +284,17 @@ pub err_founds : (a c : State) (r : Result (Unit {0}) Fault) (fault : Fault)
     → IsErrAnd r (λ e. e ≡ fault) → FoundFails a c fault → IfErr r (FoundFails a c)
 err_founds a c (Ok done) fault is fails = absurd is
 err_founds a c (Err e) fault is fails = rw is fails
+
+-- the commit leaves the tables of an empty desk, or what was there before
+pub commit_leaves : {S : Type 0} (g : Ghosts S) (old : Held S) (last new : State)
+    → Survives (state g (record old { in_transaction = true })) last (λ _. ⊥)
+    → Survives last new (λ trees. trees ≡ last.now.trees)
+    → (HasCleanDisk last → Founds (state g (record old { in_transaction = true })) last)
+    → Survives (state g old) new (LeavesTables (state g old))
+commit_leaves g old last new s u founds = survives_then (state g old) last new (λ _. ⊥)
+    (λ trees. trees ≡ last.now.trees) (LeavesTables (state g old)) (λ _ db none. absurd none)
+    (λ clean db is. let it = founds (clean_before last new _ u clean) in
+    (it.was_open, last.now, it.holds, is)) (survives_begin g old last (λ _. ⊥) s) u
 
 -- the transaction is dropped after a fault, and its commit fails only for a cause
 module _ {S : Type 0} (g : Ghosts S) (old : Held S) (last new : State) (P : Trees → Type 0) where

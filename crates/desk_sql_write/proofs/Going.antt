@@ -54,77 +54,40 @@ front_keys : (xs ys : List Row) (keys : List (List ℕ)) → AllByRecursion (Sta
 front_keys xs ys [] all = tt
 front_keys xs ys (k ∷ keys) all = (front_once xs ys k all.0, front_keys xs ys keys all.1)
 
--- each table is as before, or as after, or has more rows at the end
-abbrev pub AreBetween : (ℕ → List Row) → (ℕ → List Row) → (ℕ → List Row) → Type 0
-AreBetween old mid last = AllByRecursion
-    (λ t. (mid t.tree ≡ old t.tree)
-    ⊎ ((mid t.tree ≡ last t.tree) ⊎ ((more : List Row) × (last t.tree ≡ mid t.tree ++ more))))
-    desk_schema.tables
+-- rows are as before, or as after, or have more rows at the end afterwards
+abbrev pub IsBetween : List Row → List Row → List Row → Type 0
+IsBetween old mid last = (mid ≡ old) ⊎ ((mid ≡ last) ⊎ ((more : List Row) × (last ≡ mid ++ more)))
 
-pub can_stand : (old mid last : ℕ → List Row) → AreBetween old mid last → CanStand old
-    → CanStand last → CanStand mid
-can_stand old mid last between before after = record {
-  small = small desk_schema.tables between before.small after.small;
-  keys = keys desk_schema.tables between before.keys after.keys;
-}
+-- what is true of the rows of each table before and after is true between, if it is true of the
+-- first rows wherever it is true of all
+between : (P : Table → List Row → Type 0)
+    → ((t : Table) (xs ys : List Row) → P t (xs ++ ys) → P t xs) → (old mid last : ℕ → List Row)
+    → (tables : List Table)
+    → AllByRecursion (λ t. IsBetween (old t.tree) (mid t.tree) (last t.tree)) tables
+    → AllByRecursion (λ t. P t (old t.tree)) tables
+    → AllByRecursion (λ t. P t (last t.tree)) tables → AllByRecursion (λ t. P t (mid t.tree)) tables
+between P front old mid last [] all a b = tt
+between P front old mid last (t ∷ tables) all a b = (
+  one all.0,
+  between P front old mid last tables all.1 a.1 b.1,
+)
   where
-    small : (tables : List Table)
-        → AllByRecursion (λ t. (mid t.tree ≡ old t.tree)
-        ⊎ ((mid t.tree ≡ last t.tree) ⊎ ((more : List Row) × (last t.tree ≡ mid t.tree ++ more))))
-        tables
-        → AllByRecursion (λ t. AllByRecursion (AllByRecursion IsSmall) (old t.tree)) tables
-        → AllByRecursion (λ t. AllByRecursion (AllByRecursion IsSmall) (last t.tree)) tables
-        → AllByRecursion (λ t. AllByRecursion (AllByRecursion IsSmall) (mid t.tree)) tables
-    small [] all a b = tt
-    small (t ∷ tables) (
-      inl is,
-      all,
-    ) a b = (subst (AllByRecursion (AllByRecursion IsSmall)) (sym is) a.0, small tables all a.1 b.1)
-    small (t ∷ tables) (
-      inr (inl is),
-      all,
-    ) a b = (subst (AllByRecursion (AllByRecursion IsSmall)) (sym is) b.0, small tables all a.1 b.1)
-    small (t ∷ tables) (
-      inr (inr (more, is)),
-      all,
-    ) a b = (
-      front_all (AllByRecursion IsSmall) (mid t.tree) more
-          (subst (AllByRecursion (AllByRecursion IsSmall)) is b.0),
-      small tables all a.1 b.1,
-    )
+    one : IsBetween (old t.tree) (mid t.tree) (last t.tree) → P t (mid t.tree)
+    one (inl is) = subst (P t) (sym is) a.0
+    one (inr (inl is)) = subst (P t) (sym is) b.0
+    one (inr (inr (more, is))) = front t (mid t.tree) more (subst (P t) is b.0)
 
-    keys : (tables : List Table) → AllByRecursion
-        (λ t. (mid t.tree ≡ old t.tree)
-        ⊎ ((mid t.tree ≡ last t.tree) ⊎ ((more : List Row) × (last t.tree ≡ mid t.tree ++ more))))
-        tables
-        → AllByRecursion (λ t. AllByRecursion (StandsOnce (old t.tree)) (t.primary ∷ t.uniques))
-        tables → AllByRecursion (λ t. AllByRecursion (StandsOnce (last t.tree))
-        (t.primary ∷ t.uniques)) tables
-        → AllByRecursion (λ t. AllByRecursion (StandsOnce (mid t.tree)) (t.primary ∷ t.uniques))
-        tables
-    keys [] all a b = tt
-    keys (t ∷ tables) (
-      inl is,
-      all,
-    ) a b = (
-      subst (λ rows. AllByRecursion (StandsOnce rows) (t.primary ∷ t.uniques)) (sym is) a.0,
-      keys tables all a.1 b.1,
-    )
-    keys (t ∷ tables) (
-      inr (inl is),
-      all,
-    ) a b = (
-      subst (λ rows. AllByRecursion (StandsOnce rows) (t.primary ∷ t.uniques)) (sym is) b.0,
-      keys tables all a.1 b.1,
-    )
-    keys (t ∷ tables) (
-      inr (inr (more, is)),
-      all,
-    ) a b = (
-      front_keys (mid t.tree) more (t.primary ∷ t.uniques)
-          (subst (λ rows. AllByRecursion (StandsOnce rows) (t.primary ∷ t.uniques)) is b.0),
-      keys tables all a.1 b.1,
-    )
+pub can_stand : (old mid last : ℕ → List Row)
+    → AllByRecursion (λ t. IsBetween (old t.tree) (mid t.tree) (last t.tree)) desk_schema.tables
+    → CanStand old → CanStand last → CanStand mid
+can_stand old mid last all before after = record {
+  small = between (λ t. AllByRecursion (AllByRecursion IsSmall))
+      (λ t. front_all (AllByRecursion IsSmall)) old mid last desk_schema.tables all before.small
+      after.small;
+  keys = between (λ t rows. AllByRecursion (StandsOnce rows) (t.primary ∷ t.uniques))
+      (λ t xs ys. front_keys xs ys (t.primary ∷ t.uniques)) old mid last desk_schema.tables all
+      before.keys after.keys;
+}
 
 room_within : (j l : ℕ) (trees : Trees) → j ≤ l → HasRoom l trees → HasRoom j trees
 room_within j l trees within room = let some : l ≡ j + (l - j) = omega (arith, within) in
@@ -152,6 +115,12 @@ along show before after many a b (Err fault) w = record {
   };
   survives = w.survives;
 }
+
+-- the same rows that are added, for what shows the rows before
+pub adds_for : {A : Type 0} (show : A → ℕ → List Row) {more : (ℕ → List Row) → ℕ → List Row}
+    {many : ℕ} {a b : State} {r : Result (Unit {0}) Fault}
+    → Turns (λ rows. rows) more many a b r → Turns show (λ x. more (show x)) many a b r
+adds_for show {more} {many} {a} {b} {r} = along show (λ rows. rows) more many a b r
 
 module _ {A : Type 0} where
   -- nothing was written yet
@@ -232,9 +201,9 @@ module _ {A : Type 0} where
     survives = none_survives s;
   })
 
-  pub memory_turns : (f g : A → ℕ → List Row) (many : ℕ) (s : State) (r : Result (Unit {0}) Fault)
-      → IsErrAnd r (λ e. e ≡ Memory) → Turns f g many s s r
-  memory_turns f g many s r is = early_turns f g many s r Memory is (λ x after. inl refl)
+  pub memory_turns : {f g : A → ℕ → List Row} {many : ℕ} {s : State}
+      {r : Result (Unit {0}) Fault} → IsErrAnd r (λ e. e ≡ Memory) → Turns f g many s s r
+  memory_turns {f} {g} {many} {s} {r} is = early_turns f g many s r Memory is (λ x after. inl refl)
 
   -- one write, and then another
   pub then_turns : (f g h : A → ℕ → List Row) (j k : ℕ) (a b c : State)

@@ -2,17 +2,19 @@
 use Rattle.std.proofs.Common.{◌≡◌, ◌≢◌, ℕ, ℤ, zero, suc, pos, ◌+◌, true, List, [], ◌∷◌, map}
 use Rattle.std.proofs.Common.{flat_map, length, codes, Option, Some, None, IfErr, Result, refl, sym}
 use Rattle.std.proofs.Common.{subst, arith}
-use Rattle.std.specs.Prelude.{if◌then◌else◌, ◌/◌}
+use Rattle.std.specs.Prelude.{if◌then◌else◌, ◌/◌, slice_get}
 use Rattle.std.specs.List.{AllByRecursion}
 use Rattle.std.proofs.lemmas.List.{length-map}
+use Rattle.sqlite_value.specs.declared.keys.Order.{Order}
 use Rattle.sqlite_value.specs.declared.value.Value.TheVariants.{Null, Int, Text}
 use Rattle.sqlite_value.specs.Order.{Row}
 use Rattle.sqlite_trees.specs.Tree.{Trees}
 use Rattle.sqlite_sql.specs.Term.{Term, lit, col}
+use Rattle.sqlite_schema.specs.declared.schema.Column.{Column}
 use Rattle.sqlite_schema.specs.declared.schema.Constraint.TheVariants.{Datatype, NotNull}
 use Rattle.sqlite_schema.specs.declared.command.Command.TheVariants.{Insert}
 use Rattle.sqlite_schema.specs.declared.command.Source.TheVariants.{Values}
-use Rattle.sqlite_schema.specs.Rules.{passes}
+use Rattle.sqlite_schema.specs.Rules.{passes, table_reals}
 use Rattle.sqlite_typing.specs.Types.{accepts_terms}
 use Rattle.sqlite_tied.specs.Compute.{everything}
 use Rattle.sqlite.specs.Effect.{value_rows}
@@ -46,7 +48,7 @@ use Rattle.desk_sql_write.specs.Written.{Ran}
 use Rattle.desk_sql_write.proofs.Failing.{Reads}
 use Rattle.desk_sql_write.proofs.Inserting.{inserted_adds}
 use Rattle.desk_sql_write.proofs.Lists.{eight}
-use Rattle.desk_sql_write.proofs.Puts.{AreShown, Make, Suits}
+use Rattle.desk_sql_write.proofs.Puts.{AreShown, IsFirst, Make, Suits}
 use Rattle.desk_sql_write.proofs.Storable.{all_light, int_light, null_light}
 
 -- a text adds rows to the table with this tree, at most this many
@@ -79,6 +81,62 @@ abbrev source_of : Option ℕ → Row → Row
 source_of None cells = Null ∷ cells
 source_of (Some key) [] = []
 source_of (Some key) (number ∷ cells) = number ∷ Null ∷ cells
+
+-- eight rows are added by one text
+module _ (name : List ℕ) (tree : ℕ) (columns : List Column) (key : Option ℕ) (primary : List ℕ)
+    (uniques : List (List ℕ)) (orders : List Order) {X : Type 0} (cells : X → Row) where
+  abbrev sources : List X → List Row
+  sources = map (λ x. source_of key (cells x))
+
+  make_each : ((x : X) → Make name tree columns key primary uniques orders
+      (source_of key (cells x) ∷ []) (cells x ∷ [])) → (rows : List X)
+      → Make name tree columns key primary uniques orders (sources rows) (map cells rows)
+  make_each one [] = tt
+  make_each one (x ∷ rows) = ((one x).0, make_each one rows)
+
+  shown_each : ((x : X) → AreShown name tree columns key primary uniques orders (cells x ∷ []))
+      → (rows : List X) → AreShown name tree columns key primary uniques orders (map cells rows)
+  shown_each one [] = tt
+  shown_each one (x ∷ rows) = ((one x).0, shown_each one rows)
+
+  suit_each : (trees : Trees) → ((x : X) → AllByRecursion IsSmall (cells x)
+      → Suits name tree columns key primary uniques orders trees (cells x)) → (rows : List X)
+      → AllByRecursion (AllByRecursion IsSmall) (map cells rows)
+      → AllByRecursion (Suits name tree columns key primary uniques orders trees) (map cells rows)
+  suit_each trees one [] small = tt
+  suit_each trees one (x ∷ rows) small = (one x small.0, suit_each trees one rows small.1)
+
+  -- what the text gives for these rows
+  pub record Gives (terms : List Term) (width count : ℕ) (rows : List X) : Type 0 where
+    pub accepted : accepts_terms terms (flat_map cells rows) ≡ true
+    pub given : value_rows (flat_map cells rows) width (length terms / width) terms ≡ sources rows
+    pub counted : length (flat_map cells rows) ≡ count
+
+  eight_added : (place : ℕ) → slice_get d.desk_schema.tables place
+      ≡ Some (d.table_of name tree columns key primary uniques orders) → (text : List ℕ)
+      (terms : List Term) (width count : ℕ)
+      → Reads text count (Insert place (Values terms width))
+      → ((a b c d e f g h : X)
+      → Gives terms width count (a ∷ b ∷ c ∷ d ∷ e ∷ f ∷ g ∷ h ∷ []))
+      → table_reals (d.table_of name tree columns key primary uniques orders) ≡ 0
+      → IsFirst name tree columns key primary uniques orders key
+      → ((x : X) → Make name tree columns key primary uniques orders
+      (source_of key (cells x) ∷ []) (cells x ∷ []))
+      → ((x : X) → AreShown name tree columns key primary uniques orders (cells x ∷ []))
+      → ((trees : Trees) (x : X) → AllByRecursion IsSmall (cells x)
+      → Suits name tree columns key primary uniques orders trees (cells x))
+      → (rows : List X) → length rows ≡ 8
+      → AreAdded text (flat_map cells rows) tree (map cells rows) (length rows)
+  eight_added place listed text terms width count reads gives reals first make shown suits rows is
+      old new r ran into survives =
+      let all = eight (Gives terms width count) gives rows is in
+      let it = inserted_adds name tree columns key primary uniques orders place listed text
+      (flat_map cells rows) terms width
+      (subst (λ n. Reads text n (Insert place (Values terms width))) (sym all.counted) reads)
+      all.accepted (sources rows) (map cells rows) all.given reals first (make_each make rows)
+      (shown_each shown rows) (λ trees. suit_each trees (suits trees) rows) old new r ran into
+      survives in
+      subst (λ n. Adds (with_rows tree (map cells rows)) n old new r) (length-map rows cells) it
 
 -- ---- catalogue
 
@@ -495,26 +553,37 @@ add_frozen_reads : Reads add_frozen_text 5 (Insert 11 (Values (terms_of None 0 5
 unfolding understood everything
 add_frozen_reads = record { is = refl; plain = (refl, refl); fits = (refl, refl) }
 
+frozen_makes : (row : FrozenRow) → let this = d.frozen_table in
+    Make this.name 21 this.columns this.key this.primary this.uniques this.orders
+    (source_of None (frozen_cells row) ∷ []) (frozen_cells row ∷ [])
+frozen_makes row = (
+  (λ stored. rw (cast_null, cast_int (pos row.document)) refl),
+  tt,
+)
+
+frozen_suits : (trees : Trees) (row : FrozenRow) → AllByRecursion IsSmall (frozen_cells row)
+    → let this = d.frozen_table in
+    Suits this.name 21 this.columns this.key this.primary this.uniques this.orders trees
+    (frozen_cells row)
+frozen_suits trees row small = record {
+  number = tt;
+  right = λ id. record {
+    typed = refl;
+    present = refl;
+    light = (int_light id, all_light (frozen_cells row) small);
+    some = omega arith;
+    few = omega arith;
+  };
+}
+
 pub frozen_added : (row : FrozenRow) → IsAdded add_frozen_text 21 (frozen_cells row)
 frozen_added row old new =
     let this = d.frozen_table in
     inserted_adds this.name 21 this.columns this.key this.primary this.uniques this.orders 11 refl
     add_frozen_text (frozen_cells row) (terms_of None 0 5) 6 add_frozen_reads refl
     (source_of None (frozen_cells row) ∷ []) (frozen_cells row ∷ []) refl refl tt
-    ((λ stored. rw (cast_null, cast_int (pos row.document)) refl), tt) (λ id. refl, tt)
-    (λ trees small. (
-      record {
-        number = tt;
-        right = λ id. record {
-          typed = refl;
-          present = refl;
-          light = (int_light id, all_light (frozen_cells row) small.0);
-          some = omega arith;
-          few = omega arith;
-        };
-      },
-      tt,
-    )) old new
+    (frozen_makes row) (λ id. refl, tt)
+    (λ trees small. (frozen_suits trees row small.0, tt)) old new
 
 -- ---- eight frozen terms
 
@@ -526,77 +595,15 @@ add_eight_frozen_reads : Reads add_eight_frozen_text 40 (Insert 11 (Values (eigh
 unfolding understood everything
 add_eight_frozen_reads = record { is = refl; plain = (refl, refl); fits = (refl, refl) }
 
-abbrev frozen_terms_sources : List FrozenRow → List Row
-frozen_terms_sources = map (λ row. source_of None (frozen_cells row))
-
-frozen_terms_given : (rows : List FrozenRow) → length rows ≡ 8
-    → value_rows (flat_map frozen_cells rows) 6 (length (eight_terms None 5) / 6)
-    (eight_terms None 5) ≡ frozen_terms_sources rows
-frozen_terms_given = eight (λ rows. value_rows (flat_map frozen_cells rows) 6
-    (length (eight_terms None 5) / 6) (eight_terms None 5) ≡ frozen_terms_sources rows)
-    (λ a b c d e f g h. refl)
-
-frozen_terms_make : (rows : List FrozenRow) → let this = d.frozen_table in
-    Make this.name 21 this.columns this.key this.primary this.uniques this.orders
-    (frozen_terms_sources rows) (map frozen_cells rows)
-frozen_terms_make [] = tt
-frozen_terms_make (row ∷ rows) = (
-  (λ stored. rw (cast_null, cast_int (pos row.document)) refl),
-  frozen_terms_make rows,
-)
-
-frozen_terms_shown : (rows : List FrozenRow) → let this = d.frozen_table in
-    AreShown this.name 21 this.columns this.key this.primary this.uniques this.orders
-    (map frozen_cells rows)
-frozen_terms_shown [] = tt
-frozen_terms_shown (row ∷ rows) = ((λ id. refl), frozen_terms_shown rows)
-
-frozen_terms_suit : (trees : Trees) (rows : List FrozenRow)
-    → AllByRecursion (AllByRecursion IsSmall) (map frozen_cells rows) → let this = d.frozen_table in
-    AllByRecursion (Suits this.name 21 this.columns this.key this.primary this.uniques this.orders
-    trees) (map frozen_cells rows)
-frozen_terms_suit trees [] small = tt
-frozen_terms_suit trees (row ∷ rows) small = (
-  record {
-    number = tt;
-    right = λ id. record {
-      typed = refl;
-      present = refl;
-      light = (int_light id, all_light (frozen_cells row) small.0);
-      some = omega arith;
-      few = omega arith;
-    };
-  },
-  frozen_terms_suit trees rows small.1,
-)
-
-frozen_terms_accepted : (rows : List FrozenRow) → length rows ≡ 8
-    → accepts_terms (eight_terms None 5) (flat_map frozen_cells rows) ≡ true
-frozen_terms_accepted = eight
-    (λ rows. accepts_terms (eight_terms None 5) (flat_map frozen_cells rows) ≡ true)
-    (λ a b c d e f g h. refl)
-
-frozen_terms_count : (rows : List FrozenRow) → length rows ≡ 8
-    → length (flat_map frozen_cells rows) ≡ 40
-frozen_terms_count = eight (λ rows. length (flat_map frozen_cells rows) ≡ 40)
-    (λ a b c d e f g h. refl)
-
 pub frozen_terms_added : (rows : List FrozenRow) → length rows ≡ 8
     → AreAdded add_eight_frozen_text (flat_map frozen_cells rows) 21 (map frozen_cells rows)
     (length rows)
-frozen_terms_added rows is old new r ran into survives =
+frozen_terms_added =
     let this = d.frozen_table in
-    let reads = subst (λ n. Reads add_eight_frozen_text n
-    (Insert 11 (Values (eight_terms None 5) 6))) (sym (frozen_terms_count rows is))
-    add_eight_frozen_reads in
-    let it = inserted_adds this.name 21 this.columns this.key this.primary this.uniques this.orders
-    11 refl add_eight_frozen_text (flat_map frozen_cells rows) (eight_terms None 5) 6 reads
-    (frozen_terms_accepted rows is)
-    (frozen_terms_sources rows) (map frozen_cells rows) (frozen_terms_given rows is) refl tt
-    (frozen_terms_make rows) (frozen_terms_shown rows)
-    (λ trees small. frozen_terms_suit trees rows small) old new r ran into survives in
-    subst (λ n. Adds (with_rows 21 (map frozen_cells rows)) n old new r)
-    (length-map rows frozen_cells) it
+    eight_added this.name 21 this.columns this.key this.primary this.uniques this.orders
+    frozen_cells 11 refl add_eight_frozen_text (eight_terms None 5) 6 40 add_eight_frozen_reads
+    (λ a b c d e f g h. record { accepted = refl; given = refl; counted = refl }) refl tt
+    frozen_makes (λ row. ((λ id. refl), tt)) frozen_suits
 
 -- ---- duty
 
@@ -607,30 +614,40 @@ add_duty_reads : Reads add_duty_text 8 (Insert 12 (Values (terms_of (Some 0) 0 8
 unfolding understood everything
 add_duty_reads = record { is = refl; plain = (refl, refl); fits = (refl, refl) }
 
+duty_makes : (row : DutyRow) → let this = d.duty_table in
+    Make this.name 23 this.columns this.key this.primary this.uniques this.orders
+    (source_of (Some 0) (duty_cells row) ∷ []) (duty_cells row ∷ [])
+duty_makes row = (
+  (λ stored. rw (cast_null, cast_int (pos row.number), cast_int (pos row.document)) refl),
+  tt,
+)
+
+duty_suits : (trees : Trees) (row : DutyRow) → AllByRecursion IsSmall (duty_cells row)
+    → let this = d.duty_table in
+    Suits this.name 23 this.columns this.key this.primary this.uniques this.orders trees
+    (duty_cells row)
+duty_suits trees row small = record {
+  number = (row.number, _, refl, small.0);
+  right = λ id. record {
+    typed = refl;
+    present = refl;
+    light = (
+      (all_light (duty_cells row) small).0,
+      (null_light, (all_light (duty_cells row) small).1),
+    );
+    some = omega arith;
+    few = omega arith;
+  };
+}
+
 pub duty_added : (row : DutyRow) → IsAdded add_duty_text 23 (duty_cells row)
 duty_added row old new =
     let this = d.duty_table in
     inserted_adds this.name 23 this.columns this.key this.primary this.uniques this.orders 12 refl
     add_duty_text (duty_cells row) (terms_of (Some 0) 0 8) 9 add_duty_reads refl
     (source_of (Some 0) (duty_cells row) ∷ []) (duty_cells row ∷ []) refl refl (refl, λ r. refl)
-    ((λ stored. rw (cast_null, cast_int (pos row.number), cast_int (pos row.document)) refl), tt)
-    (λ id. refl, tt)
-    (λ trees small. (
-      record {
-        number = (row.number, _, refl, small.0.0);
-        right = λ id. record {
-          typed = refl;
-          present = refl;
-          light = (
-            (all_light (duty_cells row) small.0).0,
-            (null_light, (all_light (duty_cells row) small.0).1),
-          );
-          some = omega arith;
-          few = omega arith;
-        };
-      },
-      tt,
-    )) old new
+    (duty_makes row) (λ id. refl, tt)
+    (λ trees small. (duty_suits trees row small.0, tt)) old new
 
 -- ---- eight duties
 
@@ -643,77 +660,24 @@ add_eight_duties_reads : Reads add_eight_duties_text 64
 unfolding understood everything
 add_eight_duties_reads = record { is = refl; plain = (refl, refl); fits = (refl, refl) }
 
-abbrev duties_sources : List DutyRow → List Row
-duties_sources = map (λ row. source_of (Some 0) (duty_cells row))
-
-duties_given : (rows : List DutyRow) → length rows ≡ 8
-    → value_rows (flat_map duty_cells rows) 9 (length (eight_terms (Some 0) 8) / 9)
-    (eight_terms (Some 0) 8) ≡ duties_sources rows
-duties_given = eight (λ rows. value_rows (flat_map duty_cells rows) 9
-    (length (eight_terms (Some 0) 8) / 9) (eight_terms (Some 0) 8) ≡ duties_sources rows)
-    (λ a b c d e f g h. refl)
-
-duties_make : (rows : List DutyRow) → let this = d.duty_table in
-    Make this.name 23 this.columns this.key this.primary this.uniques this.orders
-    (duties_sources rows) (map duty_cells rows)
-duties_make [] = tt
-duties_make (row ∷ rows) = (
-  (λ stored. rw (cast_null, cast_int (pos row.number), cast_int (pos row.document)) refl),
-  duties_make rows,
-)
-
-duties_shown : (rows : List DutyRow) → let this = d.duty_table in
-    AreShown this.name 23 this.columns this.key this.primary this.uniques this.orders
-    (map duty_cells rows)
-duties_shown [] = tt
-duties_shown (row ∷ rows) = ((λ id. refl), duties_shown rows)
+pub duties_added : (rows : List DutyRow) → length rows ≡ 8
+    → AreAdded add_eight_duties_text (flat_map duty_cells rows) 23 (map duty_cells rows)
+    (length rows)
+duties_added =
+    let this = d.duty_table in
+    eight_added this.name 23 this.columns this.key this.primary this.uniques this.orders
+    duty_cells 12 refl add_eight_duties_text (eight_terms (Some 0) 8) 9 64 add_eight_duties_reads
+    (λ a b c d e f g h. record { accepted = refl; given = refl; counted = refl }) refl
+    (refl, λ r. refl) duty_makes (λ row. ((λ id. refl), tt)) duty_suits
 
 pub duties_suit : (trees : Trees) (rows : List DutyRow)
     → AllByRecursion (AllByRecursion IsSmall) (map duty_cells rows) → let this = d.duty_table in
     AllByRecursion (Suits this.name 23 this.columns this.key this.primary this.uniques this.orders
     trees) (map duty_cells rows)
-duties_suit trees [] small = tt
-duties_suit trees (row ∷ rows) small = (
-  record {
-    number = (row.number, _, refl, small.0.0);
-    right = λ id. record {
-      typed = refl;
-      present = refl;
-      light = (
-        (all_light (duty_cells row) small.0).0,
-        (null_light, (all_light (duty_cells row) small.0).1),
-      );
-      some = omega arith;
-      few = omega arith;
-    };
-  },
-  duties_suit trees rows small.1,
-)
-
-duties_accepted : (rows : List DutyRow) → length rows ≡ 8
-    → accepts_terms (eight_terms (Some 0) 8) (flat_map duty_cells rows) ≡ true
-duties_accepted = eight (λ rows. accepts_terms (eight_terms (Some 0) 8) (flat_map duty_cells rows)
-    ≡ true) (λ a b c d e f g h. refl)
-
-duties_count : (rows : List DutyRow) → length rows ≡ 8 → length (flat_map duty_cells rows) ≡ 64
-duties_count = eight (λ rows. length (flat_map duty_cells rows) ≡ 64) (λ a b c d e f g h. refl)
-
-pub duties_added : (rows : List DutyRow) → length rows ≡ 8
-    → AreAdded add_eight_duties_text (flat_map duty_cells rows) 23 (map duty_cells rows)
-    (length rows)
-duties_added rows is old new r ran into survives =
+duties_suit trees =
     let this = d.duty_table in
-    let reads = subst (λ n. Reads add_eight_duties_text n
-    (Insert 12 (Values (eight_terms (Some 0) 8) 9))) (sym (duties_count rows is))
-    add_eight_duties_reads in
-    let it = inserted_adds this.name 23 this.columns this.key this.primary this.uniques this.orders
-    12 refl add_eight_duties_text (flat_map duty_cells rows) (eight_terms (Some 0) 8) 9 reads
-    (duties_accepted rows is)
-    (duties_sources rows) (map duty_cells rows) (duties_given rows is) refl (refl, λ r. refl)
-    (duties_make rows) (duties_shown rows) (λ trees small. duties_suit trees rows small) old new r
-    ran into survives in
-    subst (λ n. Adds (with_rows 23 (map duty_cells rows)) n old new r) (length-map rows duty_cells)
-    it
+    suit_each this.name 23 this.columns this.key this.primary this.uniques this.orders duty_cells
+    trees (duty_suits trees)
 
 -- ---- change
 
@@ -724,27 +688,37 @@ add_change_reads : Reads add_change_text 5 (Insert 13 (Values (terms_of None 0 5
 unfolding understood everything
 add_change_reads = record { is = refl; plain = (refl, refl); fits = (refl, refl) }
 
+change_makes : (row : ChangeRow) → let this = d.change_table in
+    Make this.name 25 this.columns this.key this.primary this.uniques this.orders
+    (source_of None (change_cells row) ∷ []) (change_cells row ∷ [])
+change_makes row = (
+  (λ stored. rw (cast_null, cast_int (pos row.duty), cast_int (pos row.step)) refl),
+  tt,
+)
+
+change_suits : (trees : Trees) (row : ChangeRow) → AllByRecursion IsSmall (change_cells row)
+    → let this = d.change_table in
+    Suits this.name 25 this.columns this.key this.primary this.uniques this.orders trees
+    (change_cells row)
+change_suits trees row small = record {
+  number = tt;
+  right = λ id. record {
+    typed = refl;
+    present = refl;
+    light = (int_light id, all_light (change_cells row) small);
+    some = omega arith;
+    few = omega arith;
+  };
+}
+
 pub change_added : (row : ChangeRow) → IsAdded add_change_text 25 (change_cells row)
 change_added row old new =
     let this = d.change_table in
     inserted_adds this.name 25 this.columns this.key this.primary this.uniques this.orders 13 refl
     add_change_text (change_cells row) (terms_of None 0 5) 6 add_change_reads refl
     (source_of None (change_cells row) ∷ []) (change_cells row ∷ []) refl refl tt
-    ((λ stored. rw (cast_null, cast_int (pos row.duty), cast_int (pos row.step)) refl), tt)
-    (λ id. refl, tt)
-    (λ trees small. (
-      record {
-        number = tt;
-        right = λ id. record {
-          typed = refl;
-          present = refl;
-          light = (int_light id, all_light (change_cells row) small.0);
-          some = omega arith;
-          few = omega arith;
-        };
-      },
-      tt,
-    )) old new
+    (change_makes row) (λ id. refl, tt)
+    (λ trees small. (change_suits trees row small.0, tt)) old new
 
 -- ---- eight changes
 
@@ -757,74 +731,15 @@ add_eight_changes_reads : Reads add_eight_changes_text 40
 unfolding understood everything
 add_eight_changes_reads = record { is = refl; plain = (refl, refl); fits = (refl, refl) }
 
-abbrev changes_sources : List ChangeRow → List Row
-changes_sources = map (λ row. source_of None (change_cells row))
-
-changes_given : (rows : List ChangeRow) → length rows ≡ 8
-    → value_rows (flat_map change_cells rows) 6 (length (eight_terms None 5) / 6)
-    (eight_terms None 5) ≡ changes_sources rows
-changes_given = eight (λ rows. value_rows (flat_map change_cells rows) 6
-    (length (eight_terms None 5) / 6) (eight_terms None 5) ≡ changes_sources rows)
-    (λ a b c d e f g h. refl)
-
-changes_make : (rows : List ChangeRow) → let this = d.change_table in
-    Make this.name 25 this.columns this.key this.primary this.uniques this.orders
-    (changes_sources rows) (map change_cells rows)
-changes_make [] = tt
-changes_make (row ∷ rows) = (
-  (λ stored. rw (cast_null, cast_int (pos row.duty), cast_int (pos row.step)) refl),
-  changes_make rows,
-)
-
-changes_shown : (rows : List ChangeRow) → let this = d.change_table in
-    AreShown this.name 25 this.columns this.key this.primary this.uniques this.orders
-    (map change_cells rows)
-changes_shown [] = tt
-changes_shown (row ∷ rows) = ((λ id. refl), changes_shown rows)
-
-changes_suit : (trees : Trees) (rows : List ChangeRow)
-    → AllByRecursion (AllByRecursion IsSmall) (map change_cells rows) → let this = d.change_table in
-    AllByRecursion (Suits this.name 25 this.columns this.key this.primary this.uniques this.orders
-    trees) (map change_cells rows)
-changes_suit trees [] small = tt
-changes_suit trees (row ∷ rows) small = (
-  record {
-    number = tt;
-    right = λ id. record {
-      typed = refl;
-      present = refl;
-      light = (int_light id, all_light (change_cells row) small.0);
-      some = omega arith;
-      few = omega arith;
-    };
-  },
-  changes_suit trees rows small.1,
-)
-
-changes_accepted : (rows : List ChangeRow) → length rows ≡ 8
-    → accepts_terms (eight_terms None 5) (flat_map change_cells rows) ≡ true
-changes_accepted = eight (λ rows. accepts_terms (eight_terms None 5) (flat_map change_cells rows)
-    ≡ true) (λ a b c d e f g h. refl)
-
-changes_count : (rows : List ChangeRow) → length rows ≡ 8 → length (flat_map change_cells rows) ≡ 40
-changes_count = eight (λ rows. length (flat_map change_cells rows) ≡ 40) (λ a b c d e f g h. refl)
-
 pub changes_added : (rows : List ChangeRow) → length rows ≡ 8
     → AreAdded add_eight_changes_text (flat_map change_cells rows) 25 (map change_cells rows)
     (length rows)
-changes_added rows is old new r ran into survives =
+changes_added =
     let this = d.change_table in
-    let reads = subst (λ n. Reads add_eight_changes_text n
-    (Insert 13 (Values (eight_terms None 5) 6))) (sym (changes_count rows is))
-    add_eight_changes_reads in
-    let it = inserted_adds this.name 25 this.columns this.key this.primary this.uniques this.orders
-    13 refl add_eight_changes_text (flat_map change_cells rows) (eight_terms None 5) 6 reads
-    (changes_accepted rows is)
-    (changes_sources rows) (map change_cells rows) (changes_given rows is) refl tt
-    (changes_make rows) (changes_shown rows) (λ trees small. changes_suit trees rows small) old new
-    r ran into survives in
-    subst (λ n. Adds (with_rows 25 (map change_cells rows)) n old new r)
-    (length-map rows change_cells) it
+    eight_added this.name 25 this.columns this.key this.primary this.uniques this.orders
+    change_cells 13 refl add_eight_changes_text (eight_terms None 5) 6 40 add_eight_changes_reads
+    (λ a b c d e f g h. record { accepted = refl; given = refl; counted = refl }) refl tt
+    change_makes (λ row. ((λ id. refl), tt)) change_suits
 
 -- ---- waiver
 

@@ -1,4 +1,5 @@
 pub mod Inside
+mod Extending
 mod Behind
 mod Inserts
 mod Deletes
@@ -20,5 +21,6 @@ mod Going
 mod Deleting
 mod Updating
 mod Stands
+mod Moving
 pub mod Causes
 mod Known

@@ -2,11 +2,12 @@
 use Rattle.std.specs.List.{join_with_byte}
 use Rattle.std.specs.Prelude.{Some, None, find, not}
 use Rattle.std.proofs.lemmas.Grind.{flat_map-append}
+use Rattle.std.proofs.lemmas.List.{map-append}
 use Rattle.desk_model.specs.declared.row.ChangeRow.{ChangeRow}
 use Rattle.desk_sql_layout.specs.Cells.{is_waiver}
-use Rattle.std.proofs.Common.{◌≡◌, Bool, true, false, cond, drop, filter, flat_map, ℕ, zero, suc}
-use Rattle.std.proofs.Common.{◌<◌, ◌≤◌, List, [], ◌∷◌, ◌++◌, take, length, get_or, refl, sym, ap}
-use Rattle.std.proofs.Common.{arith, add-one, ◌∙◌, ◌+◌}
+use Rattle.std.proofs.Common.{◌≡◌, Bool, true, false, cond, drop, filter, flat_map, map, ℕ, zero}
+use Rattle.std.proofs.Common.{suc, ◌<◌, ◌≤◌, List, [], ◌∷◌, ◌++◌, take, length, get_or, refl, sym}
+use Rattle.std.proofs.Common.{ap, arith, add-one, ◌∙◌, ◌+◌}
 
 pub append_nil : {X : Type 0} (xs : List X) → xs ++ [] ≡ xs
 append_nil [] = refl
@@ -38,17 +39,6 @@ pub front_more : {X : Type 0} (xs rows : List X) (i : ℕ) (d x : X) → x ≡ g
 front_more xs rows i d x is low = append_more xs (take i rows) x
     ∙ ap (λ y. xs ++ (take i rows ++ y ∷ [])) is ∙ ap (λ l. xs ++ l) (take_more rows i d low)
     ∙ ap (λ n. xs ++ take n rows) (sym (add-one i))
-
-drop_next : {X : Type 0} (rows : List X) (n : ℕ) (d : X) → n < length rows
-    → drop n rows ≡ get_or rows n d ∷ drop (suc n) rows
-drop_next [] n d low = absurd (omega arith)
-drop_next (x ∷ rows) zero d low = refl
-drop_next (x ∷ rows) (suc n) d low = drop_next rows n d (omega arith)
-
-drop_less : {X : Type 0} (rows : List X) (n : ℕ) (d : X) → n < length rows
-    → drop n rows ≡ get_or rows n d ∷ drop (n + 1) rows
-drop_less rows n d low = drop_next rows n d low
-    ∙ ap (λ m. get_or rows n d ∷ drop m rows) (sym (add-one n))
 
 -- the rows of two lists that pass a test
 pub filter_both : {X : Type 0} (p : X → Bool) (xs ys : List X)
@@ -129,16 +119,25 @@ eight P holds (a ∷ []) is = absurd (omega arith)
 eight P holds [] is = absurd (omega arith)
 
 -- what is made of the front of a list and of the next item
-pub flat_more : {X V : Type 0} (f : X → List V) (rows : List X) (i : ℕ) (d x : X)
+flat_more : {X V : Type 0} (f : X → List V) (rows : List X) (i : ℕ) (d x : X)
     → x ≡ get_or rows i d → i < length rows
     → flat_map f (take i rows) ++ flat_map f (x ∷ []) ≡ flat_map f (take (i + 1) rows)
 flat_more f rows i d x is low = sym (flat_map-append f (take i rows) (x ∷ []))
     ∙ ap (flat_map f) (front_more [] rows i d x is low)
 
-pub cut_at : {X : Type 0} (rows : List X) (n : ℕ) (d x : X) → x ≡ get_or rows n d → n < length rows
-    → rows ≡ take n rows ++ x ∷ drop (n + 1) rows
-cut_at rows n d x is low = take_and_drop n rows
-    ∙ ap (λ l. take n rows ++ l) (drop_less rows n d low ∙ ap (λ y. y ∷ drop (n + 1) rows) (sym is))
+-- the same for what another list is made of, and then more of it
+pub values_more : {X V W : Type 0} (f : X → List W) (g : V → W) (rows : List X) (i : ℕ) (x : X)
+    (old new all : List V) → all ≡ old ++ new → map g old ≡ flat_map f (take i rows)
+    → map g new ≡ flat_map f (x ∷ []) → x ≡ get_or rows i x → i < length rows
+    → map g all ≡ flat_map f (take (i + 1) rows)
+values_more f g rows i x old new all said had more is low =
+    ap (map g) said ∙ map-append g old new ∙ ap (λ l. l ++ map g new) had
+    ∙ ap (λ l. flat_map f (take i rows) ++ l) more ∙ flat_more f rows i x x is low
+
+pub cut_in_two : {X : Type 0} (n : ℕ) (all front back : List X) → front ≡ take n all
+    → back ≡ drop n all → all ≡ front ++ back
+cut_in_two n all front back is rest = take_and_drop n all
+    ∙ (λ i. sym is i ++ sym rest i)
 
 pub none_left : {X : Type 0} (xs : List X) → length xs ≡ 0 → xs ≡ []
 none_left [] is = refl

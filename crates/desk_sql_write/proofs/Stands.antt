@@ -42,7 +42,25 @@ set_small n s [] small = tt
 set_small n s (d ∷ duties) small = (go (is_duty n d), set_small n s duties small.1)
   where
     go : (b : Bool) → AllByRecursion IsSmall (duty_cells (cond b (with_duty_state s d) d))
-    go true = (small.0.0, (small.0.1.0, (small.0.1.1.0, (small.0.1.1.1.0, (small.0.1.1.1.1.0, (small.0.1.1.1.1.1.0, (small.0.1.1.1.1.1.1.0, (state_small s, tt))))))))
+    go true = (
+      small.0.0,
+      (
+        small.0.1.0,
+        (
+          small.0.1.1.0,
+          (
+            small.0.1.1.1.0,
+            (
+              small.0.1.1.1.1.0,
+              (
+                small.0.1.1.1.1.1.0,
+                (small.0.1.1.1.1.1.1.0, (state_small s, tt)),
+              ),
+            ),
+          ),
+        ),
+      ),
+    )
     go false = small.0
 
 set_once : (n : ℕ) (s : DutyState) (h : Row → Bool)
@@ -73,7 +91,46 @@ listed = has_got desk_schema.tables 12 duty_table refl
 elsewhere : (n : ℕ) (s : DutyState) (it : Tables)
     → AllByRecursion (λ t. t.tree ≢ 23 → rows_of (set_all n s it) t.tree ≡ rows_of it t.tree)
     desk_schema.tables
-elsewhere n s it = (λ n. refl, (λ n. refl, (λ n. refl, (λ n. refl, (λ n. refl, (λ n. refl, (λ n. refl, (λ n. refl, (λ n. refl, (λ n. refl, (λ n. refl, (λ n. refl, (λ n. absurd (n refl), (λ n. refl, (λ n. refl, (λ n. refl, tt))))))))))))))))
+elsewhere n s it = (
+  λ n. refl,
+  (
+    λ n. refl,
+    (
+      λ n. refl,
+      (
+        λ n. refl,
+        (
+          λ n. refl,
+          (
+            λ n. refl,
+            (
+              λ n. refl,
+              (
+                λ n. refl,
+                (
+                  λ n. refl,
+                  (
+                    λ n. refl,
+                    (
+                      λ n. refl,
+                      (
+                        λ n. refl,
+                        (
+                          λ n. absurd (n refl),
+                          (λ n. refl, (λ n. refl, (λ n. refl, tt))),
+                        ),
+                      ),
+                    ),
+                  ),
+                ),
+              ),
+            ),
+          ),
+        ),
+      ),
+    ),
+  ),
+)
 
 pub set_stand : (n : ℕ) (s : DutyState) (it : Tables) → CanStand (rows_of it)
     → CanStand (rows_of (set_all n s it))

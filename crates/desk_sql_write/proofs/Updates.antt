@@ -13,7 +13,7 @@ use Rattle.sqlite_trees.proofs.ListLemmas.{IsPermutation-same}
 use Rattle.sqlite_sql.specs.declared.ops.BinaryOp.TheVariants.{Compare}
 use Rattle.sqlite_sql.specs.declared.ops.CompareOp.TheVariants.{Eq, Ge, Le}
 use Rattle.sqlite_sql.specs.Ops.{binary, is_true}
-use Rattle.sqlite_sql.specs.Term.{Term, lit, col, op2}
+use Rattle.sqlite_sql.specs.Term.{Term, lit, col}
 use Rattle.sqlite_schema.specs.declared.schema.Kind.TheVariants.{Integer, Text as Words}
 use Rattle.sqlite_schema.specs.declared.command.Command.TheVariants.{Update}
 use Rattle.sqlite_rules.specs.Cast.{cast}
@@ -130,7 +130,46 @@ release_frozen name revision old new =
     (λ r whole. rw (cast_rowid (rowid r) whole, cast_int (pos revision)) refl)
     (λ r. rw (cast_int (pos revision)) refl)
     (λ r whole. cast_rowid (rowid r) whole ∙ sym (int_is (rowid r) whole))
-    (λ t. (λ n. refl, (λ n. refl, (λ n. refl, (λ n. refl, (λ n. refl, (λ n. refl, (λ n. refl, (λ n. refl, (λ n. absurd (n refl), (λ n. refl, (λ n. refl, (λ n. refl, (λ n. refl, (λ n. refl, (λ n. refl, (λ n. refl, tt)))))))))))))))))
+    (λ t. (
+      λ n. refl,
+      (
+        λ n. refl,
+        (
+          λ n. refl,
+          (
+            λ n. refl,
+            (
+              λ n. refl,
+              (
+                λ n. refl,
+                (
+                  λ n. refl,
+                  (
+                    λ n. refl,
+                    (
+                      λ n. absurd (n refl),
+                      (
+                        λ n. refl,
+                        (
+                          λ n. refl,
+                          (
+                            λ n. refl,
+                            (
+                              λ n. refl,
+                              (λ n. refl, (λ n. refl, (λ n. refl, tt))),
+                            ),
+                          ),
+                        ),
+                      ),
+                    ),
+                  ),
+                ),
+              ),
+            ),
+          ),
+        ),
+      ),
+    ))
     (λ t. IsPermutation-same _ _ (changed_cells release_cells (is_release name)
     (with_release_state Frozen revision) q u (λ row. freeze_release_one name revision row)
     t.releases))
@@ -187,7 +226,46 @@ release_withdrawn name old new =
     withdraw_release_project q u withdraw_release_reads refl refl (λ r. refl)
     (λ r whole. rw (cast_rowid (rowid r) whole) refl) (λ r. refl)
     (λ r whole. cast_rowid (rowid r) whole ∙ sym (int_is (rowid r) whole))
-    (λ t. (λ n. refl, (λ n. refl, (λ n. refl, (λ n. refl, (λ n. refl, (λ n. refl, (λ n. refl, (λ n. refl, (λ n. absurd (n refl), (λ n. refl, (λ n. refl, (λ n. refl, (λ n. refl, (λ n. refl, (λ n. refl, (λ n. refl, tt)))))))))))))))))
+    (λ t. (
+      λ n. refl,
+      (
+        λ n. refl,
+        (
+          λ n. refl,
+          (
+            λ n. refl,
+            (
+              λ n. refl,
+              (
+                λ n. refl,
+                (
+                  λ n. refl,
+                  (
+                    λ n. refl,
+                    (
+                      λ n. absurd (n refl),
+                      (
+                        λ n. refl,
+                        (
+                          λ n. refl,
+                          (
+                            λ n. refl,
+                            (
+                              λ n. refl,
+                              (λ n. refl, (λ n. refl, (λ n. refl, tt))),
+                            ),
+                          ),
+                        ),
+                      ),
+                    ),
+                  ),
+                ),
+              ),
+            ),
+          ),
+        ),
+      ),
+    ))
     (λ t. IsPermutation-same _ _ (changed_cells release_cells (is_release name) (withdrawn_release)
     q u (λ row. withdraw_release_one name row) t.releases))
     (λ t trees small. releases_suit trees (changed (is_release name) (withdrawn_release) t.releases)
@@ -245,7 +323,46 @@ duty_set n to old new =
     refl refl (λ r. refl)
     (λ r whole. rw cast_null refl) (λ r. refl)
     (λ r whole. cast_rowid (rowid r) whole ∙ sym (int_is (rowid r) whole))
-    (λ t. (λ n. refl, (λ n. refl, (λ n. refl, (λ n. refl, (λ n. refl, (λ n. refl, (λ n. refl, (λ n. refl, (λ n. refl, (λ n. refl, (λ n. refl, (λ n. refl, (λ n. absurd (n refl), (λ n. refl, (λ n. refl, (λ n. refl, tt)))))))))))))))))
+    (λ t. (
+      λ n. refl,
+      (
+        λ n. refl,
+        (
+          λ n. refl,
+          (
+            λ n. refl,
+            (
+              λ n. refl,
+              (
+                λ n. refl,
+                (
+                  λ n. refl,
+                  (
+                    λ n. refl,
+                    (
+                      λ n. refl,
+                      (
+                        λ n. refl,
+                        (
+                          λ n. refl,
+                          (
+                            λ n. refl,
+                            (
+                              λ n. absurd (n refl),
+                              (λ n. refl, (λ n. refl, (λ n. refl, tt))),
+                            ),
+                          ),
+                        ),
+                      ),
+                    ),
+                  ),
+                ),
+              ),
+            ),
+          ),
+        ),
+      ),
+    ))
     (λ t. IsPermutation-same _ _ (changed_cells duty_cells (is_duty n) (with_duty_state to) q u
     (λ row. set_duty_one n to row) t.duty))
     (λ t trees small. duties_suit trees (changed (is_duty n) (with_duty_state to) t.duty) small) old
@@ -301,7 +418,46 @@ run_set first last to old new =
     set_run_project q u set_run_reads refl refl (λ r. refl)
     (λ r whole. rw cast_null refl) (λ r. refl)
     (λ r whole. cast_rowid (rowid r) whole ∙ sym (int_is (rowid r) whole))
-    (λ t. (λ n. refl, (λ n. refl, (λ n. refl, (λ n. refl, (λ n. refl, (λ n. refl, (λ n. refl, (λ n. refl, (λ n. refl, (λ n. refl, (λ n. refl, (λ n. refl, (λ n. absurd (n refl), (λ n. refl, (λ n. refl, (λ n. refl, tt)))))))))))))))))
+    (λ t. (
+      λ n. refl,
+      (
+        λ n. refl,
+        (
+          λ n. refl,
+          (
+            λ n. refl,
+            (
+              λ n. refl,
+              (
+                λ n. refl,
+                (
+                  λ n. refl,
+                  (
+                    λ n. refl,
+                    (
+                      λ n. refl,
+                      (
+                        λ n. refl,
+                        (
+                          λ n. refl,
+                          (
+                            λ n. refl,
+                            (
+                              λ n. absurd (n refl),
+                              (λ n. refl, (λ n. refl, (λ n. refl, tt))),
+                            ),
+                          ),
+                        ),
+                      ),
+                    ),
+                  ),
+                ),
+              ),
+            ),
+          ),
+        ),
+      ),
+    ))
     (λ t. IsPermutation-same _ _ (changed_cells duty_cells (is_numbered first last)
     (with_duty_state to) q u (λ row. set_run_one first last to row) t.duty))
     (λ t trees small. duties_suit trees

@@ -1,45 +1,20 @@
-use Rattle.std.proofs.Common.{inl, inr, ◌+◌, filter, length, refl, arith}
-use Rattle.sqlite.specs.Held.{state}
-use Rattle.desk_model.specs.Tables.{Tables, is_choice_elsewhere, moved_by}
-use Rattle.desk_sql_layout.specs.Held.{rows_of}
-use Rattle.desk_sql_write.specs.Turning.{with_steps}
-use Rattle.desk_sql_write.proofs.Going.{along, can_stand, first_fails, next_turns}
+use Rattle.std.proofs.Common.{ℕ, List, filter, refl}
+use Rattle.desk_model.specs.Tables.{is_choice_elsewhere, moved_by}
+use Rattle.desk_model.specs.declared.row.ChangeRow.{ChangeRow}
+use Rattle.desk_sql_write.proofs.Extending.{ChangesOne, never_changes, next_changes, steps_extend}
 use Rattle.desk_sql_write.proofs.change.clear.Goals as goal
+
+choices : (release : List ℕ) (changes : List ChangeRow) → ChangesOne
+    (λ t. record t { choice = filter (is_choice_elsewhere release) t.choice })
+    (λ t. record t { duty = moved_by changes t.duty })
+choices release changes = record { tree = 19; same = λ t. refl }
 
 pub returns-clause-makes : goal.returns-clause-makes
 returns-clause-makes g c =
-    let a = state g.S.Store c.args.tx.now.conn.now in
-    let b = state g.S.Store c.drop_choices_in.new.tx.conn.now in
-    let e = state g.S.Store c.move_duties.new.tx.conn.now in
-    next_turns rows_of (λ t. rows_of
-    (record t { choice = filter (is_choice_elsewhere c.args.release.now) t.choice }))
-    (λ t. with_steps c.args.changes.now
-    (rows_of (record t {
-      choice = filter (is_choice_elsewhere c.args.release.now) t.choice;
-      duty = moved_by c.args.changes.now t.duty;
-    }))) (length c.args.changes.now + length c.args.changes.now) a b e c.move_duties.result
-    (λ t before after. can_stand (rows_of t) (rows_of (record t { choice = filter (is_choice_elsewhere c.args.release.now) t.choice })) (with_steps c.args.changes.now (rows_of (record t { choice = filter (is_choice_elsewhere c.args.release.now) t.choice; duty = moved_by c.args.changes.now t.duty }))) (inl refl, (inl refl, (inl refl, (inl refl, (inl refl, (inl refl, (inl refl, (inl refl, (inl refl, (inl refl, (inr (inl refl), (inl refl, (inl refl, (inl refl, (inl refl, (inl refl, tt)))))))))))))))) before after)
-    c.in_ok-drop_choices_in.ensures.drops
-    (along (λ (t : Tables). record t {
-      choice = filter (is_choice_elsewhere c.args.release.now)
-          t.choice;
-    }) rows_of (λ t. with_steps c.args.changes.now
-    (rows_of (record t { duty = moved_by c.args.changes.now t.duty })))
-    (length c.args.changes.now + length c.args.changes.now) b e c.move_duties.result
-    c.move_duties.ensures.makes)
+    next_changes (choices c.args.release.now c.args.changes.now) (steps_extend c.args.changes.now)
+    c.in_ok-drop_choices_in.ensures.drops c.move_duties.ensures.makes
 
 pub returns-in_err-drop_choices_in-clause-makes : goal.returns-in_err-drop_choices_in-clause-makes
 returns-in_err-drop_choices_in-clause-makes g c =
-    let a = state g.S.Store c.args.tx.now.conn.now in
-    let b = state g.S.Store c.drop_choices_in.new.tx.conn.now in
-    let fault = c.in_err-drop_choices_in.field-0.0 in
-    first_fails rows_of (λ t. rows_of
-    (record t { choice = filter (is_choice_elsewhere c.args.release.now) t.choice }))
-    (λ t. with_steps c.args.changes.now
-    (rows_of (record t {
-      choice = filter (is_choice_elsewhere c.args.release.now) t.choice;
-      duty = moved_by c.args.changes.now t.duty;
-    }))) (0) (length c.args.changes.now + length c.args.changes.now) a b c.from_residual.result
-    fault c.from_residual.ensures.1 (omega arith)
-    (λ t before after. can_stand (rows_of t) (rows_of (record t { choice = filter (is_choice_elsewhere c.args.release.now) t.choice })) (with_steps c.args.changes.now (rows_of (record t { choice = filter (is_choice_elsewhere c.args.release.now) t.choice; duty = moved_by c.args.changes.now t.duty }))) (inl refl, (inl refl, (inl refl, (inl refl, (inl refl, (inl refl, (inl refl, (inl refl, (inl refl, (inl refl, (inr (inl refl), (inl refl, (inl refl, (inl refl, (inl refl, (inl refl, tt)))))))))))))))) before after)
-    c.in_err-drop_choices_in.ensures.drops
+    never_changes (choices c.args.release.now c.args.changes.now) (steps_extend c.args.changes.now)
+    c.from_residual.ensures.1 c.in_err-drop_choices_in.ensures.drops

@@ -1,35 +1,13 @@
-use Rattle.std.proofs.Common.{inl, inr, ℕ, List, ◌+◌, length, refl, arith}
-use Rattle.sqlite_value.specs.Order.{Row}
-use Rattle.sqlite.specs.Held.{state}
-use Rattle.desk_sql_write.specs.Turning.{with_document, with_parts}
-use Rattle.desk_sql_write.proofs.Going.{along, can_stand, first_fails, then_turns}
+use Rattle.std.proofs.Common.{arith}
+use Rattle.desk_sql_write.proofs.Extending.{never_extends, then_extends, parts_extend}
 use Rattle.desk_sql_write.proofs.change.import.Goals as goal
 
 pub returns-clause-adds : goal.returns-clause-adds
 returns-clause-adds g c =
-    let a = state g.S.Store c.args.tx.now.conn.now in
-    let b = state g.S.Store c.add_read_document.new.tx.conn.now in
-    let e = state g.S.Store c.add_parts.new.tx.conn.now in
-    then_turns (λ rows. rows) (λ rows. with_document c.args.row.now rows)
-    (λ rows. with_parts c.args.packages.now c.args.references.now
-    (with_document c.args.row.now rows)) (2)
-    (length c.args.packages.now + length c.args.references.now) a b e c.add_parts.result
-    (λ rows before after. can_stand rows (with_document c.args.row.now rows) (with_parts c.args.packages.now c.args.references.now (with_document c.args.row.now rows)) (inl refl, (inl refl, (inl refl, (inr (inl refl), (inl refl, (inl refl, (inl refl, (inl refl, (inl refl, (inl refl, (inl refl, (inl refl, (inl refl, (inl refl, (inr (inl refl), (inl refl, tt)))))))))))))))) before after)
-    c.in_ok-add_read_document.ensures.adds
-    (along (λ (rows : ℕ → List Row). with_document c.args.row.now rows) (λ rows. rows)
-    (with_parts c.args.packages.now c.args.references.now)
-    (length c.args.packages.now + length c.args.references.now) b e c.add_parts.result
-    c.add_parts.ensures.adds)
+    then_extends (parts_extend c.args.packages.now c.args.references.now)
+    c.in_ok-add_read_document.ensures.adds c.add_parts.ensures.adds
 
 pub returns-in_err-add_read_document-clause-adds : goal.returns-in_err-add_read_document-clause-adds
 returns-in_err-add_read_document-clause-adds g c =
-    let a = state g.S.Store c.args.tx.now.conn.now in
-    let b = state g.S.Store c.add_read_document.new.tx.conn.now in
-    let fault = c.in_err-add_read_document.field-0.0 in
-    first_fails (λ rows. rows) (λ rows. with_document c.args.row.now rows)
-    (λ rows. with_parts c.args.packages.now c.args.references.now
-    (with_document c.args.row.now rows)) (2)
-    (2 + (length c.args.packages.now + length c.args.references.now)) a b c.from_residual.result
-    fault c.from_residual.ensures.1 (omega arith)
-    (λ rows before after. can_stand rows (with_document c.args.row.now rows) (with_parts c.args.packages.now c.args.references.now (with_document c.args.row.now rows)) (inl refl, (inl refl, (inl refl, (inr (inl refl), (inl refl, (inl refl, (inl refl, (inl refl, (inl refl, (inl refl, (inl refl, (inl refl, (inl refl, (inl refl, (inr (inl refl), (inl refl, tt)))))))))))))))) before after)
-    c.in_err-add_read_document.ensures.adds
+    never_extends (parts_extend c.args.packages.now c.args.references.now) (omega arith)
+    c.from_residual.ensures.1 c.in_err-add_read_document.ensures.adds

@@ -1,34 +1,13 @@
-use Rattle.std.proofs.Common.{inl, inr, ℕ, List, ◌+◌, map, length, refl, arith}
-use Rattle.sqlite_value.specs.Order.{Row}
-use Rattle.sqlite.specs.Held.{state}
-use Rattle.desk_sql_layout.specs.Cells.{duty_cells}
-use Rattle.desk_sql_write.specs.Turning.{with_rows, with_steps, with_raised}
-use Rattle.desk_sql_write.proofs.Going.{along, can_stand, first_fails, then_turns}
+use Rattle.std.proofs.Common.{arith}
+use Rattle.desk_sql_write.proofs.Extending.{never_extends, then_extends, steps_extend}
 use Rattle.desk_sql_write.proofs.change.raise.Goals as goal
 
 pub returns-clause-adds : goal.returns-clause-adds
 returns-clause-adds g c =
-    let a = state g.S.Store c.args.tx.now.conn.now in
-    let b = state g.S.Store c.add_in_eights.new.tx.conn.now in
-    let e = state g.S.Store c.add_steps.new.tx.conn.now in
-    then_turns (λ rows. rows) (λ rows. with_rows 23 (map duty_cells c.args.duties.now) rows)
-    (λ rows. with_raised c.args.duties.now c.args.changes.now rows) (length c.args.duties.now)
-    (length c.args.changes.now + length c.args.changes.now) a b e c.add_steps.result
-    (λ rows before after. can_stand rows (with_rows 23 (map duty_cells c.args.duties.now) rows) (with_raised c.args.duties.now c.args.changes.now rows) (inl refl, (inl refl, (inl refl, (inl refl, (inl refl, (inl refl, (inl refl, (inl refl, (inl refl, (inl refl, (inl refl, (inl refl, (inr (inl refl), (inl refl, (inl refl, (inl refl, tt)))))))))))))))) before after)
-    c.in_ok-add_in_eights.ensures.adds
-    (along (λ (rows : ℕ → List Row). with_rows 23 (map duty_cells c.args.duties.now) rows)
-    (λ rows. rows) (with_steps c.args.changes.now)
-    (length c.args.changes.now + length c.args.changes.now) b e c.add_steps.result
-    c.add_steps.ensures.adds)
+    then_extends (steps_extend c.args.changes.now) c.in_ok-add_in_eights.ensures.adds
+    c.add_steps.ensures.adds
 
 pub returns-in_err-add_in_eights-clause-adds : goal.returns-in_err-add_in_eights-clause-adds
 returns-in_err-add_in_eights-clause-adds g c =
-    let a = state g.S.Store c.args.tx.now.conn.now in
-    let b = state g.S.Store c.add_in_eights.new.tx.conn.now in
-    let fault = c.in_err-add_in_eights.field-0.0 in
-    first_fails (λ rows. rows) (λ rows. with_rows 23 (map duty_cells c.args.duties.now) rows)
-    (λ rows. with_raised c.args.duties.now c.args.changes.now rows) (length c.args.duties.now)
-    (length c.args.duties.now + (length c.args.changes.now + length c.args.changes.now)) a b
-    c.from_residual.result fault c.from_residual.ensures.1 (omega arith)
-    (λ rows before after. can_stand rows (with_rows 23 (map duty_cells c.args.duties.now) rows) (with_raised c.args.duties.now c.args.changes.now rows) (inl refl, (inl refl, (inl refl, (inl refl, (inl refl, (inl refl, (inl refl, (inl refl, (inl refl, (inl refl, (inl refl, (inl refl, (inr (inl refl), (inl refl, (inl refl, (inl refl, tt)))))))))))))))) before after)
+    never_extends (steps_extend c.args.changes.now) (omega arith) c.from_residual.ensures.1
     c.in_err-add_in_eights.ensures.adds

@@ -1,18 +1,10 @@
-use Rattle.std.proofs.Common.{rules, ◌≡◌, ◌∙◌, ◌++◌, take, flat_map, ap}
-use Rattle.std.proofs.lemmas.List.{map-append}
-use Rattle.sqlite.specs.Values.{bound}
+use Rattle.std.proofs.Common.{rules}
 use Rattle.desk_sql_layout.specs.Cells.{change_cells}
-use Rattle.desk_sql_write.proofs.Lists.{flat_more}
+use Rattle.desk_sql_write.proofs.Lists.{values_more}
 use Rattle.desk_sql_write.proofs.duty.values_of_changes.Goals as goal
 
 pub loop-row-preserved : goal.loop-row-preserved
 loop-row-preserved c =
-    let rows = c.args.rows.now in
-    let n = c.loop-row.row-index in
-    let row = c.row-item.result in
-    let said : c.extend_from_slice.new.self.items ≡ c.loop-row.values.items
-    ++ c.change_values.result = search rules in
-    ap bound said ∙ map-append _ c.loop-row.values.items c.change_values.result
-    ∙ ap (λ l. l ++ bound c.change_values.result) c.loop-row.invariant
-    ∙ ap (λ l. flat_map change_cells (take n rows) ++ l) c.change_values.ensures
-    ∙ flat_more change_cells rows n row row c.row-item.is c.loop-row-test.true
+    values_more change_cells _ c.args.rows.now c.loop-row.row-index c.row-item.result
+    c.loop-row.values.items c.change_values.result c.extend_from_slice.new.self.items (search rules)
+    c.loop-row.invariant c.change_values.ensures c.row-item.is c.loop-row-test.true

@@ -1,18 +1,10 @@
-use Rattle.std.proofs.Common.{rules, ◌≡◌, ◌∙◌, ◌++◌, take, flat_map, ap}
-use Rattle.std.proofs.lemmas.List.{map-append}
-use Rattle.sqlite.specs.Values.{bound}
+use Rattle.std.proofs.Common.{rules}
 use Rattle.desk_sql_layout.specs.Cells.{frozen_cells}
-use Rattle.desk_sql_write.proofs.Lists.{flat_more}
+use Rattle.desk_sql_write.proofs.Lists.{values_more}
 use Rattle.desk_sql_write.proofs.release.values_of_frozen.Goals as goal
 
 pub loop-row-preserved : goal.loop-row-preserved
 loop-row-preserved c =
-    let rows = c.args.rows.now in
-    let n = c.loop-row.row-index in
-    let row = c.row-item.result in
-    let said : c.extend_from_slice.new.self.items ≡ c.loop-row.values.items
-    ++ c.frozen_values.result = search rules in
-    ap bound said ∙ map-append _ c.loop-row.values.items c.frozen_values.result
-    ∙ ap (λ l. l ++ bound c.frozen_values.result) c.loop-row.invariant
-    ∙ ap (λ l. flat_map frozen_cells (take n rows) ++ l) c.frozen_values.ensures
-    ∙ flat_more frozen_cells rows n row row c.row-item.is c.loop-row-test.true
+    values_more frozen_cells _ c.args.rows.now c.loop-row.row-index c.row-item.result
+    c.loop-row.values.items c.frozen_values.result c.extend_from_slice.new.self.items (search rules)
+    c.loop-row.invariant c.frozen_values.ensures c.row-item.is c.loop-row-test.true

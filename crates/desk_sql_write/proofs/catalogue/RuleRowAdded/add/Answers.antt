@@ -1,7 +1,5 @@
-use Rattle.std.proofs.Common.{◌∷◌, [], rules}
+use Rattle.std.proofs.Common.{rules}
 use Rattle.sqlite.specs.Held.{state}
-use Rattle.desk_sql_layout.specs.Cells.{rule_cells}
-use Rattle.desk_sql_write.specs.Turning.{with_rows}
 use Rattle.desk_sql_write.proofs.Going.{memory_turns}
 use Rattle.desk_sql_write.proofs.Inserts.{rule_added}
 use Rattle.desk_sql_write.proofs.catalogue.RuleRowAdded.add.Goals as goal
@@ -14,6 +12,4 @@ returns-clause-adds g c =
     (rw c.rule_values.ensures at c.execute.ensures.into) c.execute.ensures.survives
 
 pub returns-in_err-codes-clause-adds : goal.returns-in_err-codes-clause-adds
-returns-in_err-codes-clause-adds g c = memory_turns (λ rows. rows)
-    (with_rows 2 (rule_cells c.args.self.now ∷ [])) 1 (state g.S.Store c.args.tx.now.conn.now)
-    c.from_residual.result (search rules)
+returns-in_err-codes-clause-adds g c = memory_turns (search rules)
