@@ -50,7 +50,8 @@ pub(crate) fn add_word_fault(
 // The checksum of a file, from which its digest is read.
 fn checksum_text(alloc: Global, value: &Value) -> Result<String, AllocError>
     ensures { IfOk result (λ s. string_bytes s
-        ≡ word_in (codes "algorithm") (view value.now) ++ (codes ": " ++ word_in (codes "checksumValue") (view value.now))) }
+        ≡ word_in (codes "algorithm") (view value.now)
+        ++ (codes ": " ++ word_in (codes "checksumValue") (view value.now))) }
 {
     let algorithm = word_in(value, "algorithm");
     let digest = word_in(value, "checksumValue");

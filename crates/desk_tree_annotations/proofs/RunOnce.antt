@@ -113,7 +113,18 @@ no_lf_star = no_lf_from 82 (69 ∷ 85 ∷ 83 ∷ 69 ∷ 45 ∷ 73 ∷ 103 ∷ 11
     (λ e. omega (arith, e)) (no_lf_from 83
     (69 ∷ 45 ∷ 73 ∷ 103 ∷ 110 ∷ 111 ∷ 114 ∷ 101 ∷ 83 ∷ 116 ∷ 97 ∷ 114 ∷ []) (λ e. omega (arith, e))
     (no_lf_from 69 (45 ∷ 73 ∷ 103 ∷ 110 ∷ 111 ∷ 114 ∷ 101 ∷ 83 ∷ 116 ∷ 97 ∷ 114 ∷ [])
-    (λ e. omega (arith, e)) (no_lf_from 45 (73 ∷ 103 ∷ 110 ∷ 111 ∷ 114 ∷ 101 ∷ 83 ∷ 116 ∷ 97 ∷ 114 ∷ []) (λ e. omega (arith, e)) (no_lf_from 73 (103 ∷ 110 ∷ 111 ∷ 114 ∷ 101 ∷ 83 ∷ 116 ∷ 97 ∷ 114 ∷ []) (λ e. omega (arith, e)) (no_lf_from 103 (110 ∷ 111 ∷ 114 ∷ 101 ∷ 83 ∷ 116 ∷ 97 ∷ 114 ∷ []) (λ e. omega (arith, e)) (no_lf_from 110 (111 ∷ 114 ∷ 101 ∷ 83 ∷ 116 ∷ 97 ∷ 114 ∷ []) (λ e. omega (arith, e)) (no_lf_from 111 (114 ∷ 101 ∷ 83 ∷ 116 ∷ 97 ∷ 114 ∷ []) (λ e. omega (arith, e)) (no_lf_from 114 (101 ∷ 83 ∷ 116 ∷ 97 ∷ 114 ∷ []) (λ e. omega (arith, e)) (no_lf_from 101 (83 ∷ 116 ∷ 97 ∷ 114 ∷ []) (λ e. omega (arith, e)) (no_lf_from 83 (116 ∷ 97 ∷ 114 ∷ []) (λ e. omega (arith, e)) (no_lf_from 116 (97 ∷ 114 ∷ []) (λ e. omega (arith, e)) (no_lf_from 97 (114 ∷ []) (λ e. omega (arith, e)) (no_lf_from 114 ([]) (λ e. omega (arith, e)) (All-nil (λ b. b ≢ 10)))))))))))))))))
+    (λ e. omega (arith, e)) (no_lf_from 45
+    (73 ∷ 103 ∷ 110 ∷ 111 ∷ 114 ∷ 101 ∷ 83 ∷ 116 ∷ 97 ∷ 114 ∷ []) (λ e. omega (arith, e))
+    (no_lf_from 73 (103 ∷ 110 ∷ 111 ∷ 114 ∷ 101 ∷ 83 ∷ 116 ∷ 97 ∷ 114 ∷ []) (λ e. omega (arith, e))
+    (no_lf_from 103 (110 ∷ 111 ∷ 114 ∷ 101 ∷ 83 ∷ 116 ∷ 97 ∷ 114 ∷ []) (λ e. omega (arith, e))
+    (no_lf_from 110 (111 ∷ 114 ∷ 101 ∷ 83 ∷ 116 ∷ 97 ∷ 114 ∷ []) (λ e. omega (arith, e))
+    (no_lf_from 111 (114 ∷ 101 ∷ 83 ∷ 116 ∷ 97 ∷ 114 ∷ []) (λ e. omega (arith, e))
+    (no_lf_from 114 (101 ∷ 83 ∷ 116 ∷ 97 ∷ 114 ∷ []) (λ e. omega (arith, e))
+    (no_lf_from 101 (83 ∷ 116 ∷ 97 ∷ 114 ∷ []) (λ e. omega (arith, e))
+    (no_lf_from 83 (116 ∷ 97 ∷ 114 ∷ []) (λ e. omega (arith, e))
+    (no_lf_from 116 (97 ∷ 114 ∷ []) (λ e. omega (arith, e))
+    (no_lf_from 97 (114 ∷ []) (λ e. omega (arith, e))
+    (no_lf_from 114 ([]) (λ e. omega (arith, e)) (All-nil (λ b. b ≢ 10)))))))))))))))))
 
 -- a start in a first line is found in it
 start_within : (t u inner l : List ℕ) (e : LineEnd) (r : List ℕ) → NoLf u
