@@ -184,6 +184,16 @@ def many_annotations(room):
     return ["lint", "tree"], None, size
 
 
+def patterns_that_fail(room):
+    """Patterns that nearly match each of many long names: each is held against each path."""
+    patterns = ", ".join(f'"*a*b{n}"' for n in range(1_000))
+    size = write(room, "tree/REUSE.toml", f'version = 1\n[[annotations]]\npath = [{patterns}]\n{LICENCE} = "MIT"\n')
+    for n in range(MOST - 1):
+        name = f"{n:04}" + "a" * 196
+        size += write(room, f"tree/{name}", "x") + len(name)
+    return ["lint", "tree"], None, size
+
+
 def many_files(room):
     size = sum(write(room, f"tree/{n % 100}/f{n}", f"{NOTICE}: x\n{LICENCE}: MIT\n") for n in range(MOST))
     return ["gather", "tree", *NAMING], None, size
@@ -262,13 +272,27 @@ def many_terms():
     return line(do="choose", release="r", document=1, package="p", terms=["a"] * 2_000_000).rstrip()
 
 
-def many_terms_chosen(room):
-    """The same list for a package that has a conclusion, in a release that is open."""
-    document = HEAD + "PackageName: p\nSPDXID: SPDXRef-p\nPackageLicenseConcluded: a\n"
-    chosen = line(do="choose", release="r", document=1, package="SPDXRef-p", terms=["a"] * 2_000_000)
+def of_choice(room, conclusion, terms):
+    """A choice for a package with this conclusion, in a release that is open."""
+    document = HEAD + f"PackageName: p\nSPDXID: SPDXRef-p\nPackageLicenseConcluded: {conclusion}\n"
     before = [line(do="catalogue", text='forms = ["f"]\n'), line(do="import", text=document), line(do="open", release="r", form="f"),
               line(do="attach", release="r", document=1)]
-    return of_script(room, *before, chosen)
+    return of_script(room, *before, line(do="choose", release="r", document=1, package="SPDXRef-p", terms=terms))
+
+
+def many_terms_chosen(room):
+    return of_choice(room, "a", ["a"] * 2_000_000)
+
+
+def other_terms_chosen(room):
+    """Terms of which the expression has one alone."""
+    return of_choice(room, "0", [f"{n}" for n in range(900_000)])
+
+
+def own_terms_chosen(room):
+    """Copies of 1,000 terms, all of which the expression needs."""
+    terms = [f"{n}" for n in range(1_000, 2_000)]
+    return of_choice(room, " AND ".join(terms), terms * 1_190)
 
 
 def many_keys():
@@ -368,8 +392,11 @@ SLOW = {
     "tree: a file of a million tags": million_tags,
     "tree: 100,000 licences in 1,000 files": other_tags,
     "tree: 1,000 annotations, 1,000 files": many_annotations,
+    "tree: 1,000 patterns, 9,999 names of 200 bytes": patterns_that_fail,
     "JSON: a list of two million terms": json_line(many_terms),
     "JSON: two million terms that are chosen": many_terms_chosen,
+    "JSON: a thousand terms, each chosen 1,190 times": own_terms_chosen,
+    "JSON: 900,000 distinct terms that are chosen": other_terms_chosen,
     "JSON: 760,000 keys": json_line(many_keys),
     "JSON: a key a million times": json_line(one_key_again),
     "JSON: 1.4 million escapes": json_line(escapes),
