@@ -118,7 +118,7 @@ try:
 # audits, notices and tables, on trees, the reading of documents, and patterns of paths.
 bench: build
 	@echo 'Building the programs that only the benches run.'
-	@sh bench/programs/build.sh documents bom globs texts sqlite
+	@sh bench/programs/build.sh documents bom globs texts sqlite toml
 	@python3 bench/bench.py build/desk
 	@python3 bench/alternatives.py build/desk
 	@python3 bench/script.py build/desk build/scripts

@@ -30,7 +30,7 @@ MOST_WORDS = {
     "docs/DECISIONS.md": 3_500,
     "docs/DEFINITIONS.md": 4_500,
     "docs/EXTENDING.md": 1_500,
-    "docs/HOSTILE.md": 1_066,
+    "docs/HOSTILE.md": 1_125,
     "docs/HTTP.md": 923,
     "docs/LINT.md": 1_000,
     "docs/PROVED.md": 4_000,
