@@ -1,11 +1,13 @@
 #!/usr/bin/env python3
-"""Sees that the sources of all crates are laid out as `rt fmt` lays them out."""
+"""Sees that the sources of all crates are laid out as `rt fmt` lays them out, and that few of their lines have more than 100 columns:
+imports, names of goals, and texts."""
 import os
 import shutil
 import subprocess
 import sys
 import tempfile
 
+MOST_COLUMNS = 100
 top = os.path.dirname(os.path.dirname(os.path.abspath(__file__)))
 kit = os.path.dirname(subprocess.run(["rt", "doc"], stdout=subprocess.PIPE, text=True, check=True).stdout.strip())
 sources = []
@@ -23,4 +25,9 @@ with tempfile.TemporaryDirectory() as room:
                 sources.append(shutil.copy(os.path.join(at, name), os.path.join(to, name[: -len(".in")])))
     status = subprocess.call([os.path.join(kit, "bin/rattle"), "fmt", "--check", *sources])
 print("The sources are laid out." if not status else "Run rt fmt in the folders of these crates.")
+lines = [line for path in sources if path.startswith(top) for line in open(path, encoding="utf-8").read().split("\n")]
+long = sum(len(line) > MOST_COLUMNS for line in lines)
+if long * 100 > len(lines):
+    print(f"{long} of {len(lines)} lines have more than {MOST_COLUMNS} columns: break some, so that it's less than one in a hundred.")
+    status = 1
 sys.exit(1 if status else 0)
