@@ -37,7 +37,7 @@ use Rattle.desk_sql_layout.specs.Cells.{is_waiver, meta_cells, number, package_c
 use Rattle.desk_sql_layout.specs.Cells.{release_cells, rule_cells, text_or_null, waiver_cells}
 use Rattle.desk_sql_layout.specs.Held.{rows_of}
 use Rattle.desk_sql_layout.specs.Layout.{desk_schema}
-use Rattle.desk_sql_lookup.specs.Causes.{AreWritten, IsRow, IsWritten}
+use Rattle.desk_sql_layout.specs.Causes.{AreWritten, IsRow, IsWritten}
 use Rattle.desk_sql_write.specs.Taking.{CanStand, IsSmall}
 use Rattle.desk_laws.specs.Storable.{HaveShortTexts, IsShort}
 use Rattle.desk_laws.proofs.StandOnce.{have_keys}

@@ -10,7 +10,7 @@
 //!
 //! Other contracts say that no write and no look-up fails without a cause, if the tables can hold
 //! the rows (`CanStand` of `desk_sql_write`) and the rows are as a desk writes them (`AreWritten`
-//! of `desk_sql_lookup`). `tables_can_stand` says that this is so for the rows of each recorded
+//! of `desk_sql_layout`). `tables_can_stand` says that this is so for the rows of each recorded
 //! history whose texts are short.
 
 ghost use Rattle.std.specs.Prelude.{◌≡◌, true, List};
@@ -24,7 +24,7 @@ ghost use Rattle.desk_model.specs.Answers.{IsHistory};
 ghost use Rattle.desk_sql_layout.specs.Held.{AreOrderly, rows_of, seen_of, Stands};
 ghost use Rattle.desk_sql_layout.specs.Writable.{is_writable};
 ghost use Rattle.desk_texts.specs.Right.{AreRight};
-ghost use Rattle.desk_sql_lookup.specs.Causes.{AreWritten};
+ghost use Rattle.desk_sql_layout.specs.Causes.{AreWritten};
 ghost use Rattle.desk_sql_write.specs.Taking.{CanStand};
 ghost use Rattle.desk_laws.specs.Opened.{IsOpenedOn};
 ghost use Rattle.desk_laws.specs.Storable.{HaveShortTexts};

@@ -5,7 +5,7 @@ use Rattle.sqlite.specs.State.{State, HasCleanDisk}
 use Rattle.desk_model.specs.declared.command.Fault.{Fault}
 use Rattle.desk_model.specs.Tables.{Tables}
 use Rattle.desk_sql_layout.specs.Held.{seen_of}
-use Rattle.desk_sql_lookup.specs.Causes.{AreWritten, HasCauseIf}
+use Rattle.desk_sql_layout.specs.Causes.{AreWritten, HasCauseIf}
 use Rattle.desk_sql_adopt.specs.Reading.{HasRead}
 use Rattle.desk_sql_adopt.proofs.Spared.{clean_before}
 

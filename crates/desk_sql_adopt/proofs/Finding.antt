@@ -19,13 +19,13 @@ use Rattle.desk_sql_layout.specs.Held.{seen_of}
 use Rattle.desk_sql_layout.specs.Layout.{desk_schema}
 use Rattle.desk_sql_layout.specs.Stored.{cells}
 use Rattle.desk_sql_layout.proofs.Queries.{env, query_on}
-use Rattle.desk_sql_lookup.specs.Causes.{HasCause, HasCauseIf, IsAsked, IsRow}
-use Rattle.desk_sql_lookup.proofs.Causes.{rows_cause}
-use Rattle.desk_sql_lookup.proofs.HolderLemmas.{all_pass}
-use Rattle.desk_sql_lookup.proofs.Finding as lookup
-use Rattle.desk_sql_lookup.proofs.Finding.{FindsRows}
-use Rattle.desk_sql_lookup.proofs.Selecting.{as_declared}
-use Rattle.desk_sql_lookup.proofs.Views.{View}
+use Rattle.desk_sql_layout.specs.Causes.{HasCause, HasCauseIf, IsAsked, IsRow}
+use Rattle.desk_sql_layout.proofs.Causes.{rows_cause}
+use Rattle.desk_sql_layout.proofs.HolderLemmas.{all_pass}
+use Rattle.desk_sql_layout.proofs.Finding as lookup
+use Rattle.desk_sql_layout.proofs.Finding.{FindsRows}
+use Rattle.desk_sql_layout.proofs.Selecting.{as_declared}
+use Rattle.desk_sql_layout.proofs.Views.{View}
 use Rattle.desk_sql_adopt.specs.Finding.{Counts, Finds}
 use Rattle.desk_sql_adopt.specs.Reading.{Asks, HasRead, HasStayed, IsSpared}
 use Rattle.desk_sql_adopt.specs.Revisions.{ShowsCount}

@@ -7,12 +7,12 @@ use Rattle.sqlite_resolve.specs.Compile.{first, returning}
 use Rattle.sqlite_tied.specs.Compute.{everything}
 use Rattle.sqlite.specs.Listing.{understood}
 use Rattle.desk_sql_layout.specs.Cells.{duty_cells}
-use Rattle.desk_sql_lookup.proofs.Finding.{FindsRows, finds_all, finds_every}
-use Rattle.desk_sql_lookup.proofs.Keyed.{duties_sorted}
+use Rattle.desk_sql_layout.proofs.Finding.{FindsRows, finds_all, finds_every}
+use Rattle.desk_sql_layout.proofs.Keyed.{duties_sorted}
 use Rattle.desk_sql_lookup.proofs.ReleaseQueries.{releases_text}
-use Rattle.desk_sql_lookup.proofs.Selects.{order_by}
-use Rattle.desk_sql_lookup.proofs.Tests.{equals}
-use Rattle.desk_sql_lookup.proofs.Views.{duty_apart, duty_view}
+use Rattle.desk_sql_layout.proofs.Selects.{order_by}
+use Rattle.desk_sql_layout.proofs.Tests.{equals}
+use Rattle.desk_sql_layout.proofs.Views.{duty_apart, duty_view}
 use Rattle.desk_sql_adopt.specs.Reading.{Asks}
 use Rattle.desk_sql_adopt.proofs.Asking.{asks}
 use Rattle.desk_sql_adopt.proofs.Selecting.{IsBareSelect, select_asks}

@@ -24,7 +24,7 @@ use Rattle.sqlite.proofs.Callers.{IsPlain, command_of, one_permutation, reads_as
 use Rattle.desk_sql_layout.specs.Layout.{meta_table}
 use Rattle.desk_sql_layout.specs.Stored.{AreStored}
 use Rattle.desk_sql_layout.proofs.Queries.{query_on, env, selected}
-use Rattle.desk_sql_lookup.proofs.Selects.{order_by}
+use Rattle.desk_sql_layout.proofs.Selects.{order_by}
 use Rattle.desk_sql_adopt.specs.Older.{HasOlderRows, IsOlderContent, older_schema, version_number}
 use Rattle.desk_sql_adopt.specs.Version.{TellsVersion, has_version, version_text}
 use Rattle.desk_sql_adopt.specs.declared.older.OlderVersion.{OlderVersion}

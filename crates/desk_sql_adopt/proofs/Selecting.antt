@@ -5,7 +5,7 @@ use Rattle.sqlite_sql.specs.Term.{Term}
 use Rattle.sqlite_schema.specs.declared.schema.Schema.{Schema}
 use Rattle.sqlite_resolve.specs.Lowering.{and_then}
 use Rattle.sqlite_resolve.specs.Compile.{first, returning}
-use Rattle.desk_sql_lookup.proofs.Selecting.{IsSelect}
+use Rattle.desk_sql_layout.proofs.Selecting.{IsSelect}
 use Rattle.desk_sql_adopt.specs.Reading.{Asks}
 use Rattle.desk_sql_adopt.proofs.Asking.{asks}
 

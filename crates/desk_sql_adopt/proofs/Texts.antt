@@ -13,11 +13,11 @@ use Rattle.sqlite.proofs.Callers.{one_permutation}
 use Rattle.desk_sql_layout.specs.Layout as d
 use Rattle.desk_sql_layout.specs.Cells.{meta_cells}
 use Rattle.desk_sql_layout.specs.Held.{Holds, rows_of}
-use Rattle.desk_sql_lookup.specs.Causes.{IsAsked}
-use Rattle.desk_sql_lookup.proofs.Selecting.{select_asked}
-use Rattle.desk_sql_lookup.proofs.Selects.{shows_some}
+use Rattle.desk_sql_layout.specs.Causes.{IsAsked}
+use Rattle.desk_sql_layout.proofs.Selecting.{select_asked}
+use Rattle.desk_sql_layout.proofs.Selects.{shows_some}
 use Rattle.desk_sql_lookup.proofs.TextQueries.{catalogue_text}
-use Rattle.desk_sql_lookup.proofs.Views.{catalogue_view, document_view, duty_view, release_view}
+use Rattle.desk_sql_layout.proofs.Views.{catalogue_view, document_view, duty_view, release_view}
 use Rattle.desk_model.specs.Tables.{Tables}
 use Rattle.desk_sql_adopt.specs.Reading.{Asks}
 use Rattle.desk_sql_adopt.specs.Version.{version_text}

@@ -6,7 +6,7 @@ use Rattle.desk_model.specs.Tables.{Tables}
 use Rattle.desk_model.specs.declared.command.Fault.{Fault}
 use Rattle.desk_access.specs.Seen.{OfRows}
 use Rattle.desk_sql_layout.specs.Held.{seen_of}
-use Rattle.desk_sql_lookup.specs.Causes.{HasCauseIf}
+use Rattle.desk_sql_layout.specs.Causes.{HasCauseIf}
 use Rattle.desk_sql_adopt.specs.Reading.{HasRead}
 
 -- A query over a connection. `Is` says what was found of the tables, and `Given` what its caller

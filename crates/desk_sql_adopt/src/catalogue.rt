@@ -4,8 +4,8 @@ ghost use Rattle.std.specs.Prelude.{◌≡◌, ℕ, List, map, false, slice_get,
 ghost use Rattle.std.specs.List.{AllByRecursion};
 ghost use Rattle.sqlite_value.specs.Order.{column};
 ghost use Rattle.sqlite_value.specs.declared.value.Value.TheVariants.{Text as Words};
-ghost use Rattle.desk_sql_lookup.specs.Causes.{IsRow};
-ghost use Rattle.desk_sql_lookup.specs.Shown.{text_cells};
+ghost use Rattle.desk_sql_layout.specs.Causes.{IsRow};
+ghost use Rattle.desk_sql_layout.specs.Shown.{text_cells};
 ghost use Rattle.desk_sql_adopt.specs.Finding.{Finds};
 ghost use Rattle.desk_sql_adopt.specs.Revisions.{body_of};
 

@@ -4,7 +4,7 @@ ghost use Rattle.std.specs.Prelude.{◌≡◌, ◌<◌, ◌^◌, false, List, []
 ghost use Rattle.sqlite.specs.Held.{state};
 ghost use Rattle.sqlite.specs.State.{HasCleanDisk, Shown};
 ghost use Rattle.sqlite_value.specs.Order.{Row as Cells};
-ghost use Rattle.desk_sql_lookup.specs.Causes.{HasCauseIf, IsAsked};
+ghost use Rattle.desk_sql_layout.specs.Causes.{HasCauseIf, IsAsked};
 ghost use Rattle.desk_sql_adopt.specs.Finding.{Counts};
 ghost use Rattle.desk_sql_adopt.specs.Reading.{Asks, HasRead};
 ghost use Rattle.desk_sql_adopt.specs.Revisions.{ShowsCount};

@@ -6,7 +6,7 @@ ghost use Rattle.sqlite.specs.Held.{state};
 ghost use Rattle.sqlite.specs.State.{HasCleanDisk};
 ghost use Rattle.desk_model.specs.Tables.{Tables};
 ghost use Rattle.desk_sql_layout.specs.Layout.{desk_schema};
-ghost use Rattle.desk_sql_lookup.specs.Causes.{HasCause};
+ghost use Rattle.desk_sql_layout.specs.Causes.{HasCause};
 ghost use Rattle.desk_sql_adopt.specs.Older.{HoldsOlder, IsOlderContent, older_schema, version_number};
 ghost use Rattle.desk_sql_adopt.specs.Reading.{HasRead};
 

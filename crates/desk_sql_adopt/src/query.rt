@@ -4,7 +4,7 @@ ghost use Rattle.std.specs.Prelude.{◌≡◌, false, IfErr, IfOk};
 ghost use Rattle.sqlite.specs.Held.{state};
 ghost use Rattle.sqlite.specs.State.{HasCleanDisk, Shown};
 ghost use Rattle.sqlite.specs.Values.{bound};
-ghost use Rattle.desk_sql_lookup.specs.Causes.{HasCause, IsAsked};
+ghost use Rattle.desk_sql_layout.specs.Causes.{HasCause, IsAsked};
 ghost use Rattle.desk_sql_adopt.specs.Reading.{Asks, HasRead};
 
 use desk_model::Fault;

@@ -5,7 +5,7 @@ ghost use Rattle.desk_sql_adopt.specs.Finding.{Finds};
 
 use crate::query::query;
 use desk_model::{DutyRow, Fault, ReleaseRow};
-use desk_sql_lookup::{read_duties, read_releases};
+use desk_sql_layout::rows::{read_duties, read_releases};
 use sqlite::{Alter, Connection};
 use std::alloc::Global;
 

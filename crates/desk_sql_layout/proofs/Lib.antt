@@ -10,3 +10,17 @@ pub mod Ascending
 pub mod Orderly
 pub mod Counting
 pub mod Apart
+pub mod Ties
+pub mod Selecting
+pub mod Selects
+pub mod Keyed
+pub mod Tests
+pub mod Views
+pub mod Finding
+pub mod Calls
+pub mod Causes
+pub mod HolderLemmas
+pub mod Chains
+pub mod Streaming
+pub mod Loops
+pub mod Queried

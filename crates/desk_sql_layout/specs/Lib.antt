@@ -4,3 +4,7 @@ pub mod Cells
 pub mod Held
 pub mod Writable
 pub mod Faults
+pub mod Causes
+pub mod Queried
+pub mod Shown
+pub mod Streamed

@@ -14,20 +14,19 @@ use Rattle.sqlite_tied.specs.Compute.{everything}
 use Rattle.sqlite.specs.Listing.{understood}
 use Rattle.desk_model.specs.Tables.{Tables}
 use Rattle.desk_sql_layout.specs.Held.{AreOrderly}
-use Rattle.desk_sql_lookup.proofs.Ties.{keys}
-use Rattle.desk_sql_lookup.specs.Shown.{number_cells}
+use Rattle.desk_sql_layout.proofs.Ties.{keys}
+use Rattle.desk_sql_layout.specs.Shown.{day_cells, number_cells}
 use Rattle.desk_sql_lookup.specs.Steps.{is_change_within}
-use Rattle.desk_sql_lookup.specs.Waivers.{day_cells}
 use Rattle.desk_model.specs.Keys.{is_change_of}
 use Rattle.desk_model.specs.declared.row.ChangeRow.{ChangeRow}
 use Rattle.desk_sql_layout.specs.Cells.{change_cells, is_waiver, number, text_or_null}
 use Rattle.desk_sql_layout.proofs.Casts.{run_test, same, within}
-use Rattle.desk_sql_lookup.proofs.Finding.{Finds, FindsRows, finds_all, finds_apart, finds_count}
-use Rattle.desk_sql_lookup.proofs.Keyed.{changes_sorted}
-use Rattle.desk_sql_lookup.proofs.Selecting.{IsSelect}
-use Rattle.desk_sql_lookup.proofs.Selects.{order_by}
-use Rattle.desk_sql_lookup.proofs.Tests.{equals, number_test}
-use Rattle.desk_sql_lookup.proofs.Views.{change_apart, change_view, waiver_apart, waiver_view}
+use Rattle.desk_sql_layout.proofs.Finding.{Finds, FindsRows, finds_all, finds_apart, finds_count}
+use Rattle.desk_sql_layout.proofs.Keyed.{changes_sorted}
+use Rattle.desk_sql_layout.proofs.Selecting.{IsSelect}
+use Rattle.desk_sql_layout.proofs.Selects.{order_by}
+use Rattle.desk_sql_layout.proofs.Tests.{equals, number_test}
+use Rattle.desk_sql_layout.proofs.Views.{change_apart, change_view, waiver_apart, waiver_view}
 
 -- ---- how many changes a duty has
 

@@ -9,19 +9,19 @@ use Rattle.sqlite_tied.specs.Compute.{everything}
 use Rattle.sqlite.specs.Listing.{understood}
 use Rattle.desk_model.specs.Tables.{Tables}
 use Rattle.desk_sql_layout.specs.Held.{AreOrderly}
-use Rattle.desk_sql_lookup.proofs.Ties.{keys}
+use Rattle.desk_sql_layout.proofs.Ties.{keys}
 use Rattle.desk_base.proofs.Bools.{together}
-use Rattle.desk_sql_lookup.specs.Shown.{text_cells}
+use Rattle.desk_sql_layout.specs.Shown.{text_cells}
 use Rattle.desk_model.specs.Keys.{is_choice_in, is_choice_of}
 use Rattle.desk_model.specs.declared.row.ChoiceRow.{ChoiceRow}
 use Rattle.desk_sql_layout.specs.Cells.{choice_cells, number}
 use Rattle.desk_sql_layout.proofs.Casts.{same}
-use Rattle.desk_sql_lookup.proofs.Finding.{FindsRows, finds_all, finds_every}
-use Rattle.desk_sql_lookup.proofs.Keyed.{choices_sorted}
-use Rattle.desk_sql_lookup.proofs.Selecting.{IsSelect}
-use Rattle.desk_sql_lookup.proofs.Selects.{order_by}
-use Rattle.desk_sql_lookup.proofs.Tests.{equals, last_text_test, number_then, text_then}
-use Rattle.desk_sql_lookup.proofs.Views.{choice_apart, choice_view}
+use Rattle.desk_sql_layout.proofs.Finding.{FindsRows, finds_all, finds_every}
+use Rattle.desk_sql_layout.proofs.Keyed.{choices_sorted}
+use Rattle.desk_sql_layout.proofs.Selecting.{IsSelect}
+use Rattle.desk_sql_layout.proofs.Selects.{order_by}
+use Rattle.desk_sql_layout.proofs.Tests.{equals, last_text_test, number_then, text_then}
+use Rattle.desk_sql_layout.proofs.Views.{choice_apart, choice_view}
 
 -- ---- all choices
 

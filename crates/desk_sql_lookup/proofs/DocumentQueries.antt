@@ -5,16 +5,16 @@ use Rattle.sqlite_value.specs.declared.value.Value.TheVariants.{Text}
 use Rattle.sqlite_sql.specs.Term.{col}
 use Rattle.sqlite_tied.specs.Compute.{everything}
 use Rattle.sqlite.specs.Listing.{understood}
-use Rattle.desk_sql_lookup.specs.Shown.{bytes_cells, import_cells, name_cells}
+use Rattle.desk_sql_layout.specs.Shown.{bytes_cells, import_cells, name_cells}
 use Rattle.desk_model.specs.Keys.{is_document, has_namespace, is_package, is_shipped_by}
 use Rattle.desk_model.specs.declared.row.DocumentRow.{DocumentRow}
 use Rattle.desk_sql_layout.specs.Cells.{number, package_cells, reading_cells}
 use Rattle.desk_sql_layout.proofs.Casts.{same}
-use Rattle.desk_sql_lookup.proofs.Finding.{FindsRows, finds_all, finds_every, finds_one}
-use Rattle.desk_sql_lookup.proofs.Keyed.{documents_sorted, packages_sorted}
-use Rattle.desk_sql_lookup.proofs.Selecting.{IsSelect}
-use Rattle.desk_sql_lookup.proofs.Selects.{order_by}
-use Rattle.desk_sql_lookup.proofs.Tests.{
+use Rattle.desk_sql_layout.proofs.Finding.{FindsRows, finds_all, finds_every, finds_one}
+use Rattle.desk_sql_layout.proofs.Keyed.{documents_sorted, packages_sorted}
+use Rattle.desk_sql_layout.proofs.Selecting.{IsSelect}
+use Rattle.desk_sql_layout.proofs.Selects.{order_by}
+use Rattle.desk_sql_layout.proofs.Tests.{
   equals,
   last_text_test,
   number_key,
@@ -23,7 +23,7 @@ use Rattle.desk_sql_lookup.proofs.Tests.{
   number_then,
   text_key,
 }
-use Rattle.desk_sql_lookup.proofs.Views.{
+use Rattle.desk_sql_layout.proofs.Views.{
   document_apart,
   document_view,
   namespace_apart,

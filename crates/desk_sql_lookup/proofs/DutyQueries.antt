@@ -8,19 +8,19 @@ use Rattle.sqlite_tied.specs.Compute.{everything}
 use Rattle.sqlite.specs.Listing.{understood}
 use Rattle.desk_model.specs.Tables.{Tables}
 use Rattle.desk_sql_layout.specs.Held.{AreOrderly}
-use Rattle.desk_sql_lookup.proofs.Ties.{keys}
+use Rattle.desk_sql_layout.proofs.Ties.{keys}
 use Rattle.desk_model.specs.Names.{duty_state_name}
 use Rattle.desk_sql_lookup.specs.Standings.{stands_at}
 use Rattle.desk_model.specs.Keys.{is_duty, is_duty_of}
 use Rattle.desk_model.specs.declared.row.DutyRow.{DutyRow}
 use Rattle.desk_sql_layout.specs.Cells.{duty_cells, number}
 use Rattle.desk_sql_layout.proofs.Casts.{same}
-use Rattle.desk_sql_lookup.proofs.Finding.{FindsRows, finds_all, finds_one}
-use Rattle.desk_sql_lookup.proofs.Keyed.{duties_sorted}
-use Rattle.desk_sql_lookup.proofs.Selecting.{IsSelect}
-use Rattle.desk_sql_lookup.proofs.Selects.{order_by}
-use Rattle.desk_sql_lookup.proofs.Tests.{equals, last_text_test, number_key, number_test}
-use Rattle.desk_sql_lookup.proofs.Views.{duty_apart, duty_view}
+use Rattle.desk_sql_layout.proofs.Finding.{FindsRows, finds_all, finds_one}
+use Rattle.desk_sql_layout.proofs.Keyed.{duties_sorted}
+use Rattle.desk_sql_layout.proofs.Selecting.{IsSelect}
+use Rattle.desk_sql_layout.proofs.Selects.{order_by}
+use Rattle.desk_sql_layout.proofs.Tests.{equals, last_text_test, number_key, number_test}
+use Rattle.desk_sql_layout.proofs.Views.{duty_apart, duty_view}
 
 -- ---- the duty with a number
 

@@ -16,11 +16,12 @@ use Rattle.sqlite_rules.proofs.ListLemmas.{has_filtered}
 use Rattle.desk_sql_layout.specs.Cells.{number, text_or_null, is_waiver, waiver_cells}
 use Rattle.desk_model.specs.Keys.{is_change_of}
 use Rattle.desk_model.specs.declared.row.ChangeRow.{ChangeRow}
-use Rattle.desk_sql_lookup.specs.Waivers.{AreSteps, EndsOnDay, waivers_in, ending_cells, taken}
-use Rattle.desk_sql_lookup.specs.Causes.{HasLastDay, IsRow}
-use Rattle.desk_sql_lookup.proofs.Causes.{filter_written}
-use Rattle.desk_sql_lookup.proofs.Keyed.{same_number}
-use Rattle.desk_sql_lookup.proofs.Ties.{keys, ascending_among}
+use Rattle.desk_sql_layout.specs.Shown.{EndsOnDay, ending_cells}
+use Rattle.desk_sql_lookup.specs.Waivers.{AreSteps, waivers_in, taken}
+use Rattle.desk_sql_layout.specs.Causes.{HasLastDay, IsRow}
+use Rattle.desk_sql_layout.proofs.Causes.{filter_written}
+use Rattle.desk_sql_layout.proofs.Keyed.{same_number}
+use Rattle.desk_sql_layout.proofs.Ties.{keys, ascending_among}
 
 filters_swap : {X : Type 0} (p q : X → Bool) (xs : List X)
     → filter p (filter q xs) ≡ filter q (filter p xs)

@@ -5,7 +5,7 @@ use Rattle.sqlite_value.specs.Order.{Row, column}
 use Rattle.sqlite_value.specs.declared.value.Value.TheVariants.{Text}
 use Rattle.desk_model.specs.Queries.{last_day}
 use Rattle.desk_model.specs.declared.row.ChangeRow.{ChangeRow}
-use Rattle.desk_sql_lookup.specs.Waivers.{day_cells}
+use Rattle.desk_sql_layout.specs.Shown.{day_cells}
 
 abbrev last_row : List Row → Option Row
 last_row rows = slice_get rows (length rows - 1)

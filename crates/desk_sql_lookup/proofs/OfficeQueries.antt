@@ -7,19 +7,19 @@ use Rattle.sqlite_sql.specs.Term.{col}
 use Rattle.sqlite_tied.specs.Compute.{everything}
 use Rattle.sqlite.specs.Listing.{understood}
 use Rattle.desk_sql_lookup.specs.Rules.{is_rule_at}
-use Rattle.desk_sql_lookup.specs.Shown.{is_conclusion_in, text_cells}
+use Rattle.desk_sql_layout.specs.Shown.{is_conclusion_in, text_cells}
 use Rattle.desk_model.specs.Keys.{is_adoption, is_adoption_in, is_conclusion}
 use Rattle.desk_model.specs.declared.row.AdoptionRow.{AdoptionRow}
 use Rattle.desk_model.specs.declared.row.ConclusionRow.{ConclusionRow}
 use Rattle.desk_model.specs.declared.row.RuleRow.{RuleRow}
 use Rattle.desk_sql_layout.specs.Cells.{conclusion_cells, number, rule_cells}
 use Rattle.desk_sql_layout.proofs.Casts.{same}
-use Rattle.desk_sql_lookup.proofs.Finding.{FindsRows, finds_all, finds_one}
-use Rattle.desk_sql_lookup.proofs.Keyed.{adoptions_sorted, conclusions_sorted, same_number, same_text}
-use Rattle.desk_sql_lookup.proofs.Selecting.{IsSelect}
-use Rattle.desk_sql_lookup.proofs.Selects.{order_by}
-use Rattle.desk_sql_lookup.proofs.Tests.{equals, last_text_test, number_test, number_text_key, number_then, text_then}
-use Rattle.desk_sql_lookup.proofs.Views.{
+use Rattle.desk_sql_layout.proofs.Finding.{FindsRows, finds_all, finds_one}
+use Rattle.desk_sql_layout.proofs.Keyed.{adoptions_sorted, conclusions_sorted, same_number, same_text}
+use Rattle.desk_sql_layout.proofs.Selecting.{IsSelect}
+use Rattle.desk_sql_layout.proofs.Selects.{order_by}
+use Rattle.desk_sql_layout.proofs.Tests.{equals, last_text_test, number_test, number_text_key, number_then, text_then}
+use Rattle.desk_sql_layout.proofs.Views.{
   adoption_apart,
   adoption_view,
   conclusion_apart,

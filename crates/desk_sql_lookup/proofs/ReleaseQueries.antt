@@ -8,12 +8,12 @@ use Rattle.sqlite.specs.Listing.{understood}
 use Rattle.desk_model.specs.Keys.{is_attached_to, is_release}
 use Rattle.desk_sql_layout.specs.Cells.{attached_cells, frozen_cells, release_cells}
 use Rattle.desk_sql_layout.proofs.Casts.{same}
-use Rattle.desk_sql_lookup.proofs.Finding.{Finds, FindsRows, finds_all, finds_count, finds_every, finds_one}
-use Rattle.desk_sql_lookup.proofs.Keyed.{attached_sorted, frozen_sorted, releases_sorted}
-use Rattle.desk_sql_lookup.proofs.Selecting.{IsSelect}
-use Rattle.desk_sql_lookup.proofs.Selects.{order_by}
-use Rattle.desk_sql_lookup.proofs.Tests.{equals, last_text_test, text_key}
-use Rattle.desk_sql_lookup.proofs.Views.{
+use Rattle.desk_sql_layout.proofs.Finding.{Finds, FindsRows, finds_all, finds_count, finds_every, finds_one}
+use Rattle.desk_sql_layout.proofs.Keyed.{attached_sorted, frozen_sorted, releases_sorted}
+use Rattle.desk_sql_layout.proofs.Selecting.{IsSelect}
+use Rattle.desk_sql_layout.proofs.Selects.{order_by}
+use Rattle.desk_sql_layout.proofs.Tests.{equals, last_text_test, text_key}
+use Rattle.desk_sql_layout.proofs.Views.{
   attached_apart,
   attached_view,
   frozen_apart,

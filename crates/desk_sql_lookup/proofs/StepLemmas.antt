@@ -11,7 +11,7 @@ use Rattle.desk_model.specs.Keys.{is_change_of}
 use Rattle.desk_model.specs.Tables.{Tables}
 use Rattle.desk_model.specs.declared.row.ChangeRow.{ChangeRow}
 use Rattle.desk_sql_lookup.specs.Steps.{AreCounts, HaveSteps, is_change_within}
-use Rattle.desk_sql_lookup.proofs.Keyed.{same_number}
+use Rattle.desk_sql_layout.proofs.Keyed.{same_number}
 
 -- a number outside the range isn't in the run
 within_run : (first last i n : ℕ) → first + i ≤ last → (nat_le first n && nat_le n last) ≡ false

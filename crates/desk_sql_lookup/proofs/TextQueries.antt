@@ -4,16 +4,16 @@ use Rattle.sqlite_value.specs.declared.value.Value.TheVariants.{Text}
 use Rattle.sqlite_sql.specs.Term.{col}
 use Rattle.sqlite_tied.specs.Compute.{everything}
 use Rattle.sqlite.specs.Listing.{understood}
-use Rattle.desk_sql_lookup.specs.Shown.{extracted_body_cells, text_cells}
+use Rattle.desk_sql_layout.specs.Shown.{extracted_body_cells, text_cells}
 use Rattle.desk_model.specs.Keys.{is_extracted, is_revision}
 use Rattle.desk_model.specs.declared.row.CatalogueRow.{CatalogueRow}
 use Rattle.desk_sql_layout.specs.Cells.{number}
 use Rattle.desk_sql_layout.proofs.Casts.{same}
-use Rattle.desk_sql_lookup.proofs.Finding.{FindsRows, finds_one}
-use Rattle.desk_sql_lookup.proofs.Selecting.{IsSelect}
-use Rattle.desk_sql_lookup.proofs.Selects.{order_by}
-use Rattle.desk_sql_lookup.proofs.Tests.{equals, last_text_test, number_key, number_test, number_text_key, number_then}
-use Rattle.desk_sql_lookup.proofs.Views.{catalogue_apart, catalogue_view, extracted_apart, extracted_view}
+use Rattle.desk_sql_layout.proofs.Finding.{FindsRows, finds_one}
+use Rattle.desk_sql_layout.proofs.Selecting.{IsSelect}
+use Rattle.desk_sql_layout.proofs.Selects.{order_by}
+use Rattle.desk_sql_layout.proofs.Tests.{equals, last_text_test, number_key, number_test, number_text_key, number_then}
+use Rattle.desk_sql_layout.proofs.Views.{catalogue_apart, catalogue_view, extracted_apart, extracted_view}
 
 -- ---- the text of a revision of the catalogue
 

@@ -1,9 +1,5 @@
-pub mod Causes
 pub mod LookUps
-pub mod Queried
 pub mod Rules
-pub mod Shown
 pub mod Standings
 pub mod Steps
-pub mod Streamed
 pub mod Waivers

@@ -8,7 +8,7 @@ use Rattle.desk_model.specs.declared.command.Fault.{Fault}
 use Rattle.desk_access.specs.Seen.{Looked, OfRows}
 use Rattle.desk_sql_layout.specs.Held.{seen_of}
 use Rattle.desk_sql_layout.specs.Layout.{desk_schema}
-use Rattle.desk_sql_lookup.specs.Causes.{HasCauseIf}
+use Rattle.desk_sql_layout.specs.Causes.{HasCauseIf}
 
 -- A look-up over a connection. `Is` says what was found of the tables, and `Given` what its caller
 -- says of them.

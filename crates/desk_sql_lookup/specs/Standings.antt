@@ -10,7 +10,7 @@ use Rattle.desk_model.specs.Texts.{is_before}
 use Rattle.desk_model.specs.declared.row.ChangeRow.{ChangeRow}
 use Rattle.desk_model.specs.declared.row.DutyRow.{DutyRow}
 use Rattle.desk_model.specs.declared.row.Standing.{Standing}
-use Rattle.desk_sql_lookup.specs.declared.rows.StateRow.{StateRow}
+use Rattle.desk_sql_layout.specs.declared.rows.StateRow.{StateRow}
 
 -- a duty's number and state
 abbrev pub state_row : DutyRow → StateRow

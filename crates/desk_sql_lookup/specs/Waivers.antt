@@ -1,13 +1,10 @@
 -- The last days of waivers, which are in a table apart from the changes of a duty.
 use Rattle.std.specs.Prelude.{◌≡◌, ◌==◌, ℕ, false, if◌then◌else◌, List, [], ◌∷◌, map, filter}
-use Rattle.std.specs.Prelude.{Option, Some, None, IsTrue, unwrap_or}
-use Rattle.sqlite_value.specs.Order.{Row}
-use Rattle.sqlite_value.specs.declared.value.Value.TheVariants.{Text}
+use Rattle.std.specs.Prelude.{Option, Some, None, unwrap_or}
 use Rattle.sqlite_trees.specs.Tree.{IsAscending}
-use Rattle.desk_base.specs.Day.{is_day}
-use Rattle.desk_sql_layout.specs.Cells.{number, is_waiver}
+use Rattle.desk_sql_layout.specs.Cells.{is_waiver}
 use Rattle.desk_model.specs.declared.row.ChangeRow.{ChangeRow}
-use Rattle.desk_sql_lookup.specs.declared.rows.Waiver.{Waiver}
+use Rattle.desk_sql_layout.specs.declared.rows.Waiver.{Waiver}
 
 -- no two changes have the same step
 abbrev pub AreSteps : List ChangeRow → Type 0
@@ -19,17 +16,6 @@ waiver_of row = record { step = row.step; last_day = unwrap_or row.last_day [] }
 -- the waivers that end among some changes
 abbrev pub waivers_in : List ChangeRow → List Waiver
 waivers_in rows = map waiver_of (filter is_waiver rows)
-
--- its last day exists
-abbrev pub EndsOnDay : Waiver → Type 0
-EndsOnDay waiver = IsTrue (is_day waiver.last_day)
-
-abbrev pub ending_cells : Waiver → Row
-ending_cells waiver = number waiver.step ∷ Text waiver.last_day ∷ []
-
--- the day of a change
-abbrev pub day_cells : ChangeRow → Row
-day_cells row = Text row.day ∷ []
 
 -- the last day of a step's waiver, if that is the first of these, and the waivers that are left
 abbrev pub taken : ℕ → List Waiver → Option (List ℕ) × List Waiver

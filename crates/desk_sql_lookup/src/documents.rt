@@ -8,14 +8,14 @@ ghost use Rattle.desk_sql_layout.specs.Cells.{package_cells};
 ghost use Rattle.desk_model.specs.Findings.{source_of};
 ghost use Rattle.desk_model.specs.Keys.{has_namespace, is_document, is_package, is_shipped_by};
 ghost use Rattle.desk_model.specs.declared.row.DocumentRow.{DocumentRow as Document};
-ghost use Rattle.desk_sql_lookup.specs.Shown.{bytes_cells, import_cells, known_cells};
-ghost use Rattle.desk_sql_lookup.specs.Causes.{IsRow};
+ghost use Rattle.desk_sql_layout.specs.Shown.{bytes_cells, import_cells, known_cells};
+ghost use Rattle.desk_sql_layout.specs.Causes.{IsRow};
 ghost use Rattle.desk_sql_lookup.specs.LookUps.{LooksUp, LooksUpIf};
 
-use crate::columns::{ROWS, number_at};
-use crate::query::{among, query, read_one, read_rows, text};
 use desk_base::{Items, Profile};
 use desk_model::{Fault, PackageRow};
+use desk_sql_layout::columns::{ROWS, number_at};
+use desk_sql_layout::query::{among, query, read_one, read_rows, text};
 use desk_sql_layout::values::{flag, number};
 use sqlite::{Alter, Connection, Row};
 use sqlite_value::value::ValueRef;

@@ -6,9 +6,9 @@ ghost use Rattle.desk_sql_layout.specs.Cells.{duty_cells};
 ghost use Rattle.desk_model.specs.Keys.{is_duty, is_duty_of};
 ghost use Rattle.desk_sql_lookup.specs.LookUps.{LooksUp, LooksUpIf};
 
-use crate::columns::ROWS;
-use crate::query::{among, read_one, read_rows, text};
 use desk_model::{DutyRow, Fault};
+use desk_sql_layout::columns::ROWS;
+use desk_sql_layout::query::{among, read_one, read_rows, text};
 use sqlite::{Alter, Connection};
 use std::alloc::Global;
 

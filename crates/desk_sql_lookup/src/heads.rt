@@ -5,13 +5,13 @@ ghost use Rattle.std.specs.List.{AllByRecursion};
 ghost use Rattle.desk_sql_layout.specs.Cells.{reading_cells};
 ghost use Rattle.desk_model.specs.Queries.{head_of};
 ghost use Rattle.desk_model.specs.declared.row.DocumentRow.{DocumentRow as Document};
-ghost use Rattle.desk_sql_lookup.specs.Shown.{name_cells};
-ghost use Rattle.desk_sql_lookup.specs.Causes.{IsRow};
+ghost use Rattle.desk_sql_layout.specs.Shown.{name_cells};
+ghost use Rattle.desk_sql_layout.specs.Causes.{IsRow};
 ghost use Rattle.desk_sql_lookup.specs.LookUps.{LooksUp};
 
-use crate::columns::{ROWS, number_at, profile_at, text_at};
-use crate::query::query;
 use desk_model::{DocumentHead, Fault};
+use desk_sql_layout::columns::{ROWS, number_at, profile_at, text_at};
+use desk_sql_layout::query::query;
 use sqlite::{Alter, Connection, Row};
 use std::alloc::Global;
 

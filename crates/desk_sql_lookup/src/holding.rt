@@ -1,29 +1,13 @@
 //! The choices that releases hold.
 
 ghost use Rattle.std.specs.Prelude.{◌≡◌, filter};
-ghost use Rattle.desk_sql_layout.specs.Cells.{choice_cells};
 ghost use Rattle.desk_model.specs.Keys.{is_choice_in};
 ghost use Rattle.desk_sql_lookup.specs.LookUps.{LooksUp};
 
-use crate::columns::{number_at, text_at};
-use crate::query::{read_rows, text};
-use crate::read::ReadRow;
 use desk_model::{ChoiceRow, Fault};
-use sqlite::{Alter, Connection, Row};
+use desk_sql_layout::query::{read_rows, text};
+use sqlite::{Alter, Connection};
 use std::alloc::Global;
-
-impl ReadRow for ChoiceRow {
-    ghost cells = { choice_cells };
-
-    fn read(alloc: Global, row: &Row) -> Result<ChoiceRow, Fault> {
-        Ok(ChoiceRow {
-            release: text_at(alloc, row, 0)?,
-            document: number_at(row, 1)?,
-            package_id: text_at(alloc, row, 2)?,
-            term: text_at(alloc, row, 3)?,
-        })
-    }
-}
 
 /// All choices, by release, document, package and term.
 pub fn choices<S: Alter>(alloc: Global, conn: &mut Connection<S>) -> Result<Vec<ChoiceRow>, Fault>

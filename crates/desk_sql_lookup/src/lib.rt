@@ -9,27 +9,19 @@
 //! and, if it answers, also the whole database (`unchanged`), and no transaction is open after it
 //! if none was before (`mode`).
 //!
-//! Its `cause` says when it fails: if the rows are as a desk writes them (`specs/Causes.antt`), and
-//! the steps of a query have no limit, only if no memory is left, or with a fault of the database
-//! if the disk failed once more. `limit` says that the look-up sets no such limit.
+//! Its `cause` says when it fails: only as a query of the tables does (`HasCause` of
+//! `desk_sql_layout`). `limit` says that the look-up sets no limit on the steps of a query.
 //!
-//! Documents, duties and revisions are numbered from 1, and the caller says how many there are. The
-//! value in a column is read as the desk knows it: a value of another kind, which no desk's table
-//! has, is reported as a fault of the store's rows. `read_releases` and `read_duties` read rows
-//! that another statement showed.
+//! Documents, duties and revisions are numbered from 1, and the caller says how many there are.
 #![tactic(auto)]
 
 mod changes;
-mod columns;
 mod documents;
 mod duties;
 mod heads;
 mod holding;
 mod office;
-mod query;
-mod read;
 mod releases;
-mod rows;
 mod rules;
 mod runs;
 mod standings;
@@ -42,7 +34,6 @@ pub use heads::document_heads;
 pub use holding::{choices, choices_in};
 pub use office::{adopted_references, adoption, conclusion, conclusions_in};
 pub use releases::{attached, attached_count, chosen, frozen, is_attached, release, release_rows};
-pub use rows::{read_duties, read_releases};
 pub use rules::rule;
 pub use standings::{ended, standings_of};
 pub use texts::{catalogue_text, extracted_text};

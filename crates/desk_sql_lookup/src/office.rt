@@ -3,17 +3,14 @@
 ghost use Rattle.std.specs.Prelude.{◌≡◌, filter, map};
 ghost use Rattle.desk_model.specs.Conclusions.{licence_for, office_text};
 ghost use Rattle.desk_model.specs.Keys.{is_adoption, is_adoption_in, is_conclusion};
-ghost use Rattle.desk_sql_layout.specs.Cells.{conclusion_cells};
-ghost use Rattle.desk_sql_lookup.specs.Shown.{is_conclusion_in, text_cells};
+ghost use Rattle.desk_sql_layout.specs.Shown.{is_conclusion_in};
 ghost use Rattle.desk_sql_lookup.specs.LookUps.{LooksUp};
 
-use crate::columns::{number_at, text_at};
-use crate::query::{read_one, read_rows, text};
-use crate::read::ReadRow;
 use desk_base::Text;
 use desk_model::{ConclusionRow, Fault};
+use desk_sql_layout::query::{read_one, read_rows, text};
 use desk_sql_layout::values::number;
-use sqlite::{Alter, Connection, Row};
+use sqlite::{Alter, Connection};
 use std::alloc::Global;
 
 /// What the office concluded for a package of a document.
@@ -32,18 +29,6 @@ pub fn conclusion<S: Alter>(
         "SELECT expression FROM conclusion WHERE document = ?1 AND package = ?2 ORDER BY document, package",
         &[number(document), text(id)],
     )
-}
-
-impl ReadRow for ConclusionRow {
-    ghost cells = { conclusion_cells };
-
-    fn read(alloc: Global, row: &Row) -> Result<ConclusionRow, Fault> {
-        Ok(ConclusionRow {
-            document: number_at(row, 0)?,
-            package_id: text_at(alloc, row, 1)?,
-            expression: text_at(alloc, row, 2)?,
-        })
-    }
 }
 
 /// What the office concluded for the packages of a document, by their ids.

@@ -7,12 +7,12 @@ ghost use Rattle.desk_history.specs.FromTables.{release_found};
 ghost use Rattle.desk_sql_layout.specs.Cells.{attached_cells, release_cells};
 ghost use Rattle.desk_model.specs.History.{attached_to};
 ghost use Rattle.desk_model.specs.Keys.{is_attachment, is_choice_of, is_release};
-ghost use Rattle.desk_sql_lookup.specs.Shown.{text_cells};
+ghost use Rattle.desk_sql_layout.specs.Shown.{text_cells};
 ghost use Rattle.desk_sql_lookup.specs.LookUps.{LooksUp};
 
-use crate::query::{query, read_one, read_rows, text};
 use desk_base::Text;
 use desk_model::{AttachedRow, Fault, FrozenRow, ReleaseRow};
+use desk_sql_layout::query::{query, read_one, read_rows, text};
 use desk_sql_layout::values::number;
 use sqlite::{Alter, Connection, Row};
 use std::alloc::Global;

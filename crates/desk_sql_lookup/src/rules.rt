@@ -8,13 +8,13 @@ ghost use Rattle.desk_sql_layout.specs.Cells.{is_word, joined, rule_cells};
 ghost use Rattle.desk_model.specs.History.{rule_for};
 ghost use Rattle.desk_model.specs.declared.row.RuleRow.{RuleRow};
 ghost use Rattle.desk_sql_lookup.specs.Rules.{are_words, is_rule_at, texts};
-ghost use Rattle.desk_sql_lookup.specs.Causes.{IsRow};
+ghost use Rattle.desk_sql_layout.specs.Causes.{IsRow};
 ghost use Rattle.desk_sql_lookup.specs.LookUps.{LooksUp};
 
-use crate::columns::{str_at, text_at};
-use crate::query::{query, text};
 use desk_base::{Items, Text};
 use desk_model::{Fault, Rule};
+use desk_sql_layout::columns::{str_at, text_at};
+use desk_sql_layout::query::{query, text};
 use desk_sql_layout::values::number;
 use sqlite::{Alter, Connection, Row};
 use std::alloc::{AllocError, Global};

@@ -7,9 +7,9 @@ ghost use Rattle.desk_sql_lookup.specs.LookUps.{LooksUp};
 ghost use Rattle.desk_sql_lookup.specs.Standings.{standing_by};
 ghost use Rattle.desk_sql_lookup.specs.Steps.{AreCounts, HaveSteps, is_change_within};
 
-use crate::query::read_rows;
-use crate::rows::StateRow;
 use desk_model::{Fault, Standing};
+use desk_sql_layout::query::read_rows;
+use desk_sql_layout::rows::StateRow;
 use desk_sql_layout::values::number;
 use sqlite::{Alter, Connection};
 use std::alloc::{AllocError, Global};

@@ -11,11 +11,11 @@ ghost use Rattle.desk_sql_lookup.specs.Standings.{and_some, ended_standing, has_
 ghost use Rattle.desk_sql_lookup.specs.LookUps.{LooksUp, LooksUpIf};
 
 use crate::changes::{changes_of, steps};
-use crate::query::{read_rows, text};
-use crate::rows::StateRow;
 use crate::runs::standings_from;
 use desk_base::Day;
 use desk_model::{ChangeRow, DutyRow, DutyState, Fault, Standing};
+use desk_sql_layout::query::{read_rows, text};
+use desk_sql_layout::rows::StateRow;
 use desk_sql_layout::values::duty_state;
 use sqlite::{Alter, Connection};
 use std::alloc::{AllocError, Global};

@@ -6,14 +6,14 @@ ghost use Rattle.std.specs.Option.{option_and_then};
 ghost use Rattle.desk_model.specs.Bills.{extracted_text, revision_text};
 ghost use Rattle.desk_model.specs.Keys.{is_extracted, is_revision};
 ghost use Rattle.desk_model.specs.declared.row.ExtractedRow.{ExtractedRow as Extracted};
-ghost use Rattle.desk_sql_lookup.specs.Shown.{extracted_body_cells};
-ghost use Rattle.desk_sql_lookup.specs.Causes.{IsRow};
+ghost use Rattle.desk_sql_layout.specs.Shown.{extracted_body_cells};
+ghost use Rattle.desk_sql_layout.specs.Causes.{IsRow};
 ghost use Rattle.desk_sql_lookup.specs.LookUps.{LooksUp};
 
-use crate::columns::text_or_null_at;
-use crate::query::{among, query, read_rows, text};
 use desk_base::Text;
 use desk_model::Fault;
+use desk_sql_layout::columns::text_or_null_at;
+use desk_sql_layout::query::{among, query, read_rows, text};
 use desk_sql_layout::values::number;
 use sqlite::{Alter, Connection, Row};
 use std::alloc::Global;
@@ -44,7 +44,7 @@ fn first_of(texts: Vec<Text>) -> Option<Text>
 }
 
 /// The text of a revision of the catalogue, if there are this many revisions.
-#[tactic(auto, using(crate::proofs::Loops::first_mapped))]
+#[tactic(auto, using(desk_sql_layout::proofs::Loops::first_mapped))]
 pub fn catalogue_text<S: Alter>(
     alloc: Global,
     conn: &mut Connection<S>,

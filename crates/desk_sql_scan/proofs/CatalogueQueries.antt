@@ -12,7 +12,7 @@ use Rattle.sqlite_tied.specs.Compute.{everything}
 use Rattle.sqlite.specs.Listing.{understood}
 use Rattle.desk_history.specs.Laws.{AreSortedAsListed, revision_below}
 use Rattle.desk_snapshot.specs.Tables.{catalogue_stored, rule_stored}
-use Rattle.desk_sql_lookup.proofs.Selects.{order_by}
+use Rattle.desk_sql_layout.proofs.Selects.{order_by}
 use Rattle.desk_sql_scan.specs.Cells.{stored_meta_cells, stored_catalogue_cells, stored_rule_cells}
 use Rattle.desk_sql_scan.specs.Orders.{meta_order, catalogue_order, rule_order}
 use Rattle.desk_sql_scan.proofs.Scanning.{itself, sorted_by}

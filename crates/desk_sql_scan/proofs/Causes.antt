@@ -8,8 +8,8 @@ use Rattle.sqlite.specs.State.{State, HasCleanDisk, FailsToQuery, IsTooLate}
 use Rattle.desk_model.specs.declared.command.Fault.{Fault}
 use Rattle.desk_sql_layout.specs.Faults.{fault_by}
 use Rattle.desk_sql_layout.specs.Held.{Holds}
-use Rattle.desk_sql_lookup.specs.Causes.{HasCause, IsAsked}
-use Rattle.desk_sql_lookup.proofs.Causes.{caused}
+use Rattle.desk_sql_layout.specs.Causes.{HasCause, IsAsked}
+use Rattle.desk_sql_layout.proofs.Causes.{caused}
 use Rattle.desk_sql_adopt.specs.Reading.{Asks}
 use Rattle.desk_sql_adopt.proofs.Spared.{clean_before}
 use Rattle.desk_sql_scan.specs.Asked.{HasAsked}

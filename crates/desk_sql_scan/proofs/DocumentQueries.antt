@@ -13,7 +13,7 @@ use Rattle.sqlite.specs.Listing.{understood}
 use Rattle.desk_history.specs.Laws.{AreSortedAsListed, document_below}
 use Rattle.desk_snapshot.specs.Orders.{reading_order, package_order}
 use Rattle.desk_snapshot.specs.Tables.{document_stored, reading_stored, package_stored, extracted_stored}
-use Rattle.desk_sql_lookup.proofs.Selects.{order_by}
+use Rattle.desk_sql_layout.proofs.Selects.{order_by}
 use Rattle.desk_sql_scan.specs.Cells.{stored_document_cells, stored_reading_cells}
 use Rattle.desk_sql_scan.specs.Cells.{stored_package_cells, stored_extracted_cells}
 use Rattle.desk_sql_scan.specs.Orders.{document_order, extracted_order}

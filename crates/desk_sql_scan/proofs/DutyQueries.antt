@@ -13,7 +13,7 @@ use Rattle.sqlite.specs.Listing.{understood}
 use Rattle.desk_history.specs.Laws.{duty_below}
 use Rattle.desk_snapshot.specs.Orders.{change_order, waiver_order}
 use Rattle.desk_snapshot.specs.Tables.{duty_stored, change_stored, waiver_stored, is_waiver}
-use Rattle.desk_sql_lookup.proofs.Selects.{order_by}
+use Rattle.desk_sql_layout.proofs.Selects.{order_by}
 use Rattle.desk_sql_scan.specs.Cells.{stored_duty_cells, stored_change_cells, stored_waiver_cells}
 use Rattle.desk_sql_scan.specs.Orders.{duty_order}
 use Rattle.desk_sql_scan.proofs.Scanning.{itself, sorted_by}

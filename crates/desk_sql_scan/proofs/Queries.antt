@@ -21,10 +21,10 @@ use Rattle.desk_sql_layout.specs.Layout.{desk_schema}
 use Rattle.desk_sql_layout.specs.Held.{AreOrderly, HasRows, Holds, rows_of}
 use Rattle.desk_sql_layout.specs.Stored.{cells}
 use Rattle.desk_sql_layout.proofs.Queries.{query_on, env}
-use Rattle.desk_sql_lookup.specs.Causes.{AreWritten, IsRow}
-use Rattle.desk_sql_lookup.proofs.Selects.{AreApart, order_by, mine, by_rowid, by_unique}
-use Rattle.desk_sql_lookup.proofs.Ties.{are_keys, keys, picked}
-use Rattle.desk_sql_lookup.proofs.Selecting.{as_declared, select_asked}
+use Rattle.desk_sql_layout.specs.Causes.{AreWritten, IsRow}
+use Rattle.desk_sql_layout.proofs.Selects.{AreApart, order_by, mine, by_rowid, by_unique}
+use Rattle.desk_sql_layout.proofs.Ties.{are_keys, keys, picked}
+use Rattle.desk_sql_layout.proofs.Selecting.{as_declared, select_asked}
 use Rattle.desk_sql_adopt.proofs.Selecting.{IsBareSelect, select_asks}
 use Rattle.desk_sql_scan.specs.Causes.{AreCells}
 use Rattle.desk_sql_scan.specs.Cells.{columns_of}

@@ -31,10 +31,10 @@ use Rattle.desk_sql_layout.specs.Stored.{cells}
 use Rattle.desk_sql_layout.proofs.Edits.{has_permuted}
 use Rattle.desk_sql_layout.proofs.Orders.{from_sorted}
 use Rattle.desk_sql_layout.proofs.Queries.{query_on, env, selected, Selected}
-use Rattle.desk_sql_lookup.proofs.Selects.{order_by, AreApart}
-use Rattle.desk_sql_lookup.proofs.Ties.{keys, picked, sorted_from}
-use Rattle.desk_sql_lookup.specs.Causes.{IsRow}
-use Rattle.desk_sql_lookup.proofs.Selecting.{as_declared}
+use Rattle.desk_sql_layout.proofs.Selects.{order_by, AreApart}
+use Rattle.desk_sql_layout.proofs.Ties.{keys, picked, sorted_from}
+use Rattle.desk_sql_layout.specs.Causes.{IsRow}
+use Rattle.desk_sql_layout.proofs.Selecting.{as_declared}
 use Rattle.desk_sql_scan.specs.Causes.{AreCells}
 use Rattle.desk_sql_scan.specs.Cells.{columns_of}
 use Rattle.desk_sql_scan.specs.Scans.{IsScan}

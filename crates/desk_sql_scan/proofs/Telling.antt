@@ -12,7 +12,7 @@ use Rattle.desk_sql_layout.specs.Held.{Holds}
 use Rattle.desk_sql_layout.specs.Layout.{desk_schema}
 use Rattle.desk_model.specs.Tables.{Tables}
 use Rattle.desk_model.specs.declared.command.Fault.{Fault}
-use Rattle.desk_sql_lookup.specs.Causes.{AreWritten, IsAsked}
+use Rattle.desk_sql_layout.specs.Causes.{AreWritten, IsAsked}
 use Rattle.desk_sql_adopt.specs.Reading.{Asks}
 use Rattle.desk_sql_adopt.proofs.Spared.{clean_before}
 use Rattle.desk_sql_scan.specs.Asked.{HasAsked}

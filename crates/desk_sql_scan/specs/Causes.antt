@@ -8,7 +8,7 @@ use Rattle.desk_model.specs.declared.command.Fault.TheVariants.{Memory, Store}
 use Rattle.desk_model.specs.declared.command.StoreFault.TheVariants.{Database as DatabaseFault}
 use Rattle.desk_access.specs.Seen.{MoreFaults}
 use Rattle.desk_sql_layout.specs.Held.{Holds}
-use Rattle.desk_sql_lookup.specs.Causes.{AreWritten, IsRow}
+use Rattle.desk_sql_layout.specs.Causes.{AreWritten, IsRow}
 
 -- they are the cells of a row, as a desk writes them
 abbrev pub AreCells : {A : Type 0} → (A → Row) → Row → Type 0

@@ -6,7 +6,7 @@ use Rattle.sqlite.specs.Effect.{Database}
 use Rattle.sqlite.specs.State.{HasCleanDisk, Shown}
 use Rattle.desk_model.specs.Tables.{Tables}
 use Rattle.desk_model.specs.declared.command.Fault.{Fault}
-use Rattle.desk_sql_lookup.specs.Causes.{IsAsked}
+use Rattle.desk_sql_layout.specs.Causes.{IsAsked}
 use Rattle.desk_sql_adopt.specs.Reading.{Asks}
 use Rattle.desk_sql_scan.specs.Asked.{HasAsked}
 use Rattle.desk_sql_scan.specs.Causes.{AreCells, ScanFailsFor, ScanFailsIf}

@@ -4,7 +4,7 @@ ghost use Rattle.std.specs.Prelude.{◌≡◌, ◌<◌, ℕ, ℤ, IfErr, IfOk, L
 ghost use Rattle.sqlite_value.specs.Order.{column};
 ghost use Rattle.sqlite_value.specs.declared.value.Value.TheVariants.{Int as Whole, Text as Words, Blob};
 ghost use Rattle.desk_sql_layout.specs.Cells.{text_or_null};
-ghost use Rattle.desk_sql_lookup.specs.Causes.{IsWritten};
+ghost use Rattle.desk_sql_layout.specs.Causes.{IsWritten};
 
 use desk_base::{Items, Text};
 use desk_model::{Fault, StoreFault};

@@ -3,7 +3,7 @@
 ghost use Rattle.std.specs.Prelude.{◌≡◌, ℕ, IfErr, IfOk, map};
 ghost use Rattle.std.specs.List.{AllByRecursion};
 ghost use Rattle.sqlite_value.specs.Order.{Row as Cells};
-ghost use Rattle.desk_sql_lookup.specs.Causes.{IsRow};
+ghost use Rattle.desk_sql_layout.specs.Causes.{IsRow};
 ghost use Rattle.desk_sql_scan.specs.Causes.{AreCells};
 ghost use Rattle.desk_sql_scan.specs.Cells.{columns_of};
 ghost use Rattle.desk_sql_scan.specs.Scanning.{Lists};

@@ -5,7 +5,7 @@ ghost use Rattle.std.specs.Borrow.{GName};
 ghost use Rattle.sqlite.specs.Held.{state};
 ghost use Rattle.sqlite.specs.State.{HasCleanDisk, Shown, State};
 ghost use Rattle.desk_sql_adopt.specs.Reading.{Asks};
-ghost use Rattle.desk_sql_lookup.specs.Causes.{IsAsked};
+ghost use Rattle.desk_sql_layout.specs.Causes.{IsAsked};
 ghost use Rattle.desk_sql_scan.specs.Asked.{HasAsked};
 ghost use Rattle.desk_sql_scan.specs.Causes.{ScanFailsFor};
 

@@ -4,7 +4,7 @@ ghost use Rattle.std.specs.Prelude.{◌≡◌, false, IfErr, IfOk};
 ghost use Rattle.sqlite.specs.Held.{state};
 ghost use Rattle.sqlite.specs.State.{HasCleanDisk};
 ghost use Rattle.desk_access.specs.Seen.{OfRows};
-ghost use Rattle.desk_sql_lookup.specs.Causes.{HasCause};
+ghost use Rattle.desk_sql_layout.specs.Causes.{HasCause};
 ghost use Rattle.desk_sql_adopt.specs.Reading.{HasRead};
 ghost use Rattle.desk_history.specs.Laws.{AreSortedAsListed};
 ghost use Rattle.desk_sql_layout.specs.Held.{seen_of};

@@ -8,7 +8,7 @@ use Rattle.sqlite_value.specs.Order.{Row}
 use Rattle.sqlite_trees.specs.Tree.{IsAscending}
 use Rattle.sqlite_sql.specs.Query.{key_cmp}
 use Rattle.sqlite_sql.proofs.QueryLemmas.{key_cmp_total}
-use Rattle.desk_sql_lookup.proofs.Ties.{keys}
+use Rattle.desk_sql_layout.proofs.Ties.{keys}
 
 -- the values of the key in these places are the same
 abbrev pub tie : List ℕ → Row → Row → Bool

@@ -24,7 +24,7 @@ use Rattle.desk_sql_layout.specs.Cells.{catalogue_cells, document_cells, release
 use Rattle.desk_sql_layout.specs.Held.{HasRows, known_of, rows_of, seen_of}
 use Rattle.desk_sql_layout.specs.Layout.{desk_schema, catalogue_table, document_table, releases_table}
 use Rattle.desk_sql_commit.specs.Committing.{CommitFails}
-use Rattle.desk_sql_lookup.specs.Causes.{HasCauseIf}
+use Rattle.desk_sql_layout.specs.Causes.{HasCauseIf}
 use Rattle.desk_sql_lookup.specs.LookUps.{LooksUpGiven}
 use Rattle.desk_sql_write.specs.Taking.{CanStand, HasRoom, IsSmall, rows_in}
 use Rattle.desk_tally.specs.Kept.{AreKept}

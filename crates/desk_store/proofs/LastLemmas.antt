@@ -14,7 +14,7 @@ use Rattle.desk_model.specs.declared.reading.Rule.{Rule}
 use Rattle.desk_model.specs.declared.row.DocumentRow.{DocumentRow}
 use Rattle.desk_history.specs.FromTables.{known_document}
 use Rattle.desk_history_laws.proofs.Lists.{found_in}
-use Rattle.desk_sql_lookup.proofs.Keyed.{same_text}
+use Rattle.desk_sql_layout.proofs.Keyed.{same_text}
 use Rattle.desk_store.specs.Last.{AreLast, IsDocument}
 use Rattle.desk_store.specs.Repeated.{no_choices, no_conclusions}
 

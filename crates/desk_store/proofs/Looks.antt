@@ -6,8 +6,8 @@ use Rattle.sqlite.specs.State.{State}
 use Rattle.desk_model.specs.Tables.{Tables}
 use Rattle.desk_model.specs.declared.command.Fault.{Fault}
 use Rattle.desk_model.specs.declared.command.Fault.TheVariants.{Memory}
-use Rattle.desk_sql_lookup.specs.Causes.{HasCauseIf}
-use Rattle.desk_sql_lookup.proofs.Causes.{memory_cause}
+use Rattle.desk_sql_layout.specs.Causes.{HasCauseIf}
+use Rattle.desk_sql_layout.proofs.Causes.{memory_cause}
 
 -- a fault that says only that no memory was left always has a cause
 pub memory_causes : (Given : Tables → Type 0) (old new : State) {A : Type 0} (r : Result A Fault)

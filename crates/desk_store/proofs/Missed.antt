@@ -13,7 +13,7 @@ use Rattle.desk_model.specs.declared.command.Fault.TheVariants.{Memory}
 use Rattle.desk_access.specs.Seen.{Kept, Looked, OfRows, Same, Seen}
 use Rattle.desk_access.proofs.Chains.{same_self}
 use Rattle.desk_sql_layout.specs.Held.{Known, known_of, seen_of}
-use Rattle.desk_sql_lookup.specs.Causes.{HasCauseIf}
+use Rattle.desk_sql_layout.specs.Causes.{HasCauseIf}
 use Rattle.desk_sql_lookup.specs.LookUps.{LooksUp, LooksUpGiven, LooksUpIf}
 use Rattle.desk_tally.specs.declared.tallies.Tallies.{Tallies}
 use Rattle.desk_store.specs.Causes.{FindsGiven, MissesIf}

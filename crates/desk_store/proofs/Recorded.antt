@@ -23,7 +23,7 @@ use Rattle.desk_snapshot.specs.declared.fault.AuditFault.{AuditFault}
 use Rattle.desk_snapshot.specs.declared.fault.AuditFault.TheVariants.{BadRevision, BadChoice}
 use Rattle.desk_sql_layout.specs.Cells.{catalogue_cells, document_cells, release_cells, duty_cells}
 use Rattle.desk_sql_layout.specs.Held.{AreNumbered, Holds}
-use Rattle.desk_sql_lookup.specs.Causes.{AreWritten, IsRow}
+use Rattle.desk_sql_layout.specs.Causes.{AreWritten, IsRow}
 use Rattle.desk_sql_adopt.specs.Revisions.{is_revision}
 use Rattle.desk_store.specs.Causes.{AreFew, AreRecorded, HasCatalogue}
 

@@ -9,7 +9,7 @@ use Rattle.desk_model.specs.declared.row.ChoiceRow.{ChoiceRow}
 use Rattle.desk_model.specs.declared.row.ConclusionRow.{ConclusionRow}
 use Rattle.desk_sorted.proofs.Placing.{within}
 use Rattle.desk_sorted.proofs.Walking.{find_same}
-use Rattle.desk_sql_lookup.specs.Shown.{is_conclusion_in}
+use Rattle.desk_sql_layout.specs.Shown.{is_conclusion_in}
 
 pub office_among : (d : ℕ) (id : List ℕ) (rows all : List ConclusionRow)
     → rows ≡ filter (is_conclusion_in d) all → office_text rows d id ≡ office_text all d id

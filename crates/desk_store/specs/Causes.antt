@@ -12,7 +12,7 @@ use Rattle.desk_model.specs.declared.command.Fault.{Fault}
 use Rattle.desk_access.specs.Follows.{Follows}
 use Rattle.desk_access.specs.Seen.{Looked, OfRows, Seen}
 use Rattle.desk_sql_layout.specs.Held.{rows_of, seen_of}
-use Rattle.desk_sql_lookup.specs.Causes.{AreWritten}
+use Rattle.desk_sql_layout.specs.Causes.{AreWritten}
 use Rattle.desk_sql_write.specs.Taking.{CanStand, HasRoom, IsCaused, rows_in}
 use Rattle.desk_sql_adopt.specs.Revisions.{body_of}
 use Rattle.desk_store.specs.declared.fault.AdoptFault.{AdoptFault}

@@ -2,7 +2,7 @@
 use Rattle.std.specs.Prelude.{◌≡◌, filter, IfSome, None}
 use Rattle.desk_model.specs.Keys.{is_choice_in}
 use Rattle.desk_model.specs.Tables.{Tables}
-use Rattle.desk_sql_lookup.specs.Shown.{is_conclusion_in}
+use Rattle.desk_sql_layout.specs.Shown.{is_conclusion_in}
 use Rattle.desk_store.specs.declared.repeated.Choices.{Choices}
 use Rattle.desk_store.specs.declared.repeated.Conclusions.{Conclusions}
 

@@ -12,7 +12,7 @@ ghost use Rattle.desk_core.specs.Desks.{InHistory};
 ghost use Rattle.desk_sql_layout.specs.Held.{known_of, seen_of};
 ghost use Rattle.desk_sql_layout.specs.Layout.{desk_schema};
 ghost use Rattle.desk_texts.specs.Right.{AreRight};
-ghost use Rattle.desk_sql_lookup.specs.Causes.{HasCause, HasCauseIf};
+ghost use Rattle.desk_sql_layout.specs.Causes.{HasCause, HasCauseIf};
 ghost use Rattle.desk_sql_adopt.specs.Reading.{HasRead, HasStayed};
 ghost use Rattle.desk_sql_adopt.specs.Version.{IsContent};
 ghost use Rattle.desk_store.specs.Adopting.{HasCounts, HasForms, IsFault, IsFinding, IsLeft, IsOfAudit, IsReason, IsUncountable};

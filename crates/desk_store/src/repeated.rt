@@ -5,7 +5,7 @@ ghost use Rattle.std.specs.Prelude.{◌≡◌, ◌↔◌, ◌&&◌, ℕ, true, n
 ghost use Rattle.desk_model.specs.Conclusions.{office_text};
 ghost use Rattle.desk_model.specs.Keys.{is_choice_in, is_choice_of};
 ghost use Rattle.desk_model.specs.Tables.{Tables};
-ghost use Rattle.desk_sql_lookup.specs.Shown.{is_conclusion_in};
+ghost use Rattle.desk_sql_layout.specs.Shown.{is_conclusion_in};
 ghost use Rattle.desk_store.specs.Repeated.{AreChoices, AreConclusions, no_choices, no_conclusions};
 
 use desk_base::Text;

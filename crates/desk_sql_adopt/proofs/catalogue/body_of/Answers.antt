@@ -1,9 +1,9 @@
 use Rattle.std.proofs.Common.{◌≡◌, ◌∙◌}
 use Rattle.std.specs.Prelude.{slice_get}
 use Rattle.desk_model.specs.declared.row.CatalogueRow.{CatalogueRow}
-use Rattle.desk_sql_lookup.specs.Shown.{text_cells}
-use Rattle.desk_sql_lookup.proofs.Finding.{finds_mapped}
-use Rattle.desk_sql_lookup.proofs.Loops.{first_mapped}
+use Rattle.desk_sql_layout.specs.Shown.{text_cells}
+use Rattle.desk_sql_layout.proofs.Finding.{finds_mapped}
+use Rattle.desk_sql_layout.proofs.Loops.{first_mapped}
 use Rattle.desk_sql_lookup.proofs.TextQueries.{catalogue_finds}
 use Rattle.desk_sql_adopt.specs.Revisions.{is_revision}
 use Rattle.desk_sql_adopt.proofs.Finding.{fails_to_find, finds}

@@ -1,9 +1,9 @@
 use Rattle.std.proofs.Common.{ℕ, List, ap, subst}
 use Rattle.sqlite_value.specs.Order.{column}
-use Rattle.desk_sql_lookup.specs.Causes.{IsRow}
-use Rattle.desk_sql_lookup.specs.Shown.{text_cells}
-use Rattle.desk_sql_lookup.proofs.Causes.{no_days}
-use Rattle.desk_sql_lookup.proofs.Loops.{got_place}
+use Rattle.desk_sql_layout.specs.Causes.{IsRow}
+use Rattle.desk_sql_layout.specs.Shown.{text_cells}
+use Rattle.desk_sql_layout.proofs.Causes.{no_days}
+use Rattle.desk_sql_layout.proofs.Loops.{got_place}
 use Rattle.desk_sql_adopt.proofs.catalogue.first_text.Goals as goal
 
 pub returns-in-None-clause-cause : goal.returns-in-None-clause-cause

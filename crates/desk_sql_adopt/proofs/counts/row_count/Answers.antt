@@ -2,7 +2,7 @@ use Rattle.std.proofs.Common.{List, [], length, ◌<◌, ◌^◌}
 use Rattle.sqlite.specs.Held.{state}
 use Rattle.sqlite.specs.State.{Shown}
 use Rattle.sqlite_value.specs.Order.{Row}
-use Rattle.desk_sql_lookup.proofs.Causes.{any_cause, err_cause}
+use Rattle.desk_sql_layout.proofs.Causes.{any_cause, err_cause}
 use Rattle.desk_sql_adopt.proofs.counts.row_count.Goals as goal
 
 pub returns-in_err-rows-clause-cause : goal.returns-in_err-rows-clause-cause

@@ -3,7 +3,7 @@ use Rattle.sqlite.specs.Held.{state}
 use Rattle.sqlite.specs.Values.{bound}
 use Rattle.desk_sql_adopt.proofs.Asking.{answered, failed}
 use Rattle.sqlite.specs.State.{CommitsShowing}
-use Rattle.desk_sql_lookup.proofs.Causes.{failed_cause}
+use Rattle.desk_sql_layout.proofs.Causes.{failed_cause}
 use Rattle.desk_sql_adopt.proofs.query.query.Goals as goal
 
 pub returns-in-Ok-clause-read : goal.returns-in-Ok-clause-read

@@ -4,7 +4,7 @@ use Rattle.desk_sql_adopt.specs.Version.{version_text, version_in}
 use Rattle.desk_sql_adopt.proofs.Asking.{answers}
 use Rattle.desk_sql_adopt.proofs.Spared.{err_read, of_shown}
 use Rattle.desk_sql_adopt.proofs.Texts.{version_asked, version_asks, version_read}
-use Rattle.desk_sql_lookup.proofs.Causes.{err_cause}
+use Rattle.desk_sql_layout.proofs.Causes.{err_cause}
 use Rattle.desk_sql_adopt.proofs.version.version.Goals as goal
 
 pub returns-in_err-rows-clause-read : goal.returns-in_err-rows-clause-read

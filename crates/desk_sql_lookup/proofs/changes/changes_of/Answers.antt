@@ -5,8 +5,8 @@ use Rattle.sqlite.specs.Held.{state}
 use Rattle.desk_model.specs.Keys.{is_change_of}
 use Rattle.desk_model.specs.Tables.{Tables}
 use Rattle.desk_sql_layout.specs.Cells.{change_cells}
-use Rattle.desk_sql_lookup.specs.Causes.{HasDay, HasLastDay, IsRow}
-use Rattle.desk_sql_lookup.proofs.Causes.{filter_all, filter_written, read_cause}
+use Rattle.desk_sql_layout.specs.Causes.{HasDay, HasLastDay, IsRow}
+use Rattle.desk_sql_layout.proofs.Causes.{filter_all, filter_written, read_cause}
 use Rattle.desk_sql_lookup.proofs.Ending.{ends_on_days, ends_written}
 use Rattle.desk_sql_lookup.proofs.LookUps.{fails_any, then_tells}
 use Rattle.desk_sql_lookup.proofs.changes.changes_of.Goals as goal

@@ -5,9 +5,9 @@ use Rattle.sqlite.specs.Held.{state}
 use Rattle.desk_model.specs.Keys.{is_change_of}
 use Rattle.desk_model.specs.Queries.{last_day}
 use Rattle.desk_sql_layout.specs.Cells.{change_cells}
-use Rattle.desk_sql_lookup.specs.Causes.{HasDay, IsRow}
-use Rattle.desk_sql_lookup.specs.Waivers.{day_cells}
-use Rattle.desk_sql_lookup.proofs.Causes.{filter_all, filter_written, read_cause}
+use Rattle.desk_sql_layout.specs.Causes.{HasDay, IsRow}
+use Rattle.desk_sql_layout.specs.Shown.{day_cells}
+use Rattle.desk_sql_layout.proofs.Causes.{filter_all, filter_written, read_cause}
 use Rattle.desk_sql_lookup.proofs.LookUps.{then_tells}
 use Rattle.desk_sql_lookup.proofs.changes.last_day.Goals as goal
 

@@ -4,9 +4,9 @@ use Rattle.std.specs.List.{AllByRecursion}
 use Rattle.sqlite_value.specs.Order.{column}
 use Rattle.desk_model.specs.declared.command.Fault.TheVariants.{Memory}
 use Rattle.desk_model.specs.declared.row.ChangeRow.{ChangeRow}
-use Rattle.desk_sql_lookup.specs.Causes.{HasDay, IsRow, IsWritten}
-use Rattle.desk_sql_lookup.specs.Waivers.{day_cells}
-use Rattle.desk_sql_lookup.proofs.Loops.{got_place}
+use Rattle.desk_sql_layout.specs.Causes.{HasDay, IsRow, IsWritten}
+use Rattle.desk_sql_layout.specs.Shown.{day_cells}
+use Rattle.desk_sql_layout.proofs.Loops.{got_place}
 use Rattle.desk_sql_lookup.proofs.changes.last_of.Goals as goal
 
 pub returns-in_ok-day_at-in-Some-clause-value : goal.returns-in_ok-day_at-in-Some-clause-value

@@ -2,7 +2,8 @@ use Rattle.std.proofs.Common.{◌≡◌, filter, length, map, Err, Ok}
 use Rattle.desk_model.specs.Keys.{is_change_of}
 use Rattle.desk_model.specs.Tables.{Tables}
 use Rattle.desk_sql_layout.specs.Cells.{change_cells}
-use Rattle.desk_sql_lookup.specs.Waivers.{AreSteps, ending_cells, waivers_in}
+use Rattle.desk_sql_layout.specs.Shown.{ending_cells}
+use Rattle.desk_sql_lookup.specs.Waivers.{AreSteps, waivers_in}
 use Rattle.desk_sql_lookup.proofs.LookUps.{fails_too, looks_then, then_tells}
 use Rattle.desk_sql_lookup.proofs.changes.select_both.Goals as goal
 

@@ -5,7 +5,7 @@ use Rattle.desk_sql_lookup.specs.Waivers.{AreSteps}
 use Rattle.desk_sql_lookup.proofs.Among.{changes_among}
 use Rattle.desk_sql_lookup.proofs.ChangeQueries.{changes_of_apart, changes_of_finds}
 use Rattle.desk_sql_lookup.proofs.Ending.{are_steps}
-use Rattle.desk_sql_lookup.proofs.Finding.{finds_both, finds_more}
+use Rattle.desk_sql_layout.proofs.Finding.{finds_both, finds_more}
 use Rattle.desk_sql_lookup.proofs.LookUps.{query_finds}
 use Rattle.desk_sql_lookup.proofs.changes.select_changes_of.Goals as goal
 

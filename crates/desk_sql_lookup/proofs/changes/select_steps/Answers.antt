@@ -1,7 +1,7 @@
 use Rattle.std.proofs.Common.{◌∙◌, ◌+◌, ap, length, min}
 use Rattle.desk_sql_lookup.proofs.Among.{changes_among}
 use Rattle.desk_sql_lookup.proofs.ChangeQueries.{steps_finds}
-use Rattle.desk_sql_lookup.proofs.Finding.{finds_more}
+use Rattle.desk_sql_layout.proofs.Finding.{finds_more}
 use Rattle.desk_sql_lookup.proofs.LookUps.{query_finds}
 use Rattle.desk_sql_lookup.proofs.changes.select_steps.Goals as goal
 

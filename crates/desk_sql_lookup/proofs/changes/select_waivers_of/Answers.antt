@@ -1,10 +1,11 @@
 use Rattle.std.proofs.Common.{◌≡◌, ◌+◌, filter, length, map, min}
 use Rattle.desk_model.specs.Keys.{is_change_of}
-use Rattle.desk_sql_lookup.specs.Waivers.{ending_cells, waivers_in}
+use Rattle.desk_sql_layout.specs.Shown.{ending_cells}
+use Rattle.desk_sql_lookup.specs.Waivers.{waivers_in}
 use Rattle.desk_sql_lookup.proofs.Among.{changes_among}
 use Rattle.desk_sql_lookup.proofs.ChangeQueries.{waivers_of_finds}
 use Rattle.desk_sql_lookup.proofs.Ending.{waivers_shown}
-use Rattle.desk_sql_lookup.proofs.Finding.{finds_more}
+use Rattle.desk_sql_layout.proofs.Finding.{finds_more}
 use Rattle.desk_sql_lookup.proofs.LookUps.{query_finds}
 use Rattle.desk_sql_lookup.proofs.changes.select_waivers_of.Goals as goal
 

@@ -6,8 +6,8 @@ use Rattle.desk_sql_layout.specs.Cells.{number, change_cells}
 use Rattle.desk_model.specs.declared.row.ChangeRow.{ChangeRow}
 use Rattle.std.specs.List.{AllByRecursion}
 use Rattle.desk_model.specs.declared.command.Fault.TheVariants.{Memory}
-use Rattle.desk_sql_lookup.specs.Causes.{HasDay, IsRow, IsWritten}
-use Rattle.desk_sql_lookup.proofs.Loops.{at_place}
+use Rattle.desk_sql_layout.specs.Causes.{HasDay, IsRow, IsWritten}
+use Rattle.desk_sql_layout.proofs.Loops.{at_place}
 use Rattle.desk_sql_lookup.specs.Waivers.{taken, waivers_in}
 use Rattle.desk_sql_lookup.proofs.Ending.{taken_is, front_rest}
 use Rattle.desk_sql_lookup.proofs.changes.with_waivers.Goals as goal

@@ -5,14 +5,14 @@ use Rattle.sqlite.specs.Held.{state}
 use Rattle.desk_history.specs.FromTables.{known_document}
 use Rattle.desk_model.specs.Keys.{is_document}
 use Rattle.desk_model.specs.Tables.{Tables}
-use Rattle.desk_sql_lookup.specs.Shown.{known_cells}
+use Rattle.desk_sql_layout.specs.Shown.{known_cells}
 use Rattle.desk_sql_lookup.proofs.Among.{document_among}
-use Rattle.desk_sql_lookup.proofs.Causes.{never_cause}
+use Rattle.desk_sql_layout.proofs.Causes.{never_cause}
 use Rattle.desk_sql_lookup.proofs.DocumentQueries.{document_finds}
-use Rattle.desk_sql_lookup.proofs.Finding.{finds_mapped}
-use Rattle.desk_sql_lookup.proofs.Keyed.{same_number}
+use Rattle.desk_sql_layout.proofs.Finding.{finds_mapped}
+use Rattle.desk_sql_layout.proofs.Keyed.{same_number}
 use Rattle.desk_sql_lookup.proofs.LookUps.{fails_too, rows_found, then_tells}
-use Rattle.desk_sql_lookup.proofs.Loops.{first_mapped, passed_mapped}
+use Rattle.desk_sql_layout.proofs.Loops.{first_mapped, passed_mapped}
 use Rattle.desk_sql_lookup.proofs.documents.document.Goals as goal
 
 pub returns-in_err-found-clause-looks : goal.returns-in_err-found-clause-looks

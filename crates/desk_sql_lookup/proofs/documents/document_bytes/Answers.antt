@@ -2,11 +2,11 @@ use Rattle.std.proofs.Common.{◌≡◌, ◌∙◌, ◌+◌, ap, find, length, m
 use Rattle.std.specs.Option.{option_map}
 use Rattle.desk_model.specs.Keys.{is_document}
 use Rattle.desk_model.specs.declared.row.DocumentRow.{DocumentRow}
-use Rattle.desk_sql_lookup.specs.Shown.{bytes_cells}
+use Rattle.desk_sql_layout.specs.Shown.{bytes_cells}
 use Rattle.desk_sql_lookup.proofs.Among.{document_among}
 use Rattle.desk_sql_lookup.proofs.DocumentQueries.{document_bytes_finds}
-use Rattle.desk_sql_lookup.proofs.Finding.{finds_mapped}
-use Rattle.desk_sql_lookup.proofs.Loops.{first_mapped}
+use Rattle.desk_sql_layout.proofs.Finding.{finds_mapped}
+use Rattle.desk_sql_layout.proofs.Loops.{first_mapped}
 use Rattle.desk_sql_lookup.proofs.LookUps.{rows_found}
 use Rattle.desk_sql_lookup.proofs.documents.document_bytes.Goals as goal
 

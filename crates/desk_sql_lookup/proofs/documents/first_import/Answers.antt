@@ -2,10 +2,10 @@ use Rattle.std.proofs.Common.{◌≡◌, List, map, rules}
 use Rattle.std.specs.List.{AllByRecursion}
 use Rattle.desk_model.specs.declared.command.Fault.TheVariants.{Memory}
 use Rattle.desk_model.specs.declared.row.DocumentRow.{DocumentRow}
-use Rattle.desk_sql_lookup.specs.Causes.{IsRow}
-use Rattle.desk_sql_lookup.specs.Shown.{import_cells}
-use Rattle.desk_sql_lookup.proofs.Causes.{no_days}
-use Rattle.desk_sql_lookup.proofs.Loops.{got_place}
+use Rattle.desk_sql_layout.specs.Causes.{IsRow}
+use Rattle.desk_sql_layout.specs.Shown.{import_cells}
+use Rattle.desk_sql_layout.proofs.Causes.{no_days}
+use Rattle.desk_sql_layout.proofs.Loops.{got_place}
 use Rattle.desk_sql_lookup.proofs.documents.first_import.Goals as goal
 
 pub returns-in_err-read_import-in-Some-clause-cause : goal.returns-in_err-read_import-in-Some-clause-cause

@@ -3,10 +3,10 @@ use Rattle.std.specs.Option.{option_map}
 use Rattle.desk_history.specs.FromTables.{known_import}
 use Rattle.desk_model.specs.Keys.{has_namespace}
 use Rattle.desk_sql_layout.specs.Cells.{document_cells}
-use Rattle.desk_sql_lookup.specs.Shown.{import_cells}
-use Rattle.desk_sql_lookup.proofs.Causes.{filter_written}
+use Rattle.desk_sql_layout.specs.Shown.{import_cells}
+use Rattle.desk_sql_layout.proofs.Causes.{filter_written}
 use Rattle.desk_sql_lookup.proofs.LookUps.{then_rows}
-use Rattle.desk_sql_lookup.proofs.Loops.{first_is}
+use Rattle.desk_sql_layout.proofs.Loops.{first_is}
 use Rattle.desk_sql_lookup.proofs.documents.import_of.Goals as goal
 
 pub returns : goal.returns

@@ -2,7 +2,7 @@ use Rattle.std.proofs.Common.{◌≡◌, ◌∙◌, ◌+◌, ap, find, length, m
 use Rattle.desk_model.specs.Keys.{is_package}
 use Rattle.desk_sql_lookup.proofs.Among.{package_among}
 use Rattle.desk_sql_lookup.proofs.DocumentQueries.{package_finds}
-use Rattle.desk_sql_lookup.proofs.Loops.{first_is}
+use Rattle.desk_sql_layout.proofs.Loops.{first_is}
 use Rattle.desk_sql_lookup.proofs.LookUps.{rows_found}
 use Rattle.desk_sql_lookup.proofs.documents.package_row.Goals as goal
 

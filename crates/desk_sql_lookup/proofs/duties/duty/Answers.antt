@@ -5,11 +5,11 @@ use Rattle.desk_history.specs.FromTables.{duty_found}
 use Rattle.desk_model.specs.Keys.{is_duty}
 use Rattle.desk_model.specs.Tables.{Tables}
 use Rattle.desk_sql_lookup.proofs.Among.{duty_among}
-use Rattle.desk_sql_lookup.proofs.Causes.{never_cause}
+use Rattle.desk_sql_layout.proofs.Causes.{never_cause}
 use Rattle.desk_sql_lookup.proofs.DutyQueries.{duty_finds}
-use Rattle.desk_sql_lookup.proofs.Keyed.{same_number}
+use Rattle.desk_sql_layout.proofs.Keyed.{same_number}
 use Rattle.desk_sql_lookup.proofs.LookUps.{fails_too, rows_found, then_tells}
-use Rattle.desk_sql_lookup.proofs.Loops.{first_is, passed_first}
+use Rattle.desk_sql_layout.proofs.Loops.{first_is, passed_first}
 use Rattle.desk_sql_lookup.proofs.duties.duty.Goals as goal
 
 pub returns-in_err-found-clause-looks : goal.returns-in_err-found-clause-looks

@@ -4,9 +4,9 @@ use Rattle.std.proofs.lemmas.Result.{IfOk-weaker}
 use Rattle.sqlite.specs.Held.{state}
 use Rattle.desk_model.specs.Queries.{head_of}
 use Rattle.desk_sql_layout.specs.Cells.{document_cells}
-use Rattle.desk_sql_lookup.specs.Causes.{IsRow}
-use Rattle.desk_sql_lookup.specs.Shown.{name_cells}
-use Rattle.desk_sql_lookup.proofs.Causes.{every_written, read_cause}
+use Rattle.desk_sql_layout.specs.Causes.{IsRow}
+use Rattle.desk_sql_layout.specs.Shown.{name_cells}
+use Rattle.desk_sql_layout.proofs.Causes.{every_written, read_cause}
 use Rattle.desk_sql_lookup.proofs.LookUps.{then_tells}
 use Rattle.desk_sql_lookup.proofs.heads.document_heads.Goals as goal
 

@@ -3,12 +3,12 @@ use Rattle.std.proofs.Common.{get_or, take, List, rules, subst}
 use Rattle.std.proofs.lemmas.List.{map-append}
 use Rattle.desk_sql_layout.specs.Cells.{reading_cells}
 use Rattle.desk_model.specs.Queries.{head_of}
-use Rattle.desk_sql_lookup.specs.Shown.{name_cells}
+use Rattle.desk_sql_layout.specs.Shown.{name_cells}
 use Rattle.std.specs.List.{AllByRecursion}
 use Rattle.desk_model.specs.declared.row.DocumentRow.{DocumentRow}
 use Rattle.desk_model.specs.declared.command.Fault.TheVariants.{Memory}
-use Rattle.desk_sql_lookup.specs.Causes.{IsRow}
-use Rattle.desk_sql_lookup.proofs.Loops.{at_two, front_two}
+use Rattle.desk_sql_layout.specs.Causes.{IsRow}
+use Rattle.desk_sql_layout.proofs.Loops.{at_two, front_two}
 use Rattle.desk_sql_lookup.proofs.heads.read_heads.Goals as goal
 
 pub loop-i-preserved : goal.loop-i-preserved

@@ -1,6 +1,6 @@
 use Rattle.std.proofs.Common.{◌≡◌, map, Err, Ok}
 use Rattle.desk_sql_layout.specs.Cells.{reading_cells}
-use Rattle.desk_sql_lookup.specs.Shown.{name_cells}
+use Rattle.desk_sql_layout.specs.Shown.{name_cells}
 use Rattle.desk_sql_lookup.proofs.LookUps.{fails_too, looks_then, then_tells}
 use Rattle.desk_sql_lookup.proofs.heads.select_both.Goals as goal
 

@@ -2,9 +2,9 @@ use Rattle.std.proofs.Common.{◌≡◌, ◌∙◌, slice_get}
 use Rattle.desk_model.specs.Keys.{is_adoption}
 use Rattle.desk_model.specs.declared.row.AdoptionRow.{AdoptionRow}
 use Rattle.desk_model.specs.Conclusions.{licence_for}
-use Rattle.desk_sql_lookup.specs.Shown.{text_cells}
-use Rattle.desk_sql_lookup.proofs.Finding.{finds_mapped}
-use Rattle.desk_sql_lookup.proofs.Loops.{first_mapped}
+use Rattle.desk_sql_layout.specs.Shown.{text_cells}
+use Rattle.desk_sql_layout.proofs.Finding.{finds_mapped}
+use Rattle.desk_sql_layout.proofs.Loops.{first_mapped}
 use Rattle.desk_sql_lookup.proofs.OfficeQueries.{adoption_finds}
 use Rattle.desk_sql_lookup.proofs.LookUps.{rows_found}
 use Rattle.desk_sql_lookup.proofs.office.adoption.Goals as goal

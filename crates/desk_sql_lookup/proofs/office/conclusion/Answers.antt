@@ -2,9 +2,9 @@ use Rattle.std.proofs.Common.{◌≡◌, ◌∙◌, slice_get}
 use Rattle.desk_model.specs.Keys.{is_conclusion}
 use Rattle.desk_model.specs.declared.row.ConclusionRow.{ConclusionRow}
 use Rattle.desk_model.specs.Conclusions.{office_text}
-use Rattle.desk_sql_lookup.specs.Shown.{text_cells}
-use Rattle.desk_sql_lookup.proofs.Finding.{finds_mapped}
-use Rattle.desk_sql_lookup.proofs.Loops.{first_mapped}
+use Rattle.desk_sql_layout.specs.Shown.{text_cells}
+use Rattle.desk_sql_layout.proofs.Finding.{finds_mapped}
+use Rattle.desk_sql_layout.proofs.Loops.{first_mapped}
 use Rattle.desk_sql_lookup.proofs.OfficeQueries.{conclusion_finds}
 use Rattle.desk_sql_lookup.proofs.LookUps.{rows_found}
 use Rattle.desk_sql_lookup.proofs.office.conclusion.Goals as goal

@@ -1,5 +1,5 @@
 use Rattle.std.proofs.Common.{◌≡◌, filter}
-use Rattle.desk_sql_lookup.specs.Shown.{is_conclusion_in}
+use Rattle.desk_sql_layout.specs.Shown.{is_conclusion_in}
 use Rattle.desk_sql_lookup.proofs.OfficeQueries.{conclusions_finds}
 use Rattle.desk_sql_lookup.proofs.LookUps.{rows_found}
 use Rattle.desk_sql_lookup.proofs.office.conclusions_in.Goals as goal

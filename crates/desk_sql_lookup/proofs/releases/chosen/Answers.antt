@@ -1,8 +1,8 @@
 use Rattle.std.proofs.Common.{◌≡◌, filter, map}
 use Rattle.desk_model.specs.Keys.{is_choice_of}
 use Rattle.desk_model.specs.declared.row.ChoiceRow.{ChoiceRow}
-use Rattle.desk_sql_lookup.specs.Shown.{text_cells}
-use Rattle.desk_sql_lookup.proofs.Finding.{finds_mapped}
+use Rattle.desk_sql_layout.specs.Shown.{text_cells}
+use Rattle.desk_sql_layout.proofs.Finding.{finds_mapped}
 use Rattle.desk_sql_lookup.proofs.ChoiceQueries.{chosen_finds}
 use Rattle.desk_sql_lookup.proofs.LookUps.{rows_found}
 use Rattle.desk_sql_lookup.proofs.releases.chosen.Goals as goal

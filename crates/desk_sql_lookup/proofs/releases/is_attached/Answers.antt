@@ -4,7 +4,7 @@ use Rattle.std.specs.List.{list_any}
 use Rattle.desk_model.specs.Keys.{is_attachment}
 use Rattle.desk_model.specs.declared.row.AttachedRow.{AttachedRow}
 use Rattle.desk_sql_lookup.proofs.LookUps.{then_tells}
-use Rattle.desk_sql_lookup.proofs.Loops.{any_attached}
+use Rattle.desk_sql_layout.proofs.Loops.{any_attached}
 use Rattle.desk_sql_lookup.proofs.releases.is_attached.Goals as goal
 
 pub returns : goal.returns

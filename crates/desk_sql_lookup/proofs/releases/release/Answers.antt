@@ -1,7 +1,7 @@
 use Rattle.std.proofs.Common.{◌≡◌, ◌∙◌, slice_get}
 use Rattle.desk_model.specs.Keys.{is_release}
 use Rattle.desk_history.specs.FromTables.{release_found}
-use Rattle.desk_sql_lookup.proofs.Loops.{first_is}
+use Rattle.desk_sql_layout.proofs.Loops.{first_is}
 use Rattle.desk_sql_lookup.proofs.ReleaseQueries.{release_finds}
 use Rattle.desk_sql_lookup.proofs.LookUps.{rows_found}
 use Rattle.desk_sql_lookup.proofs.releases.release.Goals as goal

@@ -3,10 +3,10 @@ use Rattle.desk_sql_lookup.proofs.Ruling.{first_rule_is}
 use Rattle.std.specs.List.{AllByRecursion}
 use Rattle.desk_model.specs.declared.command.Fault.TheVariants.{Memory}
 use Rattle.desk_model.specs.declared.row.RuleRow.{RuleRow}
-use Rattle.desk_sql_lookup.specs.Causes.{IsRow}
+use Rattle.desk_sql_layout.specs.Causes.{IsRow}
 use Rattle.desk_sql_layout.specs.Cells.{rule_cells}
-use Rattle.desk_sql_lookup.proofs.Causes.{no_days}
-use Rattle.desk_sql_lookup.proofs.Loops.{got_place}
+use Rattle.desk_sql_layout.proofs.Causes.{no_days}
+use Rattle.desk_sql_layout.proofs.Loops.{got_place}
 use Rattle.desk_sql_lookup.proofs.rules.first_rule.Goals as goal
 
 pub returns-in_ok-read_rule-in-Some-clause-value : goal.returns-in_ok-read_rule-in-Some-clause-value

@@ -7,7 +7,7 @@ use Rattle.desk_model.specs.History.{rule_for}
 use Rattle.desk_model.specs.Keys.{is_rule, is_rule_of}
 use Rattle.desk_sql_layout.specs.Cells.{rule_cells}
 use Rattle.desk_sql_lookup.specs.Rules.{is_rule_at}
-use Rattle.desk_sql_lookup.proofs.Causes.{filter_written, rows_cause}
+use Rattle.desk_sql_layout.proofs.Causes.{filter_written, rows_cause}
 use Rattle.desk_sql_lookup.proofs.LookUps.{then_tells}
 use Rattle.desk_sql_lookup.proofs.Ruling.{rule_is}
 use Rattle.desk_sql_lookup.proofs.rules.rule.Goals as goal

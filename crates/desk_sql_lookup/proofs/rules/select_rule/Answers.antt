@@ -1,6 +1,6 @@
 use Rattle.std.proofs.Common.{◌≡◌, filter, map, true}
 use Rattle.desk_sql_layout.specs.Cells.{rule_cells}
-use Rattle.desk_sql_lookup.proofs.Finding.{finds_more}
+use Rattle.desk_sql_layout.proofs.Finding.{finds_more}
 use Rattle.desk_sql_lookup.proofs.OfficeQueries.{rule_finds}
 use Rattle.desk_sql_lookup.specs.Rules.{are_words, is_rule_at}
 use Rattle.desk_sql_lookup.proofs.Ruling.{words_kept}

@@ -1,8 +1,8 @@
 use Rattle.std.proofs.Common.{◌≡◌, filter, map}
 use Rattle.desk_sql_lookup.specs.Steps.{is_change_within}
 use Rattle.desk_model.specs.declared.row.ChangeRow.{ChangeRow}
-use Rattle.desk_sql_lookup.specs.Shown.{number_cells}
-use Rattle.desk_sql_lookup.proofs.Finding.{finds_mapped}
+use Rattle.desk_sql_layout.specs.Shown.{number_cells}
+use Rattle.desk_sql_layout.proofs.Finding.{finds_mapped}
 use Rattle.desk_sql_lookup.proofs.ChangeQueries.{changed_finds}
 use Rattle.desk_sql_lookup.proofs.LookUps.{rows_found}
 use Rattle.desk_sql_lookup.proofs.runs.changed_duties.Goals as goal

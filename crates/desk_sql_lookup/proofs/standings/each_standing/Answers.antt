@@ -1,7 +1,7 @@
 use Rattle.std.proofs.Common.{◌≡◌, ◌+◌, ◌++◌, ◌∷◌, [], List, ℕ, ap, ap₂, get_or, length, map, sym, take, Err, Ok, ◌∙◌}
 use Rattle.desk_model.specs.declared.state.DutyState.TheVariants.{IsOpen}
 use Rattle.desk_sql_lookup.specs.Standings.{standing_by}
-use Rattle.desk_sql_lookup.specs.declared.rows.StateRow.{StateRow}
+use Rattle.desk_sql_layout.specs.declared.rows.StateRow.{StateRow}
 use Rattle.std.proofs.lemmas.List.{get_or_default}
 use Rattle.desk_sql_lookup.proofs.LookUps.{fails_too, lacks_memory, looks_none, looks_then, then_tells}
 use Rattle.desk_sql_lookup.proofs.StandingLemmas.{all_taken, map_more}

@@ -1,8 +1,8 @@
 use Rattle.std.proofs.Common.{◌≡◌, filter, map}
 use Rattle.desk_model.specs.Keys.{is_duty_of}
 use Rattle.desk_sql_lookup.specs.Standings.{state_row}
-use Rattle.desk_sql_lookup.specs.Shown.{state_cells}
-use Rattle.desk_sql_lookup.proofs.Finding.{finds_mapped}
+use Rattle.desk_sql_layout.specs.Shown.{state_cells}
+use Rattle.desk_sql_layout.proofs.Finding.{finds_mapped}
 use Rattle.desk_sql_lookup.proofs.DutyQueries.{states_of_finds}
 use Rattle.desk_sql_lookup.proofs.LookUps.{rows_found}
 use Rattle.desk_sql_lookup.proofs.standings.states_of.Goals as goal

@@ -1,9 +1,9 @@
 use Rattle.std.proofs.Common.{◌≡◌, ◌∙◌, ◌+◌, ap, filter, length, map, min}
 use Rattle.desk_model.specs.Keys.{is_revision}
 use Rattle.desk_model.specs.declared.row.CatalogueRow.{CatalogueRow}
-use Rattle.desk_sql_lookup.specs.Shown.{text_cells}
+use Rattle.desk_sql_layout.specs.Shown.{text_cells}
 use Rattle.desk_sql_lookup.proofs.Among.{revision_among}
-use Rattle.desk_sql_lookup.proofs.Finding.{finds_mapped}
+use Rattle.desk_sql_layout.proofs.Finding.{finds_mapped}
 use Rattle.desk_sql_lookup.proofs.LookUps.{rows_found}
 use Rattle.desk_sql_lookup.proofs.TextQueries.{catalogue_finds}
 use Rattle.desk_sql_lookup.proofs.texts.catalogue_texts.Goals as goal

@@ -4,10 +4,10 @@ use Rattle.desk_model.specs.Bills.{extracted_text}
 use Rattle.desk_model.specs.Keys.{is_extracted}
 use Rattle.desk_model.specs.declared.row.ExtractedRow.{ExtractedRow}
 use Rattle.desk_sql_layout.specs.Cells.{extracted_cells}
-use Rattle.desk_sql_lookup.specs.Shown.{extracted_body_cells}
-use Rattle.desk_sql_lookup.proofs.Causes.{filter_written}
+use Rattle.desk_sql_layout.specs.Shown.{extracted_body_cells}
+use Rattle.desk_sql_layout.proofs.Causes.{filter_written}
 use Rattle.desk_sql_lookup.proofs.LookUps.{then_rows}
-use Rattle.desk_sql_lookup.proofs.Loops.{first_is}
+use Rattle.desk_sql_layout.proofs.Loops.{first_is}
 use Rattle.desk_sql_lookup.proofs.texts.extracted_text.Goals as goal
 
 pub returns : goal.returns

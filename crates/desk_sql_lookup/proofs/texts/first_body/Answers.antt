@@ -2,10 +2,10 @@ use Rattle.std.proofs.Common.{◌<◌, length, ap, subst, sym, arith}
 use Rattle.std.proofs.lemmas.Result.{IfErr-weaker}
 use Rattle.sqlite_value.specs.Order.{column}
 use Rattle.desk_model.specs.declared.row.ExtractedRow.{ExtractedRow}
-use Rattle.desk_sql_lookup.specs.Causes.{IsRow, IsWritten}
-use Rattle.desk_sql_lookup.specs.Shown.{extracted_body_cells}
-use Rattle.desk_sql_lookup.proofs.Causes.{no_days}
-use Rattle.desk_sql_lookup.proofs.Loops.{got_place}
+use Rattle.desk_sql_layout.specs.Causes.{IsRow, IsWritten}
+use Rattle.desk_sql_layout.specs.Shown.{extracted_body_cells}
+use Rattle.desk_sql_layout.proofs.Causes.{no_days}
+use Rattle.desk_sql_layout.proofs.Loops.{got_place}
 use Rattle.desk_sql_lookup.proofs.texts.first_body.Goals as goal
 
 pub returns-in-Some-clause-cause : goal.returns-in-Some-clause-cause

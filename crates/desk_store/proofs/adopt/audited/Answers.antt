@@ -1,7 +1,7 @@
 use Rattle.std.proofs.Common.{◌≡◌, subst}
 use Rattle.sqlite.specs.Held.{state}
 use Rattle.desk_sql_layout.specs.Held.{seen_of}
-use Rattle.desk_sql_lookup.proofs.Causes.{any_cause}
+use Rattle.desk_sql_layout.proofs.Causes.{any_cause}
 use Rattle.desk_store.specs.Causes.{AreRecorded}
 use Rattle.desk_store.proofs.Adopting.{fault_adopts, never_adopts}
 use Rattle.desk_store.proofs.adopt.audited.Goals as goal

@@ -1,6 +1,6 @@
 use Rattle.sqlite.specs.Held.{state}
 use Rattle.desk_sql_adopt.proofs.Spared.{kept}
-use Rattle.desk_sql_lookup.proofs.Causes.{any_cause, err_cause}
+use Rattle.desk_sql_layout.proofs.Causes.{any_cause, err_cause}
 use Rattle.desk_store.specs.Causes.{AreRecorded}
 use Rattle.desk_store.proofs.Adopting.{later_cause}
 use Rattle.desk_store.proofs.adopt.read_beside.Goals as goal

@@ -1,6 +1,6 @@
 use Rattle.std.proofs.Common.{◌<◌, ◌^◌, length}
 use Rattle.sqlite.specs.Held.{state}
-use Rattle.desk_sql_lookup.proofs.Causes.{err_cause}
+use Rattle.desk_sql_layout.proofs.Causes.{err_cause}
 use Rattle.desk_sql_adopt.proofs.Spared.{spared_then}
 use Rattle.desk_store.specs.Causes.{AreFew}
 use Rattle.desk_store.proofs.Adopting.{later_cause, weaken_cause}

@@ -3,7 +3,7 @@ use Rattle.sqlite.specs.Held.{state}
 use Rattle.desk_sql_layout.specs.Held.{seen_of}
 use Rattle.desk_sql_adopt.proofs.Spared.{clean_before, kept}
 use Rattle.desk_store.proofs.Counted.{counted_kept, counted_none}
-use Rattle.desk_sql_lookup.proofs.Causes.{err_cause, memory_err}
+use Rattle.desk_sql_layout.proofs.Causes.{err_cause, memory_err}
 use Rattle.desk_store.proofs.Adopting.{later_cause}
 use Rattle.desk_store.proofs.adopt.read_tallies.Goals as goal
 

@@ -39,9 +39,9 @@ use Rattle.desk_sql_layout.specs.Cells.{
 use Rattle.desk_sql_layout.specs.Held.{Holds, rows_of}
 use Rattle.desk_sql_layout.specs.Layout as d
 use Rattle.desk_sql_layout.specs.Stored.{cells}
-use Rattle.desk_sql_lookup.proofs.Selecting.{as_declared}
-use Rattle.desk_sql_lookup.proofs.Selects.{AreApart, by_rowid, by_unique}
-use Rattle.desk_sql_lookup.proofs.Ties.{are_keys}
+use Rattle.desk_sql_layout.proofs.Selecting.{as_declared}
+use Rattle.desk_sql_layout.proofs.Selects.{AreApart, by_rowid, by_unique}
+use Rattle.desk_sql_layout.proofs.Ties.{are_keys}
 
 -- a table, the rows that it holds, and their cells
 pub record View (X : Type 0) : Type 0 where

@@ -1,9 +1,9 @@
 use Rattle.std.proofs.Common.{◌≡◌, List, rules, ◌<◌, map, ap, ap₂, sym, ◌∙◌, ◌++◌, ◌∷◌, [], add-one, length, get_or}
 use Rattle.std.specs.List.{AllByRecursion}
 use Rattle.desk_model.specs.declared.command.Fault.TheVariants.{Memory}
-use Rattle.desk_sql_lookup.specs.Causes.{IsRow}
-use Rattle.desk_sql_lookup.proofs.Loops.{at_place, front_more}
-use Rattle.desk_sql_lookup.proofs.read.read_all.Goals as goal
+use Rattle.desk_sql_layout.specs.Causes.{IsRow}
+use Rattle.desk_sql_layout.proofs.Loops.{at_place, front_more}
+use Rattle.desk_sql_layout.proofs.read.read_all.Goals as goal
 
 pub loop-row-preserved : goal.loop-row-preserved
 loop-row-preserved g c = λ xs is.

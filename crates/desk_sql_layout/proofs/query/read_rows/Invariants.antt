@@ -7,8 +7,8 @@ use Rattle.sqlite.proofs.Callers.{IsPlain}
 use Rattle.desk_access.specs.Seen.{Same}
 use Rattle.desk_sql_layout.specs.Held.{seen_of}
 use Rattle.desk_sql_layout.specs.Layout.{desk_schema}
-use Rattle.desk_sql_lookup.proofs.Streaming.{HasRead}
-use Rattle.desk_sql_lookup.proofs.query.read_rows.Given as goal
+use Rattle.desk_sql_layout.proofs.Streaming.{HasRead}
+use Rattle.desk_sql_layout.proofs.query.read_rows.Given as goal
 
 abbrev pub invariant-rows : goal.invariant-rows
 invariant-rows g l = record {

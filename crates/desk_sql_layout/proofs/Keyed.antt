@@ -28,7 +28,7 @@ use Rattle.desk_model.specs.declared.row.PackageRow.{PackageRow}
 use Rattle.desk_model.specs.declared.row.ReleaseRow.{ReleaseRow}
 use Rattle.desk_sql_layout.specs.Cells.{number}
 use Rattle.desk_sql_layout.specs.Held.{package_below}
-use Rattle.desk_sql_lookup.proofs.Ties.{keys, ascends}
+use Rattle.desk_sql_layout.proofs.Ties.{keys, ascends}
 
 -- ---- tests
 

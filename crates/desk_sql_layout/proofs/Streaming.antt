@@ -20,10 +20,10 @@ use Rattle.desk_model.specs.declared.command.Fault.{Fault}
 use Rattle.desk_access.specs.Seen.{Same}
 use Rattle.desk_sql_layout.specs.Held.{seen_of}
 use Rattle.desk_sql_layout.specs.Layout.{desk_schema}
-use Rattle.desk_sql_lookup.specs.Causes.{HasCauseIf, IsAsked, IsRow}
-use Rattle.desk_sql_lookup.specs.Streamed.{AreRead, CanBeRead, FailsToReadOn, ReadsOn, ShowsRead}
-use Rattle.desk_sql_lookup.proofs.Calls.{Begins, begins_open, begun}
-use Rattle.desk_sql_lookup.proofs.Causes.{caused}
+use Rattle.desk_sql_layout.specs.Causes.{HasCauseIf, IsAsked, IsRow}
+use Rattle.desk_sql_layout.specs.Streamed.{AreRead, CanBeRead, FailsToReadOn, ReadsOn, ShowsRead}
+use Rattle.desk_sql_layout.proofs.Calls.{Begins, begins_open, begun}
+use Rattle.desk_sql_layout.proofs.Causes.{caused}
 
 -- one more row is read
 

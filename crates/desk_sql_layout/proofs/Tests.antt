@@ -11,7 +11,7 @@ use Rattle.sqlite_sql.specs.declared.ops.CompareOp.TheVariants.{Eq}
 use Rattle.sqlite_sql.specs.Ops.{binary, is_true}
 use Rattle.desk_sql_layout.specs.Cells.{number}
 use Rattle.desk_sql_layout.proofs.Casts.{int_test, text_test, and_true}
-use Rattle.desk_sql_lookup.proofs.Keyed.{same_number, same_text}
+use Rattle.desk_sql_layout.proofs.Keyed.{same_number, same_text}
 
 -- each of these columns equals a value
 abbrev pub equals : List (ℕ × Value) → Row → Bool

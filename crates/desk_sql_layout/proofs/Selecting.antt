@@ -10,8 +10,8 @@ use Rattle.sqlite.specs.Listing.{understood, reads_listing}
 use Rattle.sqlite.proofs.Callers.{IsPlain, command_of}
 use Rattle.desk_sql_layout.specs.Layout.{desk_schema, table_of}
 use Rattle.desk_sql_layout.proofs.Queries.{query_on}
-use Rattle.desk_sql_lookup.specs.Causes.{IsAsked}
-use Rattle.desk_sql_lookup.proofs.Causes.{Suits, asked}
+use Rattle.desk_sql_layout.specs.Causes.{IsAsked}
+use Rattle.desk_sql_layout.proofs.Causes.{Suits, asked}
 
 -- a text with this many parameters is this query of a table, and the library plans it as it is
 pub record IsSelect (text : List ℕ) (parameters tree : ℕ) (tests project : List Term)

@@ -2,14 +2,14 @@
 
 ghost use Rattle.std.specs.Prelude.{◌≡◌, IfErr, IfOk, List, map, slice_get};
 ghost use Rattle.std.specs.List.{AllByRecursion};
-ghost use Rattle.desk_sql_lookup.specs.Causes.{IsRow};
+ghost use Rattle.desk_sql_layout.specs.Causes.{IsRow};
 
 use desk_model::Fault;
 use sqlite::Row;
 use std::alloc::Global;
 
 /// A row of one of the desk's tables.
-pub(crate) trait ReadRow: Sized {
+pub trait ReadRow: Sized {
     ghost use Rattle.sqlite_value.specs.Order.{Row as Cells};
 
     /// The cells that a query shows of it.
@@ -18,6 +18,7 @@ pub(crate) trait ReadRow: Sized {
     /// Its days exist.
     ghost has_days: { Self → Type 0 } = { λ _. Unit {0} };
 
+    /// Reads it from the cells that a query shows of it.
     fn read(alloc: Global, row: &Row) -> Result<Self, Fault>
         ensures value { IfOk result (λ found. (x : Self) → row.now ≡ cells x → found ≡ x) }
         ensures cause { IfErr result (λ fault. (x : Self) → row.now ≡ cells x → IsRow row.now
@@ -25,7 +26,7 @@ pub(crate) trait ReadRow: Sized {
 }
 
 /// All rows.
-pub(crate) fn read_all<T: ReadRow + Drop>(alloc: Global, rows: &[Row]) -> Result<Vec<T>, Fault>
+pub fn read_all<T: ReadRow + Drop>(alloc: Global, rows: &[Row]) -> Result<Vec<T>, Fault>
     ensures value { IfOk result (λ found. (xs : List T) → rows.now ≡ map T.ReadRow.cells xs
         → found.items ≡ xs) }
     ensures cause { IfErr result (λ fault. (xs : List T) → rows.now ≡ map T.ReadRow.cells xs
@@ -40,7 +41,7 @@ pub(crate) fn read_all<T: ReadRow + Drop>(alloc: Global, rows: &[Row]) -> Result
 }
 
 /// The first row, if there is one.
-pub(crate) fn read_first<T: ReadRow + Drop>(alloc: Global, rows: &[Row]) -> Result<Option<T>, Fault>
+pub fn read_first<T: ReadRow + Drop>(alloc: Global, rows: &[Row]) -> Result<Option<T>, Fault>
     ensures value { IfOk result (λ found. (xs : List T) → rows.now ≡ map T.ReadRow.cells xs
         → found ≡ slice_get xs 0) }
     ensures cause { IfErr result (λ fault. (xs : List T) → rows.now ≡ map T.ReadRow.cells xs

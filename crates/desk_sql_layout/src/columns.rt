@@ -5,7 +5,7 @@ ghost use Rattle.sqlite_value.specs.Order.{column};
 ghost use Rattle.sqlite_value.specs.declared.value.Value.TheVariants.{Text as Words, Blob};
 ghost use Rattle.desk_base.specs.Profiles.{profile_number};
 ghost use Rattle.desk_sql_layout.specs.Cells.{number, text_or_null};
-ghost use Rattle.desk_sql_lookup.specs.Causes.{IsWritten};
+ghost use Rattle.desk_sql_layout.specs.Causes.{IsWritten};
 ghost use Rattle.desk_base.specs.Day.{is_day};
 ghost use Rattle.desk_model.specs.Names.{release_state_name, duty_state_name, word_name};
 
@@ -16,10 +16,10 @@ use sqlite_value::value::ValueRef;
 use std::alloc::Global;
 
 /// The fault of rows that no desk's table has.
-pub(crate) const ROWS: Fault = Fault::Store(StoreFault::Rows);
+pub const ROWS: Fault = Fault::Store(StoreFault::Rows);
 
 /// A number.
-pub(crate) fn number_at(row: &Row, at: usize) -> Result<u32, Fault>
+pub fn number_at(row: &Row, at: usize) -> Result<u32, Fault>
     ensures value { IfOk result (λ n. column row.now at ≡ number n) }
     ensures cause { IfErr result (λ fault. (n : ℕ)
         → column row.now at ≡ number n
@@ -34,7 +34,8 @@ pub(crate) fn number_at(row: &Row, at: usize) -> Result<u32, Fault>
     }
 }
 
-pub(crate) fn str_at(row: &Row, at: usize) -> Result<&str, Fault>
+/// A text, as the row has it.
+pub fn str_at(row: &Row, at: usize) -> Result<&str, Fault>
     ensures value { IfOk result (λ text. column row.now at ≡ Words text.now) }
     ensures cause { IfErr result (λ fault. (text : List ℕ)
         → column row.now at ≡ Words text
@@ -50,7 +51,7 @@ pub(crate) fn str_at(row: &Row, at: usize) -> Result<&str, Fault>
 }
 
 /// A text.
-pub(crate) fn text_at(alloc: Global, row: &Row, at: usize) -> Result<Text, Fault>
+pub fn text_at(alloc: Global, row: &Row, at: usize) -> Result<Text, Fault>
     ensures value { IfOk result (λ text. column row.now at ≡ Words text) }
     ensures cause { IfErr result (λ fault. (text : List ℕ)
         → column row.now at ≡ Words text
@@ -61,7 +62,7 @@ pub(crate) fn text_at(alloc: Global, row: &Row, at: usize) -> Result<Text, Fault
 }
 
 /// A text, or none if the column is NULL.
-pub(crate) fn text_or_null_at(alloc: Global, row: &Row, at: usize) -> Result<Option<Text>, Fault>
+pub fn text_or_null_at(alloc: Global, row: &Row, at: usize) -> Result<Option<Text>, Fault>
     ensures value { IfOk result (λ text. column row.now at ≡ text_or_null text) }
     ensures cause { IfErr result (λ fault. (text : Option (List ℕ)) → at < length row.now
         → column row.now at ≡ text_or_null text
@@ -74,7 +75,7 @@ pub(crate) fn text_or_null_at(alloc: Global, row: &Row, at: usize) -> Result<Opt
 }
 
 /// A day.
-pub(crate) fn day_at(row: &Row, at: usize) -> Result<Day, Fault>
+pub fn day_at(row: &Row, at: usize) -> Result<Day, Fault>
     ensures value { IfOk result (λ day. column row.now at ≡ Words day) }
     ensures cause { IfErr result (λ fault. (day : List ℕ)
         → column row.now at ≡ Words day
@@ -87,7 +88,7 @@ pub(crate) fn day_at(row: &Row, at: usize) -> Result<Day, Fault>
 }
 
 /// Whether something is so, by 1 or 0.
-pub(crate) fn flag_at(row: &Row, at: usize) -> Result<bool, Fault>
+pub fn flag_at(row: &Row, at: usize) -> Result<bool, Fault>
     ensures value { IfOk result (λ is. column row.now at ≡ number (if is then 1 else 0)) }
     ensures cause { IfErr result (λ fault. (is : Bool)
         → column row.now at ≡ number (if is then 1 else 0)
@@ -101,7 +102,7 @@ pub(crate) fn flag_at(row: &Row, at: usize) -> Result<bool, Fault>
 }
 
 /// A profile, by its number.
-pub(crate) fn profile_at(row: &Row, at: usize) -> Result<Profile, Fault>
+pub fn profile_at(row: &Row, at: usize) -> Result<Profile, Fault>
     ensures value { IfOk result (λ profile. column row.now at ≡ number (profile_number profile)) }
     ensures cause { IfErr result (λ fault. (profile : Profile)
         → column row.now at ≡ number (profile_number profile)
@@ -115,7 +116,7 @@ pub(crate) fn profile_at(row: &Row, at: usize) -> Result<Profile, Fault>
 }
 
 /// The state of a release, by its word.
-pub(crate) fn release_state_at(row: &Row, at: usize) -> Result<ReleaseState, Fault>
+pub fn release_state_at(row: &Row, at: usize) -> Result<ReleaseState, Fault>
     ensures value { IfOk result (λ state. column row.now at ≡ Words (release_state_name state)) }
     ensures cause { IfErr result (λ fault. (state : ReleaseState)
         → column row.now at ≡ Words (release_state_name state)
@@ -130,7 +131,7 @@ pub(crate) fn release_state_at(row: &Row, at: usize) -> Result<ReleaseState, Fau
 }
 
 /// The state of a duty, by its word.
-pub(crate) fn duty_state_at(row: &Row, at: usize) -> Result<DutyState, Fault>
+pub fn duty_state_at(row: &Row, at: usize) -> Result<DutyState, Fault>
     ensures value { IfOk result (λ state. column row.now at ≡ Words (duty_state_name state)) }
     ensures cause { IfErr result (λ fault. (state : DutyState)
         → column row.now at ≡ Words (duty_state_name state)
@@ -146,7 +147,7 @@ pub(crate) fn duty_state_at(row: &Row, at: usize) -> Result<DutyState, Fault>
 }
 
 /// The word for a change.
-pub(crate) fn word_at(row: &Row, at: usize) -> Result<Word, Fault>
+pub fn word_at(row: &Row, at: usize) -> Result<Word, Fault>
     ensures value { IfOk result (λ word. column row.now at ≡ Words (word_name word)) }
     ensures cause { IfErr result (λ fault. (word : Word)
         → column row.now at ≡ Words (word_name word)
@@ -164,7 +165,7 @@ pub(crate) fn word_at(row: &Row, at: usize) -> Result<Word, Fault>
 }
 
 /// Bytes.
-pub(crate) fn bytes_at(alloc: Global, row: &Row, at: usize) -> Result<Items<u8>, Fault>
+pub fn bytes_at(alloc: Global, row: &Row, at: usize) -> Result<Items<u8>, Fault>
     ensures value { IfOk result (λ bytes. column row.now at ≡ Blob bytes) }
     ensures cause { IfErr result (λ fault. (bytes : List ℕ)
         → column row.now at ≡ Blob bytes

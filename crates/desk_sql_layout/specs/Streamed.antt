@@ -12,7 +12,7 @@ use Rattle.desk_model.specs.declared.command.Fault.TheVariants.{Memory}
 use Rattle.desk_model.specs.Tables.{Tables}
 use Rattle.desk_sql_layout.specs.Faults.{fault_by}
 use Rattle.desk_sql_layout.specs.Held.{Holds}
-use Rattle.desk_sql_lookup.specs.Causes.{IsRow}
+use Rattle.desk_sql_layout.specs.Causes.{IsRow}
 
 -- if these rows are the cells of some values, those values were read
 abbrev pub AreRead : {T : Type 0} → (T → Row) → List Row → List T → Type 0

@@ -11,18 +11,18 @@ ghost use Rattle.sqlite_value.specs.Value.{owned};
 ghost use Rattle.sqlite_value.specs.declared.value.Value.TheVariants.{Text as Words};
 ghost use Rattle.desk_access.specs.Seen.{Looked};
 ghost use Rattle.desk_sql_layout.specs.Held.{seen_of};
-ghost use Rattle.desk_sql_lookup.specs.Queried.{Queries, ReadsQuery};
-ghost use Rattle.desk_sql_lookup.specs.Streamed.{FailsToReadOn, ReadsOn};
+ghost use Rattle.desk_sql_layout.specs.Queried.{Queries, ReadsQuery};
+ghost use Rattle.desk_sql_layout.specs.Streamed.{FailsToReadOn, ReadsOn};
 
+use crate::fault::fault_of;
 use crate::read::{ReadRow, read_first};
 use desk_model::Fault;
-use desk_sql_layout::fault::fault_of;
 use sqlite::{Alter, Connection, Row, Rows};
 use sqlite_value::value::ValueRef;
 use std::alloc::Global;
 
 /// The rows of a query that changes nothing.
-pub(crate) fn query<S: Alter>(
+pub fn query<S: Alter>(
     conn: &mut Connection<S>,
     sql: &str,
     params: &[ValueRef<'_>],
@@ -73,7 +73,7 @@ fn read_next<S: Alter, T: ReadRow + Drop>(
 
 /// The rows of a query that changes nothing, each read before the next one, so that none is kept as
 /// cells.
-pub(crate) fn read_rows<S: Alter, T: ReadRow + Drop>(
+pub fn read_rows<S: Alter, T: ReadRow + Drop>(
     alloc: Global,
     conn: &mut Connection<S>,
     sql: &str,
@@ -98,7 +98,7 @@ pub(crate) fn read_rows<S: Alter, T: ReadRow + Drop>(
 }
 
 /// The first row of a query that changes nothing, if there is one.
-pub(crate) fn read_one<S: Alter, T: ReadRow + Drop>(
+pub fn read_one<S: Alter, T: ReadRow + Drop>(
     alloc: Global,
     conn: &mut Connection<S>,
     sql: &str,
@@ -112,7 +112,7 @@ pub(crate) fn read_one<S: Alter, T: ReadRow + Drop>(
 }
 
 /// A text in the form that a query takes.
-pub(crate) fn text<'a>(text: &'a str) -> ValueRef<'a>
+pub fn text<'a>(text: &'a str) -> ValueRef<'a>
     ensures { bound_value (owned result) ≡ Words text.now }
 {
     ValueRef::Text(text.as_bytes())
@@ -120,7 +120,7 @@ pub(crate) fn text<'a>(text: &'a str) -> ValueRef<'a>
 
 /// A number in the form that a query takes. If this many things are numbered from 1, the number
 /// after the last stands for every number beyond it.
-pub(crate) fn among(n: u64, count: u32) -> ValueRef<'static>
+pub fn among(n: u64, count: u32) -> ValueRef<'static>
     ensures { bound_value (owned result) ≡ number (min n (count + 1)) }
 {
     let past = u64::from(count) + 1;

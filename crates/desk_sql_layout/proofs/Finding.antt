@@ -15,13 +15,13 @@ use Rattle.desk_sql_layout.specs.Held.{AreOrderly, Holds, rows_of}
 use Rattle.desk_sql_layout.specs.Layout.{desk_schema}
 use Rattle.desk_sql_layout.specs.Stored.{cells}
 use Rattle.desk_sql_layout.proofs.Queries.{query_on, passes, env}
-use Rattle.desk_sql_lookup.specs.Causes.{AreWritten, IsAsked, IsRow, IsWritten}
-use Rattle.desk_sql_lookup.proofs.Causes.{filter_written}
-use Rattle.desk_sql_lookup.proofs.HolderLemmas.{all_pass}
-use Rattle.desk_sql_lookup.proofs.Selecting.{IsSelect, as_declared, select_asked}
-use Rattle.desk_sql_lookup.proofs.Selects.{apart_shown, at_one_key, counts, keys_are, order_by, shows}
-use Rattle.desk_sql_lookup.proofs.Ties.{keys, picked}
-use Rattle.desk_sql_lookup.proofs.Views.{StandApart, View}
+use Rattle.desk_sql_layout.specs.Causes.{AreWritten, IsAsked, IsRow, IsWritten}
+use Rattle.desk_sql_layout.proofs.Causes.{filter_written}
+use Rattle.desk_sql_layout.proofs.HolderLemmas.{all_pass}
+use Rattle.desk_sql_layout.proofs.Selecting.{IsSelect, as_declared, select_asked}
+use Rattle.desk_sql_layout.proofs.Selects.{apart_shown, at_one_key, counts, keys_are, order_by, shows}
+use Rattle.desk_sql_layout.proofs.Ties.{keys, picked}
+use Rattle.desk_sql_layout.proofs.Views.{StandApart, View}
 
 -- with these values a text is a query of the desk's tables, and what it shows is true of the rows
 pub record Finds (text : List ℕ) (params : Row) (Is : Tables → List Row → Type 0) : Type 1 where

@@ -1,7 +1,7 @@
 use Rattle.std.proofs.Common.{◌≡◌}
 use Rattle.std.specs.Prelude.{slice_get}
-use Rattle.desk_sql_lookup.proofs.LookUps.{query_failed, rows_told}
-use Rattle.desk_sql_lookup.proofs.query.read_one.Goals as goal
+use Rattle.desk_sql_layout.proofs.Queried.{query_failed, rows_told}
+use Rattle.desk_sql_layout.proofs.query.read_one.Goals as goal
 
 pub returns-in_err-rows : goal.returns-in_err-rows
 returns-in_err-rows g c =

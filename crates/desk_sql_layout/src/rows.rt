@@ -2,13 +2,13 @@
 
 ghost use Rattle.std.specs.Prelude.{◌≡◌, IfErr, IfOk, List, map};
 ghost use Rattle.std.specs.List.{AllByRecursion};
-ghost use Rattle.desk_sql_lookup.specs.Causes.{HasDay, IsRow};
-ghost use Rattle.desk_sql_layout.specs.Cells.{attached_cells, change_cells, duty_cells, frozen_cells, package_cells, release_cells};
+ghost use Rattle.desk_sql_layout.specs.Causes.{HasDay, IsRow};
+ghost use Rattle.desk_sql_layout.specs.Cells.{attached_cells, change_cells, choice_cells, conclusion_cells, duty_cells};
+ghost use Rattle.desk_sql_layout.specs.Cells.{frozen_cells, package_cells, release_cells};
 ghost use Rattle.desk_model.specs.declared.row.ChangeRow.{ChangeRow as Change};
 ghost use Rattle.desk_model.specs.declared.row.DutyRow.{DutyRow as Duty};
 ghost use Rattle.desk_model.specs.declared.row.ReleaseRow.{ReleaseRow as Release};
-ghost use Rattle.desk_sql_lookup.specs.Shown.{number_cells, bytes_cells, known_cells, state_cells, text_cells};
-ghost use Rattle.desk_sql_lookup.specs.Waivers.{EndsOnDay, ending_cells};
+ghost use Rattle.desk_sql_layout.specs.Shown.{EndsOnDay, bytes_cells, ending_cells, known_cells, number_cells, state_cells, text_cells};
 
 use crate::columns::{
     bytes_at, day_at, duty_state_at, flag_at, number_at, profile_at, release_state_at, text_at,
@@ -17,7 +17,8 @@ use crate::columns::{
 use crate::read::{ReadRow, read_all};
 use desk_base::{Day, Items, Profile, Text};
 use desk_model::{
-    AttachedRow, ChangeRow, DutyRow, DutyState, Fault, FrozenRow, PackageRow, ReleaseRow,
+    AttachedRow, ChangeRow, ChoiceRow, ConclusionRow, DutyRow, DutyState, Fault, FrozenRow,
+    PackageRow, ReleaseRow,
 };
 use sqlite::Row;
 use std::alloc::Global;
@@ -95,6 +96,19 @@ impl ReadRow for AttachedRow {
     }
 }
 
+impl ReadRow for ChoiceRow {
+    ghost cells = { choice_cells };
+
+    fn read(alloc: Global, row: &Row) -> Result<ChoiceRow, Fault> {
+        Ok(ChoiceRow {
+            release: text_at(alloc, row, 0)?,
+            document: number_at(row, 1)?,
+            package_id: text_at(alloc, row, 2)?,
+            term: text_at(alloc, row, 3)?,
+        })
+    }
+}
+
 impl ReadRow for FrozenRow {
     ghost cells = { frozen_cells };
 
@@ -105,6 +119,18 @@ impl ReadRow for FrozenRow {
             package_id: text_at(alloc, row, 2)?,
             term: text_at(alloc, row, 3)?,
             rule: text_at(alloc, row, 4)?,
+        })
+    }
+}
+
+impl ReadRow for ConclusionRow {
+    ghost cells = { conclusion_cells };
+
+    fn read(alloc: Global, row: &Row) -> Result<ConclusionRow, Fault> {
+        Ok(ConclusionRow {
+            document: number_at(row, 0)?,
+            package_id: text_at(alloc, row, 1)?,
+            expression: text_at(alloc, row, 2)?,
         })
     }
 }
@@ -128,9 +154,9 @@ impl ReadRow for DutyRow {
 
 /// The number and the state of a duty.
 #[derive(Drop)]
-pub(crate) struct StateRow {
-    pub(crate) number: u32,
-    pub(crate) state: DutyState,
+pub struct StateRow {
+    pub number: u32,
+    pub state: DutyState,
 }
 
 impl ReadRow for StateRow {
@@ -169,9 +195,9 @@ pub fn read_duties(alloc: Global, rows: &[Row]) -> Result<Vec<DutyRow>, Fault>
 
 /// The last day of the waiver at a step.
 #[derive(Drop)]
-pub(crate) struct Waiver {
-    pub(crate) step: u32,
-    pub(crate) last_day: Day,
+pub struct Waiver {
+    pub step: u32,
+    pub last_day: Day,
 }
 
 impl ReadRow for Waiver {
@@ -188,11 +214,7 @@ impl ReadRow for Waiver {
 }
 
 /// A change, with the last day that another table has for it.
-pub(crate) fn read_change(
-    alloc: Global,
-    row: &Row,
-    last_day: Option<Day>,
-) -> Result<ChangeRow, Fault>
+pub fn read_change(alloc: Global, row: &Row, last_day: Option<Day>) -> Result<ChangeRow, Fault>
     ensures value { IfOk result (λ found. (x : Change) → row.now ≡ change_cells x
         → found ≡ record x { last_day = last_day }) }
     ensures cause { IfErr result (λ fault. (x : Change) → row.now ≡ change_cells x → IsRow row.now

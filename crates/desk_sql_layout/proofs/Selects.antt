@@ -37,7 +37,7 @@ use Rattle.desk_sql_layout.specs.Stored.{cells, AreStored}
 use Rattle.desk_sql_layout.specs.Held.{HasRows}
 use Rattle.desk_sql_layout.proofs.Edits.{has_permuted}
 use Rattle.desk_sql_layout.proofs.Queries.{query_on, passes, env, selected}
-use Rattle.desk_sql_lookup.proofs.Ties.{are_keys, keys, picked, ascending_among, sorted_from, apart_by, apart_by_rowid}
+use Rattle.desk_sql_layout.proofs.Ties.{are_keys, keys, picked, ascending_among, sorted_from, apart_by, apart_by_rowid}
 
 -- ordered by these places of a stored row
 abbrev pub order_by : List ℕ → List (Term × Key)

@@ -5,12 +5,12 @@ use Rattle.sqlite.specs.Values.{bound}
 use Rattle.desk_sql_layout.specs.Held.{seen_of}
 use Rattle.sqlite.specs.Given.{IsPlain}
 use Rattle.desk_sql_layout.specs.Faults.{fault_by}
-use Rattle.desk_sql_lookup.specs.Streamed.{CanBeRead}
-use Rattle.desk_sql_lookup.proofs.Calls.{failed}
-use Rattle.desk_sql_lookup.proofs.Causes.{any_cause, err_cause, failed_cause, memory_err}
-use Rattle.desk_sql_lookup.proofs.Chains.{same_then_kept, same_then_same}
-use Rattle.desk_sql_lookup.proofs.Streaming.{begun_open, begun_read, begun_same, read_all, read_failed, read_on}
-use Rattle.desk_sql_lookup.proofs.query.read_rows.Goals as goal
+use Rattle.desk_sql_layout.specs.Streamed.{CanBeRead}
+use Rattle.desk_sql_layout.proofs.Calls.{failed}
+use Rattle.desk_sql_layout.proofs.Causes.{any_cause, err_cause, failed_cause, memory_err}
+use Rattle.desk_sql_layout.proofs.Chains.{same_then_kept, same_then_same}
+use Rattle.desk_sql_layout.proofs.Streaming.{begun_open, begun_read, begun_same, read_all, read_failed, read_on}
+use Rattle.desk_sql_layout.proofs.query.read_rows.Goals as goal
 
 pub returns-in-Err : goal.returns-in-Err
 returns-in-Err g c =

@@ -2,9 +2,9 @@ use Rattle.std.proofs.Common.{rules}
 use Rattle.sqlite.specs.Held.{state}
 use Rattle.sqlite.specs.State.{CommitsShowing}
 use Rattle.sqlite.specs.Values.{bound}
-use Rattle.desk_sql_lookup.proofs.Calls.{failed, answered}
-use Rattle.desk_sql_lookup.proofs.Causes.{failed_cause}
-use Rattle.desk_sql_lookup.proofs.query.query.Goals as goal
+use Rattle.desk_sql_layout.proofs.Calls.{failed, answered}
+use Rattle.desk_sql_layout.proofs.Causes.{failed_cause}
+use Rattle.desk_sql_layout.proofs.query.query.Goals as goal
 
 pub returns-in-Ok : goal.returns-in-Ok
 returns-in-Ok g c =

@@ -11,8 +11,8 @@ use Rattle.desk_model.specs.declared.command.Fault.{Fault}
 use Rattle.desk_access.specs.Seen.{Kept, Same}
 use Rattle.desk_sql_layout.specs.Held.{seen_of}
 use Rattle.desk_sql_layout.specs.Layout.{desk_schema}
-use Rattle.desk_sql_lookup.specs.Causes.{HasCauseIf, IsAsked}
-use Rattle.desk_sql_lookup.specs.Streamed.{CanBeRead, ShowsTold}
+use Rattle.desk_sql_layout.specs.Causes.{HasCauseIf, IsAsked}
+use Rattle.desk_sql_layout.specs.Streamed.{CanBeRead, ShowsTold}
 
 -- A query that changes nothing. `Shows` says what an answer shows of it, and `If` what has to be
 -- true of the tables for it to fail only for a cause.

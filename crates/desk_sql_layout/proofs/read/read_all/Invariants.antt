@@ -1,5 +1,5 @@
 use Rattle.std.proofs.Common.{◌≡◌, List, map, take}
-use Rattle.desk_sql_lookup.proofs.read.read_all.Given as goal
+use Rattle.desk_sql_layout.proofs.read.read_all.Given as goal
 
 -- what was read so far is the beginning of the list
 abbrev pub invariant-loop-row : goal.invariant-loop-row

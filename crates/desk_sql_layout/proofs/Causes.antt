@@ -29,7 +29,7 @@ use Rattle.desk_sql_layout.specs.Faults.{fault_by}
 use Rattle.desk_sql_layout.specs.Held.{seen_of}
 use Rattle.desk_sql_layout.specs.Layout.{desk_schema}
 use Rattle.desk_sql_layout.proofs.Queries.{query_on}
-use Rattle.desk_sql_lookup.specs.Causes.{AreWritten, HasCauseIf, HasCause, IsAsked, IsRow}
+use Rattle.desk_sql_layout.specs.Causes.{AreWritten, HasCauseIf, HasCause, IsAsked, IsRow}
 
 -- ---- why a query is refused
 

@@ -1,9 +1,9 @@
 use Rattle.std.proofs.Common.{◌≡◌, ◌∙◌, List, map, Some, ap, rules}
 use Rattle.std.specs.List.{AllByRecursion}
 use Rattle.desk_model.specs.declared.command.Fault.TheVariants.{Memory}
-use Rattle.desk_sql_lookup.specs.Causes.{IsRow}
-use Rattle.desk_sql_lookup.proofs.Loops.{first_value, got_place}
-use Rattle.desk_sql_lookup.proofs.read.read_first.Goals as goal
+use Rattle.desk_sql_layout.specs.Causes.{IsRow}
+use Rattle.desk_sql_layout.proofs.Loops.{first_value, got_place}
+use Rattle.desk_sql_layout.proofs.read.read_first.Goals as goal
 
 pub returns-in_err-read-in-Some-clause-cause : goal.returns-in_err-read-in-Some-clause-cause
 returns-in_err-read-in-Some-clause-cause g c =
