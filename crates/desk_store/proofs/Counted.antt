@@ -15,9 +15,10 @@ use Rattle.desk_store.specs.Adopting.{IsUncountable}
 use Rattle.desk_tally.specs.declared.tallies.Tallies.{Tallies}
 use Rattle.desk_model.specs.declared.command.Change.{Change}
 use Rattle.desk_model.specs.declared.command.Change.TheVariants as change
-use Rattle.desk_store.specs.Counting.{AreFound, known_by, counts_after, forms_after, forms_noted, nothing_kept, tallied}
+use Rattle.desk_store.specs.Counting.{known_by, counts_after, forms_after, forms_noted, tallied}
+use Rattle.desk_sql_cache.specs.Found.{AreFound, nothing_kept}
 use Rattle.desk_store.specs.declared.counts.Counts.{Counts}
-use Rattle.desk_store.specs.declared.found.Found.{Found}
+use Rattle.desk_sql_cache.specs.declared.found.Found.{Found}
 use Rattle.desk_model.specs.declared.command.Fault.{Fault}
 use Rattle.desk_access.specs.Follows.{Follows}
 use Rattle.desk_access.specs.Seen.{Seen, Outlasts, Kept, Same, Looked, OfRows, Made, Failed, Wrote}

@@ -1,8 +1,4 @@
-mod Distinct
-mod AdoptionLemmas
 mod RepeatedLemmas
-mod LastLemmas
-mod Holding
 mod Counted
 mod Bodies
 mod Audited
@@ -10,7 +6,6 @@ mod Vetted
 mod Migrated
 mod FoundRows
 mod Missed
-mod Looks
 mod Failing
 mod Recorded
 mod Adopting

@@ -17,8 +17,9 @@ use Rattle.desk_sql_layout.specs.Causes.{HasCauseIf}
 use Rattle.desk_sql_lookup.specs.LookUps.{LooksUp, LooksUpGiven, LooksUpIf}
 use Rattle.desk_tally.specs.declared.tallies.Tallies.{Tallies}
 use Rattle.desk_store.specs.Causes.{FindsGiven, MissesIf}
-use Rattle.desk_store.specs.Counting.{AreFound, tallied}
-use Rattle.desk_store.specs.declared.found.Found.{Found}
+use Rattle.desk_store.specs.Counting.{tallied}
+use Rattle.desk_sql_cache.specs.Found.{AreFound}
+use Rattle.desk_sql_cache.specs.declared.found.Found.{Found}
 use Rattle.desk_store.proofs.Counted.{looked, same}
 
 pub missed : (Given Is : Tables → Type 0) (had : Found) (n : Tallies) (k : Known) (a b : State)

@@ -1,7 +1,6 @@
 -- What the store keeps beside its tables: how many rows some of them have, the forms of the
--- catalogue in force, the tallies of the releases, the references of one document that are adopted,
--- the releases that hold a choice, and what was looked up last.
-use Rattle.std.specs.Prelude.{◌≡◌, ◌<◌, ◌^◌, ℕ, ◌+◌, Bool, true, false, List, length, None}
+-- catalogue in force, the tallies of the releases, and what was found of the rows.
+use Rattle.std.specs.Prelude.{◌≡◌, ◌<◌, ◌^◌, ℕ, ◌+◌, Bool, true, false, List, length}
 use Rattle.sqlite_trees.specs.Tree.{Trees}
 use Rattle.desk_model.specs.declared.command.Change.{Change}
 use Rattle.desk_model.specs.declared.command.Change.TheVariants as change
@@ -10,11 +9,9 @@ use Rattle.desk_access.specs.Seen.{Seen}
 use Rattle.desk_sql_layout.specs.Held.{Known, known_of}
 use Rattle.desk_tally.specs.Kept.{AreKept}
 use Rattle.desk_tally.specs.declared.tallies.Tallies.{Tallies}
+use Rattle.desk_sql_cache.specs.Found.{AreFound}
+use Rattle.desk_sql_cache.specs.declared.found.Found.{Found}
 use Rattle.desk_store.specs.declared.counts.Counts.{Counts}
-use Rattle.desk_store.specs.declared.found.Found.{Found}
-use Rattle.desk_store.specs.References.{AreAdopted}
-use Rattle.desk_store.specs.Holding.{AreHeld}
-use Rattle.desk_store.specs.Last.{AreLast, nothing_last}
 
 abbrev pub known_by : Counts → List (List ℕ) → Known
 known_by counts forms = record {
@@ -53,13 +50,6 @@ forms_after _ old = old
 abbrev pub forms_noted : Bool → Change → List (List ℕ) → List (List ℕ)
 forms_noted true change old = forms_after change old
 forms_noted false change old = old
-
--- what was found of the rows is true of these
-abbrev pub AreFound : Found → Tables → Type 0
-AreFound found t = AreAdopted found.adoptions t × AreHeld found.holders t × AreLast found.last t
-
-abbrev pub nothing_kept : Found
-nothing_kept = record { adoptions = None; holders = None; last = nothing_last }
 
 -- What contracts see of a store that knows this of its rows, has these tallies of them, and found
 -- this. It was looked up, so it is true of the rows as far as the disk is honest.

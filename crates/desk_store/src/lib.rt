@@ -3,10 +3,7 @@
 //! `SqlStore` is a store of rows over a connection: it looks them up by `desk_sql_lookup`, writes a
 //! change by `desk_sql_commit`, and keeps in its own value how many rows some tables have, the
 //! forms of the catalogue in force and the tallies of the releases (`specs/Counting.antt`). What
-//! look-ups ask for again is kept once it was found: the references of one document that are
-//! adopted (`specs/References.antt`), the releases that hold a choice (`specs/Holding.antt`), a
-//! document and a rule of the last look-ups (`Last`), and the conclusions of a document and the
-//! choices of a release that are asked for repeatedly (`specs/Repeated.antt`).
+//! look-ups ask for again is kept once it was found (`desk_sql_cache`).
 //!
 //! `SqlDesk` is the desk over such a store, with the reader of texts by their standards. `create`
 //! makes the tables of an empty desk in an empty database; `adopt_connection` takes a database that
@@ -19,17 +16,12 @@
 #![tactic(auto)]
 
 mod adopt;
-mod adoptions;
 mod audit;
 mod counts;
 mod desk;
 mod fault;
-mod found;
-mod holders;
-mod last;
 mod looking;
 mod migrate;
-mod repeated;
 mod store;
 
 pub use audit::audit_connection;

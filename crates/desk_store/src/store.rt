@@ -27,18 +27,15 @@ ghost use Rattle.desk_model.specs.Queries.{head_of, last_day, totals_of};
 ghost use Rattle.desk_history.specs.FromTables.{adoption_count, duty_found, ended_found, holder_found, known_document, known_import, release_found, rules_found, standings_found, steps_found};
 ghost use Rattle.desk_tally.specs.Kept.{AreKept, Fits, IsPlaceFor, LeadsTo};
 ghost use Rattle.desk_snapshot.specs.Tables.{snapshot_of};
+ghost use Rattle.desk_sql_cache.specs.Found.{AreFound, nothing_kept};
+ghost use Rattle.desk_sql_cache.specs.Holding.{have_releases};
 ghost use Rattle.desk_store.specs.Auditing.{IsAudit};
 ghost use Rattle.desk_store.specs.Causes.{CommitFailsFor, Finds, FindsIf, MissesIf};
-ghost use Rattle.desk_store.specs.Counting.{AreFound, forms_after, forms_noted, known_by, nothing_kept, tallied};
-ghost use Rattle.desk_store.specs.Holding.{have_releases};
+ghost use Rattle.desk_store.specs.Counting.{forms_after, forms_noted, known_by, tallied};
 ghost use Rattle.desk_texts.specs.Right.{AreRight};
 
-use crate::adoptions::read_adoptions;
 use crate::audit::audit_connection;
 use crate::counts::{Counts, counts_after};
-use crate::found::{Found, found_after};
-use crate::holders::{read_holders, release_place};
-use crate::repeated::{Choices, Conclusions, expression_in, listed, terms_in};
 use desk_access::store::Store;
 use desk_base::{Day, Items, Text};
 use desk_memory_rows::ByPackage;
@@ -47,6 +44,10 @@ use desk_model::{
     ReleaseRow, Rule, Standing, StoreFault, Totals,
 };
 use desk_snapshot::{AuditReport, Snapshot};
+use desk_sql_cache::{
+    Choices, Conclusions, Found, expression_in, found_after, listed, read_adoptions, read_holders,
+    release_place, terms_in,
+};
 use desk_sql_commit::commit_counted;
 use desk_tally::{Step, Tallies};
 use sqlite::{Alter, Connection};

@@ -4,8 +4,8 @@ use Rattle.desk_history.specs.Laws.{Ascends}
 use Rattle.desk_model.specs.Keys.{release_below}
 use Rattle.desk_model.specs.Tables.{applied}
 use Rattle.desk_sql_lookup.proofs.LookUps.{fails_any, fails_too, looks_then, then_tells}
-use Rattle.desk_store.specs.Counting.{AreFound}
-use Rattle.desk_store.specs.declared.found.Found.{Found}
+use Rattle.desk_sql_cache.specs.Found.{AreFound}
+use Rattle.desk_sql_cache.specs.declared.found.Found.{Found}
 use Rattle.desk_tally.specs.Kept.{AreKept, LeadsTo}
 use Rattle.desk_store.proofs.store.SqlStore.prepare.Goals as goal
 

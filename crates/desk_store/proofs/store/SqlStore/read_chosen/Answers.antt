@@ -4,7 +4,7 @@ use Rattle.desk_model.specs.Keys.{is_choice_of, is_choice_in}
 use Rattle.desk_sql_layout.specs.Held.{seen_of}
 use Rattle.desk_sql_lookup.proofs.LookUps.{fails_too}
 use Rattle.desk_store.specs.Counting.{known_by}
-use Rattle.desk_store.specs.declared.found.Found.{Found}
+use Rattle.desk_sql_cache.specs.declared.found.Found.{Found}
 use Rattle.desk_store.proofs.Counted.{found}
 use Rattle.desk_store.proofs.Missed.{finds, lacks_first, lacks_then}
 use Rattle.desk_store.proofs.RepeatedLemmas.{terms_among}

@@ -4,7 +4,7 @@ use Rattle.desk_history.specs.FromTables.{adoption_count}
 use Rattle.desk_sql_layout.specs.Held.{seen_of}
 use Rattle.desk_sql_lookup.proofs.LookUps.{fails_too}
 use Rattle.desk_store.specs.Counting.{known_by}
-use Rattle.desk_store.specs.declared.found.Found.{Found}
+use Rattle.desk_sql_cache.specs.declared.found.Found.{Found}
 use Rattle.desk_store.proofs.Counted.{found, of_rows}
 use Rattle.desk_store.proofs.Missed.{finds}
 use Rattle.desk_store.proofs.store.SqlStoreStore.adoption_count.Goals as goal

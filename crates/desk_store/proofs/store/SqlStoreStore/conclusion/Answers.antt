@@ -3,10 +3,11 @@ use Rattle.sqlite.specs.Held.{state}
 use Rattle.desk_model.specs.Conclusions.{office_text}
 use Rattle.desk_model.specs.Tables.{Tables}
 use Rattle.desk_sql_layout.specs.Held.{seen_of}
-use Rattle.desk_store.specs.Counting.{AreFound, known_by, tallied}
-use Rattle.desk_store.specs.Repeated.{AreConclusions}
-use Rattle.desk_store.specs.declared.found.Found.{Found}
-use Rattle.desk_store.specs.declared.repeated.Conclusions.{Conclusions}
+use Rattle.desk_store.specs.Counting.{known_by, tallied}
+use Rattle.desk_sql_cache.specs.Found.{AreFound}
+use Rattle.desk_sql_cache.specs.Repeated.{AreConclusions}
+use Rattle.desk_sql_cache.specs.declared.found.Found.{Found}
+use Rattle.desk_sql_cache.specs.declared.repeated.Conclusions.{Conclusions}
 use Rattle.desk_store.proofs.Missed.{finds, finds_noted, noted_alone}
 use Rattle.desk_store.proofs.RepeatedLemmas.{office_among}
 use Rattle.desk_store.proofs.store.SqlStoreStore.conclusion.Goals as goal

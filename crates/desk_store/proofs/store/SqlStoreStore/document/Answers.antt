@@ -8,7 +8,7 @@ use Rattle.desk_model.specs.Keys.{is_document}
 use Rattle.desk_sql_layout.specs.Held.{seen_of}
 use Rattle.desk_sql_lookup.proofs.LookUps.{fails_too}
 use Rattle.desk_store.specs.Counting.{known_by, tallied}
-use Rattle.desk_store.specs.declared.found.Found.{Found}
+use Rattle.desk_sql_cache.specs.declared.found.Found.{Found}
 use Rattle.desk_store.proofs.Counted.{found}
 use Rattle.desk_store.proofs.Missed.{finds_if}
 use Rattle.desk_store.proofs.store.SqlStoreStore.document.Goals as goal

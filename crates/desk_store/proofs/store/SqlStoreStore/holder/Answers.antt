@@ -6,8 +6,8 @@ use Rattle.desk_history.specs.FromTables.{holder_found}
 use Rattle.desk_sql_layout.specs.Held.{seen_of}
 use Rattle.desk_sql_lookup.proofs.LookUps.{fails_too}
 use Rattle.desk_store.specs.Counting.{known_by, tallied}
-use Rattle.desk_store.specs.Holding.{have_releases}
-use Rattle.desk_store.specs.declared.found.Found.{Found}
+use Rattle.desk_sql_cache.specs.Holding.{have_releases}
+use Rattle.desk_sql_cache.specs.declared.found.Found.{Found}
 use Rattle.desk_store.proofs.Counted.{found, same}
 use Rattle.desk_store.proofs.Missed.{finds_so}
 use Rattle.desk_store.proofs.store.SqlStoreStore.holder.Goals as goal

@@ -6,7 +6,7 @@ use Rattle.desk_model.specs.History.{rule_for}
 use Rattle.desk_sql_layout.specs.Held.{seen_of}
 use Rattle.desk_sql_lookup.proofs.LookUps.{fails_too}
 use Rattle.desk_store.specs.Counting.{known_by, tallied}
-use Rattle.desk_store.specs.declared.found.Found.{Found}
+use Rattle.desk_sql_cache.specs.declared.found.Found.{Found}
 use Rattle.desk_store.proofs.Counted.{found, same}
 use Rattle.desk_store.proofs.Missed.{finds_so, lacks_first}
 use Rattle.desk_store.proofs.store.SqlStoreStore.rule.Goals as goal

@@ -1,0 +1,5 @@
+mod Distinct
+mod AdoptionLemmas
+mod LastLemmas
+mod Holding
+mod Looks

@@ -1,0 +1,36 @@
+-- What the last look-ups of a store found, which is true of its rows.
+use Rattle.std.specs.Prelude.{◌≡◌, ℕ, Option, Some, None, find}
+use Rattle.std.specs.Option.{option_map}
+use Rattle.desk_base.specs.declared.profile.Profile.{Profile}
+use Rattle.desk_model.specs.History.{rule_for}
+use Rattle.desk_model.specs.Keys.{is_document}
+use Rattle.desk_model.specs.Tables.{Tables}
+use Rattle.desk_model.specs.declared.reading.Rule.{Rule}
+use Rattle.desk_history.specs.FromTables.{known_document, rules_found}
+use Rattle.desk_sql_cache.specs.declared.last.Last.{Last}
+use Rattle.desk_sql_cache.specs.Repeated.{AreChoices, AreConclusions, no_choices, no_conclusions}
+
+-- a document, by its number and its profile
+abbrev pub IsDocument : Option (ℕ × Profile) → Tables → Type 0
+IsDocument None t = Unit {0}
+IsDocument (Some known) t = option_map known_document (find (is_document known.0) t.document)
+    ≡ Some known
+
+-- the rule in force for its term and its form
+abbrev pub IsRule : Option Rule → Tables → Type 0
+IsRule None t = Unit {0}
+IsRule (Some rule) t = rule_for (rules_found t) rule.term rule.form ≡ Some rule
+
+pub record AreLast (last : Last) (t : Tables) : Type 0 where
+  pub document : IsDocument last.document t
+  pub rule : IsRule last.rule t
+  pub conclusions : AreConclusions last.conclusions t
+  pub choices : AreChoices last.choices t
+
+abbrev pub nothing_last : Last
+nothing_last = record {
+  document = None;
+  rule = None;
+  conclusions = no_conclusions;
+  choices = no_choices;
+}

@@ -1,6 +1,0 @@
-use Rattle.desk_store.proofs.LastLemmas.{last_stays}
-use Rattle.desk_store.proofs.last.Last.after_change.Goals as goal
-
-pub returns : goal.returns
-returns c = λ change t are. rw (c.nothing.ensures, c.nothing-2.ensures)
-    (last_stays change t c.args.self.document are.document)
