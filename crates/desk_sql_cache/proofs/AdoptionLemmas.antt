@@ -28,13 +28,13 @@ use Rattle.desk_sql_layout.specs.Cells.{number, adoption_cells}
 use Rattle.desk_sql_layout.specs.Held.{Holds, rows_of, seen_of}
 use Rattle.desk_sql_layout.specs.Layout.{adoption_table}
 use Rattle.desk_sql_layout.specs.Stored.{cells}
-use Rattle.desk_sql_lookup.proofs.Keyed.{same_number, same_text}
-use Rattle.desk_sql_lookup.proofs.Selects.{by_unique, mine}
+use Rattle.desk_sql_layout.proofs.Keyed.{same_number, same_text}
+use Rattle.desk_sql_layout.proofs.Selects.{by_unique, mine}
 use Rattle.desk_sql_write.proofs.Lists.{none_out}
 use Rattle.desk_sql_cache.specs.References.{AreAdopted}
 use Rattle.desk_sql_cache.specs.declared.adoptions.Adoptions.{Adoptions}
 use Rattle.desk_sql_cache.proofs.Distinct.{distinct_from, distinct_unmapped, tie, tie_flips, tied_alike}
-use Rattle.desk_sql_lookup.proofs.Ties.{is_key}
+use Rattle.desk_sql_layout.proofs.Ties.{is_key}
 
 -- ---- no two adoptions have the same key
 

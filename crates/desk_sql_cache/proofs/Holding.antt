@@ -54,8 +54,8 @@ use Rattle.desk_sql_layout.specs.Cells.{release_cells}
 use Rattle.desk_sql_layout.specs.Held.{Holds, rows_of, seen_of}
 use Rattle.desk_sql_layout.specs.Layout.{releases_table}
 use Rattle.desk_sql_layout.specs.Stored.{cells}
-use Rattle.desk_sql_lookup.proofs.Selects.{by_unique, mine}
-use Rattle.desk_sql_lookup.proofs.Ties.{is_key}
+use Rattle.desk_sql_layout.proofs.Selects.{by_unique, mine}
+use Rattle.desk_sql_layout.proofs.Ties.{is_key}
 use Rattle.desk_sql_cache.specs.Holding.{AreHoldersOf, IsPlace, have_releases}
 use Rattle.desk_sql_cache.proofs.Distinct.{distinct_from, distinct_unmapped, tie, tie_flips, tied_alike}
 

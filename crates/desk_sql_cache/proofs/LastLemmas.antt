@@ -14,7 +14,7 @@ use Rattle.desk_model.specs.declared.command.Change.TheVariants as change
 use Rattle.desk_model.specs.declared.reading.Rule.{Rule}
 use Rattle.desk_model.specs.declared.row.DocumentRow.{DocumentRow}
 use Rattle.desk_history.specs.FromTables.{known_document}
-use Rattle.desk_sql_lookup.proofs.Keyed.{same_text}
+use Rattle.desk_sql_layout.proofs.Keyed.{same_number, same_text}
 use Rattle.desk_sql_cache.specs.Last.{AreLast, IsDocument}
 use Rattle.desk_sql_cache.specs.Repeated.{no_choices, no_conclusions}
 
@@ -66,6 +66,27 @@ found_passes test (y ∷ ys) x e = either (found_passes test ys x) (test y) refl
         → cond b (Some y) (find test ys) ≡ Some x → test x ≡ true
     either rest true f g = let same : y ≡ x = cc in subst (λ z. test z ≡ true) same f
     either rest false f g = rest g
+
+number_is : (rows : List DocumentRow) (number : ℕ) (known : ℕ × Profile)
+    → option_map known_document (find (is_document number) rows) ≡ Some known → known.0 ≡ number
+number_is rows number known is = by_row (find (is_document number) rows) refl is
+  where
+    by_row : (found : Option DocumentRow) → find (is_document number) rows ≡ found
+        → option_map known_document found ≡ Some known → known.0 ≡ number
+    by_row None e is = absurd (cc)
+    by_row (Some row) e is =
+        let own : row.number ≡ number = same_number row.number number
+        (found_passes (is_document number) rows row e) in
+        let same : known_document row ≡ known = cc in subst (λ k. k.0 ≡ number) same own
+
+-- what was found by a number is found by its own
+pub document_is_own : (t : Tables) (number : ℕ) (found : Option (ℕ × Profile))
+    → found ≡ option_map known_document (find (is_document number) t.document)
+    → IsDocument found t
+document_is_own t number None is = tt
+document_is_own t number (Some known) is =
+    subst (λ n. option_map known_document (find (is_document n) t.document) ≡ Some known)
+    (sym (number_is t.document number known (sym is))) (sym is)
 
 -- a rule that was found is the rule for its own term and form
 pub rule_is_own : (rules : List Rule) (term form : List ℕ) (rule : Rule)

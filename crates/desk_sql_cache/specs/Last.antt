@@ -1,9 +1,9 @@
 -- What the last look-ups of a store found, which is true of its rows.
-use Rattle.std.specs.Prelude.{◌≡◌, ℕ, Option, Some, None, find}
-use Rattle.std.specs.Option.{option_map}
+use Rattle.std.specs.Prelude.{◌≡◌, ◌==◌, ℕ, List, Option, Some, None, find, if◌then◌else◌}
+use Rattle.std.specs.Option.{option_map, option_or}
 use Rattle.desk_base.specs.declared.profile.Profile.{Profile}
 use Rattle.desk_model.specs.History.{rule_for}
-use Rattle.desk_model.specs.Keys.{is_document}
+use Rattle.desk_model.specs.Keys.{is_document, is_rule}
 use Rattle.desk_model.specs.Tables.{Tables}
 use Rattle.desk_model.specs.declared.reading.Rule.{Rule}
 use Rattle.desk_history.specs.FromTables.{known_document, rules_found}
@@ -34,3 +34,26 @@ nothing_last = record {
   conclusions = no_conclusions;
   choices = no_choices;
 }
+
+-- what is still kept after a change: documents are only added
+abbrev pub last_after : Last → Last
+last_after last = record {
+  document = last.document;
+  rule = None;
+  conclusions = no_conclusions;
+  choices = no_choices;
+}
+
+-- the document that is kept, if it has this number
+abbrev pub document_kept : Option (ℕ × Profile) → ℕ → Option (ℕ × Profile)
+document_kept None number = None
+document_kept (Some known) number = if known.0 == number then Some known else None
+
+-- the rule that is kept, if it is for this term and this form
+abbrev pub rule_kept : Option Rule → List ℕ → List ℕ → Option Rule
+rule_kept None term form = None
+rule_kept (Some rule) term form = if is_rule term form rule then Some rule else None
+
+-- the rule of a look-up is kept if there is one
+abbrev pub rule_noted : Option Rule → Last → Last
+rule_noted found last = record last { rule = option_or found last.rule }

@@ -1,8 +1,9 @@
 -- The rows of one document and of one release that a store has read all at once.
-use Rattle.std.specs.Prelude.{◌≡◌, filter, IfSome, None}
+use Rattle.std.specs.Prelude.{◌≡◌, ◌==◌, ◌+◌, ℕ, Bool, false, List, Option, Some, None, filter, min, IfSome, if◌then◌else◌}
+use Rattle.std.specs.Str.{bytes_eq}
 use Rattle.desk_model.specs.Keys.{is_choice_in}
 use Rattle.desk_model.specs.Tables.{Tables}
-use Rattle.desk_sql_lookup.specs.Shown.{is_conclusion_in}
+use Rattle.desk_sql_layout.specs.Shown.{is_conclusion_in}
 use Rattle.desk_sql_cache.specs.declared.repeated.Choices.{Choices}
 use Rattle.desk_sql_cache.specs.declared.repeated.Conclusions.{Conclusions}
 
@@ -22,3 +23,24 @@ no_conclusions = record { document = 0; asked = 0; rows = None }
 
 abbrev pub no_choices : Choices
 no_choices = record { release = None; asked = 0; rows = None }
+
+-- one more request in a row, as far as 32 bits count them
+abbrev pub once_more : ℕ → ℕ
+once_more asked = min (asked + 1) 4294967295
+
+-- after one more request for a document
+abbrev pub conclusions_asked : ℕ → Conclusions → Conclusions
+conclusions_asked document kept = if kept.document == document
+    then record kept { asked = once_more kept.asked }
+    else record { document = document; asked = 1; rows = None }
+
+-- they are of the release with this name
+abbrev pub is_named : Option (List ℕ) → List ℕ → Bool
+is_named None name = false
+is_named (Some known) name = bytes_eq known name
+
+-- after one more request for a release
+abbrev pub choices_asked : List ℕ → Choices → Choices
+choices_asked release kept = if is_named kept.release release
+    then record kept { asked = once_more kept.asked }
+    else record { release = Some release; asked = 1; rows = None }

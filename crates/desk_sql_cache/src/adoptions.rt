@@ -9,7 +9,7 @@ ghost use Rattle.desk_model.specs.Conclusions.{licence_for};
 ghost use Rattle.desk_model.specs.Tables.{Tables, applied};
 ghost use Rattle.desk_model.specs.declared.command.Change.TheVariants.{Adopted};
 ghost use Rattle.desk_sql_lookup.specs.LookUps.{LooksUp};
-ghost use Rattle.desk_sql_cache.specs.References.{AreAdopted};
+ghost use Rattle.desk_sql_cache.specs.References.{AreAdopted, lacks};
 
 use desk_base::Text;
 use desk_model::{AdoptionRow, Change, Fault};
@@ -56,7 +56,8 @@ impl Adoptions {
 
     /// Whether it is known that a reference isn't adopted.
     pub fn lacks(&self, document: u32, reference: &str) -> bool
-        ensures { result ≡ true → (t : Tables) → AreAdopted (Some self.now) t
+        ensures is { result ≡ lacks self.now document reference.now }
+        ensures none { result ≡ true → (t : Tables) → AreAdopted (Some self.now) t
             → licence_for t.adoption document reference.now ≡ None }
     {
         if self.document != document {
@@ -123,8 +124,9 @@ pub(crate) fn change_adoptions<S: Alter>(
     kept: &mut Adoptions,
     change: &Change,
 ) -> Result<(), Fault>
-    ensures { LooksUp S.Store conn.old conn.new result (λ done t. AreAdopted (Some kept.old) t
-        → AreAdopted (Some kept.new) (applied change.now t)) }
+    ensures looks { LooksUp S.Store conn.old conn.new result (λ done t.
+        AreAdopted (Some kept.old) t → AreAdopted (Some kept.new) (applied change.now t)) }
+    ensures document { kept.new.document ≡ kept.old.document }
 {
     let Change::Adopted(row) = change else {
         return Ok(());

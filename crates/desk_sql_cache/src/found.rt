@@ -1,6 +1,7 @@
 //! What a store found of its rows, and keeps beside them.
 
-ghost use Rattle.std.specs.Prelude.{◌≡◌, true};
+ghost use Rattle.std.specs.Prelude.{◌≡◌, true, is_some, IfOk};
+ghost use Rattle.std.specs.Option.{option_map};
 ghost use Rattle.desk_access.specs.Follows.{Follows};
 ghost use Rattle.desk_history.specs.Laws.{Ascends};
 ghost use Rattle.desk_model.specs.Keys.{release_below};
@@ -8,7 +9,7 @@ ghost use Rattle.desk_model.specs.Tables.{Tables, applied};
 ghost use Rattle.desk_sql_lookup.specs.LookUps.{LooksUp};
 ghost use Rattle.desk_sql_write.specs.Replacing.{ReplacesNone};
 ghost use Rattle.desk_sql_cache.specs.References.{AreAdopted};
-ghost use Rattle.desk_sql_cache.specs.Found.{AreFound, nothing_kept};
+ghost use Rattle.desk_sql_cache.specs.Found.{AreFound, StaysKept, adopts_first, nothing_kept};
 ghost use Rattle.desk_sql_cache.specs.Holding.{AreHeld};
 
 use crate::adoptions::{Adoptions, change_adoptions};
@@ -53,7 +54,9 @@ impl Found {
 
     /// Whether a change is known to replace no row: it adopts a reference that isn't adopted.
     pub fn replaces_none(&self, change: &Change) -> bool
-        ensures { result ≡ true → (t : Tables) → AreFound self.now t → ReplacesNone change.now t }
+        ensures is { result ≡ adopts_first change.now self.now }
+        ensures none { result ≡ true → (t : Tables) → AreFound self.now t
+            → ReplacesNone change.now t }
     {
         let Change::Adopted(row) = change else {
             return false;
@@ -72,8 +75,10 @@ fn adoptions_after<S: Alter>(
     change: &Change,
     adoptions: Option<Adoptions>,
 ) -> Result<Option<Adoptions>, Fault>
-    ensures { LooksUp S.Store conn.old conn.new result (λ after t. AreAdopted adoptions t
+    ensures looks { LooksUp S.Store conn.old conn.new result (λ after t. AreAdopted adoptions t
         → AreAdopted after (applied change.now t)) }
+    ensures document { IfOk result (λ after. option_map (λ kept. kept.document) after
+        ≡ option_map (λ kept. kept.document) adoptions) }
 {
     let Some(mut kept) = adoptions else {
         return Ok(None);
@@ -89,9 +94,10 @@ fn holders_after<S: Alter>(
     change: &Change,
     holders: Option<Holders>,
 ) -> Result<Option<Holders>, Fault>
-    ensures { LooksUp S.Store conn.old conn.new result (λ after t.
+    ensures looks { LooksUp S.Store conn.old conn.new result (λ after t.
         Ascends release_below (applied change.now t).releases → Follows change.now t
         → AreHeld holders t → AreHeld after (applied change.now t)) }
+    ensures kept { IfOk result (λ after. is_some after ≡ is_some holders) }
 {
     let Some(mut held) = holders else {
         return Ok(None);
@@ -107,9 +113,10 @@ pub fn found_after<S: Alter>(
     change: &Change,
     found: Found,
 ) -> Result<Found, Fault>
-    ensures { LooksUp S.Store conn.old conn.new result (λ after t.
+    ensures looks { LooksUp S.Store conn.old conn.new result (λ after t.
         Ascends release_below (applied change.now t).releases → Follows change.now t
         → AreFound found t → AreFound after (applied change.now t)) }
+    ensures kept { IfOk result (StaysKept found) }
 {
     let Found {
         adoptions,

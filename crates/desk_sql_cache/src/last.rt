@@ -8,7 +8,7 @@ ghost use Rattle.desk_model.specs.Keys.{is_document};
 ghost use Rattle.desk_model.specs.Tables.{Tables, applied};
 ghost use Rattle.desk_model.specs.declared.command.Change.{Change};
 ghost use Rattle.desk_history.specs.FromTables.{known_document, rules_found};
-ghost use Rattle.desk_sql_cache.specs.Last.{AreLast, IsDocument, IsRule, nothing_last};
+ghost use Rattle.desk_sql_cache.specs.Last.{AreLast, IsDocument, IsRule, document_kept, last_after, nothing_last, rule_kept, rule_noted};
 
 use crate::repeated::{Choices, Conclusions};
 use desk_base::{Items, Text};
@@ -19,8 +19,8 @@ use std::alloc::{AllocError, Global};
 /// between.
 #[derive(Drop)]
 pub struct Last {
-    pub(crate) document: Option<(u32, Profile)>,
-    pub(crate) rule: Option<Rule>,
+    document: Option<(u32, Profile)>,
+    rule: Option<Rule>,
     pub conclusions: Conclusions,
     pub choices: Choices,
 }
@@ -73,7 +73,8 @@ impl Last {
 
     /// What is still true after a change: documents are only added.
     pub(crate) fn after_change(self) -> Last
-        ensures { (change : Change) (t : Tables) → AreLast self t
+        ensures is { result ≡ last_after self }
+        ensures are { (change : Change) (t : Tables) → AreLast self t
             → AreLast result (applied change t) }
     {
         Last {
@@ -86,6 +87,7 @@ impl Last {
 
     /// The document with this number, if it is known.
     pub fn document_at(&self, number: u64) -> Option<(u32, Profile)>
+        ensures is { result ≡ document_kept self.now.document number }
         ensures found { IfSome result (λ known. (t : Tables) → IsDocument self.now.document t
             → Some known ≡ option_map known_document (find (is_document number) t.document)) }
         ensures same { IfSome result (λ known. known.0 ≡ number) }
@@ -98,8 +100,8 @@ impl Last {
 
     /// Keeps a document that was looked up, if it was found.
     pub fn keep_document(&mut self, number: u64, found: Option<(u32, Profile)>)
-        requires { IfSome found (λ known. known.0 ≡ number) }
-        ensures { (t : Tables)
+        ensures kept { self.new ≡ record self.old { document = found } }
+        ensures are { (t : Tables)
             → found ≡ option_map known_document (find (is_document number) t.document)
             → AreLast self.old t → AreLast self.new t }
     {
@@ -113,7 +115,9 @@ impl Last {
         term: &str,
         form: &str,
     ) -> Result<Option<Rule>, AllocError>
-        ensures { IfOk result (λ found. IfSome found (λ rule. (t : Tables)
+        ensures is { IfOk result (λ found.
+            found ≡ rule_kept self.now.rule term.now form.now) }
+        ensures found { IfOk result (λ found. IfSome found (λ rule. (t : Tables)
             → IsRule self.now.rule t
             → Some rule ≡ rule_for (rules_found t) term.now form.now)) }
     {
@@ -127,6 +131,7 @@ impl Last {
 
     /// Keeps a rule that was looked up, if it was found.
     pub fn keep_rule(&mut self, alloc: Global, found: &Option<Rule>) -> Result<(), AllocError>
+        ensures kept { OnOk result (self.new ≡ rule_noted found.now self.old) }
         ensures ok { OnOk result ((t : Tables) (term form : List ℕ)
             → found.now ≡ rule_for (rules_found t) term form
             → AreLast self.old t → AreLast self.new t) }

@@ -5,8 +5,8 @@ ghost use Rattle.std.specs.Prelude.{◌≡◌, ◌↔◌, ◌&&◌, ℕ, true, n
 ghost use Rattle.desk_model.specs.Conclusions.{office_text};
 ghost use Rattle.desk_model.specs.Keys.{is_choice_in, is_choice_of};
 ghost use Rattle.desk_model.specs.Tables.{Tables};
-ghost use Rattle.desk_sql_lookup.specs.Shown.{is_conclusion_in};
-ghost use Rattle.desk_sql_cache.specs.Repeated.{AreChoices, AreConclusions, no_choices, no_conclusions};
+ghost use Rattle.desk_sql_layout.specs.Shown.{is_conclusion_in};
+ghost use Rattle.desk_sql_cache.specs.Repeated.{AreChoices, AreConclusions, choices_asked, conclusions_asked, is_named, no_choices, no_conclusions};
 
 use desk_base::Text;
 use desk_memory_rows::{ByConcluded, ByPackage};
@@ -32,9 +32,9 @@ pub fn listed<R: Keyed + Drop>(alloc: Global, rows: Vec<R>) -> Result<Appended<R
 /// they were read.
 #[derive(Drop)]
 pub struct Conclusions {
-    pub(crate) document: u32,
+    document: u32,
     asked: u32,
-    pub(crate) rows: Option<Appended<ConclusionRow>>,
+    rows: Option<Appended<ConclusionRow>>,
 }
 
 impl Conclusions {
@@ -54,6 +54,7 @@ impl Conclusions {
             → rows.rows.items ≡ filter (is_conclusion_in document) t.conclusion
             → AreConclusions result t }
         ensures rows { (result.document ≡ document) × (result.rows ≡ Option.Some rows) }
+        ensures asked { result.asked ≡ 0 }
     {
         Conclusions {
             document,
@@ -65,6 +66,7 @@ impl Conclusions {
     /// Counts one more request for a document, and returns whether all its conclusions are to be
     /// read now.
     pub fn ask(&mut self, document: u32) -> bool
+        ensures is { self.new ≡ conclusions_asked document self.old }
         ensures are { (t : Tables) → AreConclusions self.old t → AreConclusions self.new t }
         ensures document { self.new.document ≡ document }
         ensures due { result ≡ (nat_lt 16 self.new.asked && not (is_some self.new.rows)) }
@@ -110,13 +112,14 @@ pub fn expression_in(
 /// were read.
 #[derive(Drop)]
 pub struct Choices {
-    pub(crate) release: Option<Text>,
+    release: Option<Text>,
     asked: u32,
-    pub(crate) rows: Option<Appended<ChoiceRow>>,
+    rows: Option<Appended<ChoiceRow>>,
 }
 
 fn is_named(known: &Option<Text>, name: &str) -> bool
-    ensures { (result ≡ true) ↔ (known.now ≡ Option.Some name.now) }
+    ensures is { result ≡ is_named known.now name.now }
+    ensures named { (result ≡ true) ↔ (known.now ≡ Option.Some name.now) }
 {
     match known {
         Some(known) => known.as_str() == name,
@@ -141,6 +144,7 @@ impl Choices {
             → AreChoices result t }
         ensures rows { (result.release ≡ Option.Some release)
             × (result.rows ≡ Option.Some rows) }
+        ensures asked { result.asked ≡ 0 }
     {
         Choices {
             release: Some(release),
@@ -152,6 +156,7 @@ impl Choices {
     /// Counts one more request for a release, and returns whether all its choices are to be read
     /// now.
     pub fn ask(&mut self, alloc: Global, release: &str) -> Result<bool, AllocError>
+        ensures is { OnOk result (self.new ≡ choices_asked release.now self.old) }
         ensures are { (t : Tables) → AreChoices self.old t → AreChoices self.new t }
         ensures release { OnOk result (self.new.release ≡ Option.Some release.now) }
         ensures due { IfOk result (λ due. due

@@ -19,7 +19,7 @@ returns-then-lacks g c =
     ≡ adoption_count t row.document + (if is_new then 1 else 0))
     (λ t are. adopted_first t row
     (ap (licence_for t.adoption row.document) (sym c.as_str.ensures)
-    ∙ c.lacks.ensures c.if-lacks.true t are))
+    ∙ c.lacks.ensures.none c.if-lacks.true t are))
 
 pub returns : goal.returns
 returns g c =

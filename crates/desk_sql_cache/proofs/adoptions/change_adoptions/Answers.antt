@@ -8,15 +8,15 @@ use Rattle.desk_sql_cache.specs.References.{AreAdopted}
 use Rattle.desk_sql_cache.proofs.AdoptionLemmas.{kept_elsewhere, kept_here}
 use Rattle.desk_sql_cache.proofs.adoptions.change_adoptions.Goals as goal
 
-pub returns-then-row-kept : goal.returns-then-row-kept
-returns-then-row-kept g c =
+pub returns-then-row-kept-clause-looks : goal.returns-then-row-kept-clause-looks
+returns-then-row-kept-clause-looks g c =
     let kept = c.args.kept.now in
     looks_none g.S.Store c.args.conn.now (λ t. Unit {0}) tt
     (λ done t. AreAdopted (Some kept) t → AreAdopted (Some kept) (applied c.args.change.now t))
     (λ t are. rw (c.in-Adopted.is) (kept_elsewhere c.in-Adopted.row kept t c.if-row-kept.true are))
 
-pub returns : goal.returns
-returns g c =
+pub returns-clause-looks : goal.returns-clause-looks
+returns-clause-looks g c =
     let kept = c.args.kept.now in
     let row = c.in-Adopted.row in
     let it = c.in_ok-is_new.ensures in

@@ -9,8 +9,8 @@ use Rattle.desk_sql_cache.specs.Holding.{AreHeld, held_by}
 use Rattle.desk_sql_cache.proofs.Holding.{held_after}
 use Rattle.desk_sql_cache.proofs.found.holders_after.Goals as goal
 
-pub returns : goal.returns
-returns g c =
+pub returns-clause-looks : goal.returns-clause-looks
+returns-clause-looks g c =
     let change = c.args.change.now in
     then_tells g.S.Store c.args.conn.now c.change_holders.new.conn c.in_ok-change_holders.ensures
     (λ t. Unit {0}) (Ok (Some c.change_holders.new.holders))

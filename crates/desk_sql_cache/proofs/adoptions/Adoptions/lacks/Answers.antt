@@ -2,6 +2,6 @@ use Rattle.std.proofs.Common.{◌∙◌, sym}
 use Rattle.desk_sql_cache.proofs.AdoptionLemmas.{not_true}
 use Rattle.desk_sql_cache.proofs.adoptions.Adoptions.lacks.Goals as goal
 
-pub returns : goal.returns
-returns c = λ is t are. rw (← c.if-self-document.false)
+pub returns-clause-none : goal.returns-clause-none
+returns-clause-none c = λ is t are. rw (← c.if-self-document.false)
     (are.1 c.args.reference.now (sym c.contains.ensures ∙ not_true c.contains.result is))

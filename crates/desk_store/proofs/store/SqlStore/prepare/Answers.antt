@@ -14,14 +14,14 @@ returns-in_err-found-clause-looks g c =
     let self = c.args.self.now in
     fails_any g.S.Store self.conn c.found_after.new.conn c.from_residual.result
     c.in_err-found.field-0.0 c.from_residual.ensures.1 _
-    (λ t. AreKept self.tallies t × Follows c.args.change.now t) c.in_err-found.ensures
+    (λ t. AreKept self.tallies t × Follows c.args.change.now t) c.in_err-found.ensures.looks
 
 pub returns-in_err-step-clause-looks : goal.returns-in_err-step-clause-looks
 returns-in_err-step-clause-looks g c =
     let self = c.args.self.now in
     let fault = c.in_err-step.field-0.0 in
     let both = looks_then g.S.Store self.conn c.found_after.new.conn c.plan.new.self.conn
-    (λ t. AreKept self.tallies t × Follows c.args.change.now t) c.in_ok-found.ensures (Err fault)
+    (λ t. AreKept self.tallies t × Follows c.args.change.now t) c.in_ok-found.ensures.looks (Err fault)
     c.in_err-step.ensures.looks
     (λ step t. Unit {0}) (λ step t first second. tt) in
     fails_too g.S.Store self.conn c.plan.new.self.conn c.from_residual-in_err-step.result fault
@@ -36,7 +36,7 @@ returns-clause-looks g c =
     let step = c.in_ok-step.step in
     let tallies = c.plan.new.self.tallies in
     let both = looks_then g.S.Store self.conn c.found_after.new.conn c.plan.new.self.conn
-    (λ t. AreKept self.tallies t × Follows change t) c.in_ok-found.ensures (Ok step)
+    (λ t. AreKept self.tallies t × Follows change t) c.in_ok-found.ensures.looks (Ok step)
     c.in_ok-step.ensures.looks
     (λ step t. Ascends release_below (applied change t).releases
     → (AreKept self.tallies t → LeadsTo step tallies (applied change t))

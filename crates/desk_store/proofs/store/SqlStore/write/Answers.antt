@@ -35,7 +35,7 @@ returns-in_err-commit_counted-clause-failed g c =
     (seen_of (state g.S.Store c.prepare.new.self.conn))
     (seen_of (state g.S.Store c.commit_counted.new.conn)) (nothing_found has c.prepare.ensures.left)
     c.prepare.ensures.tallies c.in_ok-found.ensures.looks.kept c.replaces_none-is_new.result
-    (λ t found is. c.replaces_none-is_new.ensures is t found)
+    (λ t found is. c.replaces_none-is_new.ensures.none is t found)
     c.in_err-commit_counted.ensures.wrote))
 
 pub returns-clause-wrote : goal.returns-clause-wrote
@@ -49,7 +49,7 @@ returns-clause-wrote g c =
     self.tallies c.commit_counted.new.tallies (state g.S.Store self.conn)
     (state g.S.Store c.prepare.new.self.conn)
     (state g.S.Store c.commit_counted.new.conn) c.in-Some.ensures.after looks.kept
-    c.replaces_none-is_new.result (λ t found is. c.replaces_none-is_new.ensures is t found) made
+    c.replaces_none-is_new.result (λ t found is. c.replaces_none-is_new.ensures.none is t found) made
     (λ clean t held up kept. c.in_ok-commit_counted.ensures.counted (applied change t)
     ((looks.found (made.honest clean) t held up).0 kept))
     (λ clean t held up follows are. (looks.found (made.honest clean) t held up).1 follows are))
@@ -83,5 +83,5 @@ returns-in_err-commit_counted-clause-cause g c = λ writable small.
     (unwritten change self.found self.tallies self.counts self.forms g.S.Store self.conn
     c.prepare.new.self.conn c.commit_counted.new.conn c.in_ok-found.ensures.looks
     c.in_err-commit_counted.ensures.wrote.spared.honest c.replaces_none-is_new.result
-    (λ t found is. c.replaces_none-is_new.ensures is t found) fault
+    (λ t found is. c.replaces_none-is_new.ensures.none is t found) fault
     (c.in_err-commit_counted.ensures.cause writable small))

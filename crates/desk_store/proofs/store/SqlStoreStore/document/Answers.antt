@@ -49,7 +49,7 @@ returns-clause-looks g c =
           (λ honest t held same kept are. (
             are.0,
             are.1,
-            c.keep_document.ensures t (it.found honest t held (ap (λ k. k.documents) same)) are.2,
+            c.keep_document.ensures.are t (it.found honest t held (ap (λ k. k.documents) same)) are.2,
           ));
       cause = tt;
     }

@@ -23,7 +23,7 @@ pub returns-in-Some : goal.returns-in-Some
 returns-in-Some g c =
     let self = c.args.self.now in
     record {
-      found = λ clean t holds. (rw c.in-Some.is at c.in_ok-known.ensures) t (holds.3 clean).2.rule;
+      found = λ clean t holds. (rw c.in-Some.is at c.in_ok-known.ensures.found) t (holds.3 clean).2.rule;
       kept = same_self (tallied self.found self.tallies (known_by self.counts self.forms)
           (seen_of (state g.S.Store self.conn)));
       cause = tt;
