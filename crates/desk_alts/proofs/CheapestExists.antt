@@ -8,8 +8,8 @@ use Rattle.std.proofs.str.Laws.{order}
 use Rattle.desk_expr.specs.declared.term.Term.{Term}
 use Rattle.desk_expr.specs.Tree.{Tree}
 use Rattle.desk_expr.specs.Meaning.{Holds, IsMinimal, IsSubset, Without}
-use Rattle.desk_expr.proofs.Minimal.{holds_more}
-use Rattle.desk_expr.proofs.SameTerms.{without_is_list}
+use Rattle.desk_alts.proofs.Minimal.{holds_more}
+use Rattle.desk_alts.proofs.SameTerms.{without_is_list}
 use Rattle.desk_alts.proofs.Decide.{Decided}
 use Rattle.desk_alts.specs.Costs.{HasCosts, set_cost, IsUpTo, IsCheapest, HasNoCosts, IsLeastOf}
 use Rattle.desk_alts.specs.Sets.{IsTermSet, set_order, AreAlternatives}

@@ -14,8 +14,8 @@ use Rattle.desk_expr.specs.declared.term.Term.{Term}
 use Rattle.desk_expr.specs.Tree.{Tree, Trees, one, all, any, no_more, more}
 use Rattle.desk_expr.specs.Meaning.{Holds, AllHold, SomeHolds, Without, IsMinimal}
 use Rattle.desk_expr.specs.Occurring.{leaves, leaves_of, term_order}
-use Rattle.desk_expr.proofs.Minimal.{holds_more, minimal_if_none_can_go}
-use Rattle.desk_expr.proofs.SameTerms.{same_term, contains_cases, contains_here, contains_there}
+use Rattle.desk_alts.proofs.Minimal.{holds_more, minimal_if_none_can_go}
+use Rattle.desk_alts.proofs.SameTerms.{same_term, contains_cases, contains_here, contains_there}
 use Rattle.desk_alts.specs.declared.masks.Mask.{Mask}
 use Rattle.desk_alts.specs.Masks.{IsSubset}
 use Rattle.std.proofs.lemmas.Map.Keys.{sorted_tail, Less-from_sorted}

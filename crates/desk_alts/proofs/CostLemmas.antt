@@ -20,7 +20,7 @@ use Rattle.desk_expr.specs.declared.term.Term.{Term}
 use Rattle.desk_expr.specs.Tree.{Tree}
 use Rattle.desk_expr.specs.Meaning.{Holds, IsMinimal, IsSubset}
 use Rattle.desk_expr.specs.Occurring.{term_order}
-use Rattle.desk_expr.proofs.SameTerms.{contains_cases, contains_here, contains_there}
+use Rattle.desk_alts.proofs.SameTerms.{contains_cases, contains_here, contains_there}
 use Rattle.desk_alts.specs.Sets.{IsTermSet, set_order}
 use Rattle.desk_alts.specs.SetLaws.{set_total}
 use Rattle.desk_alts.specs.Costs.{HasCosts, set_cost, IsUpTo, IsCheapest, HasNoCosts, IsLeastOf}

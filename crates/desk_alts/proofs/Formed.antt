@@ -1,12 +1,12 @@
 -- A term that a text spells is well formed: its words are ids or references, and its exception is
 -- an id.
-use Rattle.std.proofs.Common.{◌≡◌, ℕ, true, List, [], ◌∷◌, Option, Some, None, refl, sym, subst, inl, inr}
+use Rattle.std.proofs.Common.{◌≡◌, ℕ, true, List, [], ◌∷◌, Option, Some, refl, subst, inl, inr}
 use Rattle.desk_base.specs.Folded.{folded}
 use Rattle.desk_base.specs.declared.profile.Profile.{Profile}
 use Rattle.desk_expr.proofs.TermLemmas.{term_inv}
 use Rattle.desk_expr.proofs.WordLemmas.{excepted_is_term, folded_id, licence_is_term}
 use Rattle.desk_expr.proofs.WordLemmas.{or_later_is_term, reference_is_term, word_of}
-use Rattle.desk_expr.specs.Grammar.{Symbol, with_word, word, SpellsTerm}
+use Rattle.desk_expr.specs.Grammar.{with_word, word}
 use Rattle.desk_expr.specs.Spelling.{SpellsTermWithinBy, symbol, symbol_of, symbols}
 use Rattle.desk_expr.specs.Tokens.{AreTokensBy, Lexeme}
 use Rattle.desk_expr.specs.Words.{is_folded_id, is_term, IsWordOf, licence_term, or_later_term}

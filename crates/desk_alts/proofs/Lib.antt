@@ -1,3 +1,10 @@
+pub mod Parts
+pub mod SameTerms
+pub mod Minimal
+pub mod MarkLemmas
+mod ListedLemmas
+pub mod GoLemmas
+pub mod TableLemmas
 pub mod Bits
 pub mod Lanes
 pub mod Antichains

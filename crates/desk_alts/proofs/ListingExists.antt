@@ -12,9 +12,9 @@ use Rattle.desk_expr.specs.declared.term.Term.{Term}
 use Rattle.desk_expr.specs.Tree.{Tree}
 use Rattle.desk_expr.specs.Meaning.{Holds, IsMinimal}
 use Rattle.desk_expr.specs.Occurring.{leaves, term_order, AreTermsOf}
-use Rattle.desk_expr.proofs.Minimal.{not_minimal_if_can_go}
-use Rattle.desk_expr.proofs.SameTerms.{without_is_list}
-use Rattle.desk_expr.proofs.TableLemmas.{same_rank}
+use Rattle.desk_alts.proofs.Minimal.{not_minimal_if_can_go}
+use Rattle.desk_alts.proofs.SameTerms.{without_is_list}
+use Rattle.desk_alts.proofs.TableLemmas.{same_rank}
 use Rattle.desk_alts.proofs.Decide.{Decided}
 use Rattle.desk_alts.proofs.Verdicts.{verdict}
 use Rattle.desk_alts.specs.Sets.{IsTermSet, set_order, AreAlternatives}

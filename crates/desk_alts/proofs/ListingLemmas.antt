@@ -19,7 +19,7 @@ use Rattle.desk_expr.specs.declared.term.Term.{Term}
 use Rattle.desk_expr.specs.Tree.{Tree}
 use Rattle.desk_expr.specs.Meaning.{Holds, IsMinimal, IsSubset}
 use Rattle.desk_expr.specs.Occurring.{term_order, AreTermsOf}
-use Rattle.desk_expr.proofs.TableLemmas.{same_rank}
+use Rattle.desk_alts.proofs.TableLemmas.{same_rank}
 use Rattle.desk_alts.specs.declared.masks.Mask.{Mask}
 use Rattle.desk_alts.specs.Choices.{IsChoice, AreMinimal, IsTableFor}
 use Rattle.desk_alts.specs.Sets.{IsTermSet, set_order, HasMoreTerms}

@@ -13,7 +13,7 @@ use Rattle.desk_base.proofs.SortedOnce.{sorted_onto, not_below_own, not_both, he
 use Rattle.desk_expr.specs.contracts.term.TermOrd.TheImpl.Laws.{total-law}
 use Rattle.desk_expr.specs.declared.term.Term.{Term}
 use Rattle.desk_expr.specs.Occurring.{term_order}
-use Rattle.desk_expr.proofs.SameTerms.{contains_here, contains_there}
+use Rattle.desk_alts.proofs.SameTerms.{contains_here, contains_there}
 use Rattle.desk_alts.specs.Sets.{IsTermSet}
 
 pub not_below_itself : (t : Term) → term_order t t ≡ Less → ⊥

@@ -1,12 +1,12 @@
 -- The verdict of a choice of terms: whether it satisfies a tree, and whether one of its terms can
 -- go.
-use Rattle.std.proofs.Common.{◌≡◌, ◌⊎◌, inl, inr, ℕ, List, [], ◌∷◌, length, Option, Some, None, subst, refl, arith}
+use Rattle.std.proofs.Common.{◌≡◌, ◌⊎◌, inl, inr, ℕ, List, length, Option, Some, None, subst, refl}
 use Rattle.std.specs.Prelude.{slice_get, Contains}
 use Rattle.desk_expr.specs.declared.term.Term.{Term}
 use Rattle.desk_expr.specs.Tree.{Tree, Trees, one, all, any, no_more, more}
 use Rattle.desk_expr.specs.Meaning.{Holds, AllHold, SomeHolds, IsMinimal, Without, CanGo, IsFirst}
-use Rattle.desk_expr.proofs.SameTerms.{same_term, contains_cases, contains_here, contains_there}
-use Rattle.desk_expr.proofs.Minimal.{holds_more, minimal_if_none_can_go}
+use Rattle.desk_alts.proofs.SameTerms.{same_term}
+use Rattle.desk_alts.proofs.Minimal.{holds_more, minimal_if_none_can_go}
 use Rattle.desk_alts.proofs.Choosing.{is_listed}
 use Rattle.desk_alts.proofs.Decide.{Decided, decided_not, decided_both, first_below}
 

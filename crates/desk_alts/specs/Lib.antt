@@ -4,3 +4,6 @@ pub mod Sets
 pub mod SetLaws
 pub mod Faults
 pub mod Costs
+pub mod Marks
+pub mod Listed
+pub mod Rounds

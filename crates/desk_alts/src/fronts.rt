@@ -9,8 +9,9 @@ ghost use Rattle.desk_alts.specs.Faults.{IsWidthFaultOf};
 use crate::fault::AltFault;
 use crate::kept::Kept;
 use crate::masks::Mask;
+use crate::table::TermTable;
 use desk_base::limits;
-use desk_expr::{Expr, Shape, Term, TermTable};
+use desk_expr::{Expr, Shape, Term};
 use std::alloc::{AllocError, Global};
 
 fn place_of(table: &TermTable, term: &Term) -> usize

@@ -1,5 +1,7 @@
-//! The minimal sets of terms that satisfy a licence expression (SPDX 2.3, Annex D.4), and the
-//! cheapest of all sets that satisfy it.
+//! Which sets of terms satisfy a licence expression (SPDX 2.3, Annex D.4): whether a choice of
+//! terms does, the minimal sets, and the cheapest of all.
+//!
+//! `check_choice` says whether a set of terms satisfies the expression and each of them is needed.
 //!
 //! A contract sees a `TermSet` as the list of its terms in the order of terms, each once.
 //! `alternatives` lists each set that is minimal by `IsMinimal` of `desk_expr`, the definition that
@@ -23,12 +25,17 @@ mod fault;
 mod fronts;
 mod kept;
 pub mod laws;
+mod listed;
 mod listing;
 mod masks;
 mod sets;
+mod table;
+mod truth;
 
 pub use costs::{Choice, Cost, cheapest};
 pub use covering::covers;
 pub use fault::AltFault;
 pub use listing::alternatives;
 pub use sets::TermSet;
+pub use table::TermTable;
+pub use truth::{Verdict, check_choice, holds};

@@ -12,8 +12,9 @@ use crate::fault::AltFault;
 use crate::fronts::minimal_sets;
 use crate::kept::Kept;
 use crate::sets::TermSet;
+use crate::table::TermTable;
 use desk_base::limits;
-use desk_expr::{Expr, TermTable};
+use desk_expr::Expr;
 use std::alloc::{AllocError, Global};
 
 // The terms of each kept set.

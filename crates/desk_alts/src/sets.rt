@@ -10,7 +10,8 @@ ghost use Rattle.desk_alts.specs.SetLaws.{set_total};
 ghost use Rattle.desk_alts.specs.Choices.{IsChoice};
 
 use crate::masks::Mask;
-use desk_expr::{Term, TermTable};
+use crate::table::TermTable;
+use desk_expr::Term;
 use std::alloc::{AllocError, Global};
 use std::cmp::Ordering;
 use std::marker::Model;

@@ -1,15 +1,9 @@
-pub mod Parts
-pub mod SameTerms
-pub mod Minimal
 pub mod Cuts
 pub mod WordLemmas
 pub mod Runs
 pub mod Residual
 pub mod Steps
 pub mod SymbolLemmas
-pub mod MarkLemmas
-mod ListedLemmas
-pub mod GoLemmas
 pub mod Lexing
 pub mod Unambiguous
 pub mod Balance
@@ -19,4 +13,3 @@ pub mod TermLemmas
 pub mod Lexes
 pub mod WordKinds
 pub mod Prints
-pub mod TableLemmas

@@ -10,7 +10,6 @@ pub mod Grammar
 pub mod Spelling
 pub mod Faults
 pub mod Meaning
-pub mod Marks
 pub mod Rest
 pub mod Reading
 pub mod Counting
@@ -19,5 +18,3 @@ pub mod TermReading
 pub mod Halting
 pub mod Occurring
 pub mod Printing
-pub mod Listed
-pub mod Rounds

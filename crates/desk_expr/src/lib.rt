@@ -1,11 +1,10 @@
-//! Licence expressions (SPDX 2.3, Annex D): cut into tokens, read into a tree, and compared with a
-//! choice of terms.
+//! Licence expressions (SPDX 2.3, Annex D): cut into tokens, read into a tree, and printed.
 //!
 //! A contract sees an `Expr` as a `Tree`: one term, or All or Any of two or more parts. `Spells`
 //! (specs/Spelling.antt) says which text spells which tree, by dividing whole lists of tokens;
 //! `parse` reads once from the left, with its own stack, and returns the tree or the first place
-//! that doesn't fit. `check_choice` says whether a set of terms satisfies the tree and each of them
-//! is needed.
+//! that doesn't fit. `Holds` and `IsMinimal` (specs/Meaning.antt) say which sets of terms satisfy
+//! a tree, and `desk_alts` finds them.
 //!
 //! Operators are in capitals. `tokens_in`, `parse_in` and `parse_term_in` take a profile, which may
 //! allow small letters too.
@@ -15,16 +14,13 @@ mod counts;
 mod cut;
 mod expr;
 mod fault;
-mod listed;
 mod listing;
 mod printing;
 mod progress;
 mod reader;
-mod table;
 mod term;
 mod term_reader;
 mod token;
-mod truth;
 mod word;
 
 pub use cut::{TokenCuts, is_reference};
@@ -34,8 +30,6 @@ pub use fault::{ParseFault, told};
 pub use listing::terms;
 pub use printing::{print, print_term};
 pub use progress::{parse, parse_in};
-pub use table::TermTable;
 pub use term::Term;
 pub use term_reader::{parse_term, parse_term_in};
 pub use token::{Kind, Token, tokens, tokens_in};
-pub use truth::{Verdict, check_choice, holds};

@@ -8,8 +8,8 @@ use Rattle.desk_expr.specs.declared.term.Term.{Term}
 use Rattle.desk_expr.specs.Tree.{Tree}
 use Rattle.desk_expr.specs.Spelling.{SpellsTermWithin}
 use Rattle.desk_expr.specs.Meaning.{IsMinimal}
-use Rattle.desk_expr.proofs.Minimal.{holds_more}
-use Rattle.desk_expr.proofs.SameTerms.{contains_cases, contains_here, contains_there}
+use Rattle.desk_alts.proofs.Minimal.{holds_more}
+use Rattle.desk_alts.proofs.SameTerms.{contains_cases, contains_here, contains_there}
 use Rattle.desk_expr.proofs.TermLemmas.{spells_term_once}
 use Rattle.desk_model.specs.Texts.{text_below, put_new, sorted_set}
 use Rattle.desk_texts.specs.Terms.{AreTerms}

@@ -7,7 +7,7 @@ use Rattle.desk_expr.specs.Meaning.{Holds, CanGo, IsFirst, IsMinimal}
 use Rattle.desk_alts.proofs.Texts.{tree_of_text}
 use Rattle.desk_alts.proofs.Verdicts as choices
 use Rattle.desk_alts.proofs.Needed.{spelled_needs}
-use Rattle.desk_expr.proofs.Minimal.{holds_more}
+use Rattle.desk_alts.proofs.Minimal.{holds_more}
 use Rattle.desk_findings.proofs.EachDocument.{each_document}
 use Rattle.desk_model.specs.Readings.{Readings}
 use Rattle.desk_base.specs.declared.profile.Profile.{Profile}

@@ -11,7 +11,7 @@ use Rattle.desk_expr.specs.Spelling.{SpellsWithinBy}
 use Rattle.desk_expr.specs.Meaning.{Holds, CanGo, IsFirst}
 use Rattle.desk_expr.proofs.ParseLemmas.{spells_once}
 use Rattle.desk_expr.proofs.TermLemmas.{spells_term_once}
-use Rattle.desk_expr.proofs.Minimal.{holds_more, not_minimal_if_can_go}
+use Rattle.desk_alts.proofs.Minimal.{holds_more, not_minimal_if_can_go}
 use Rattle.desk_model.specs.declared.reading.Verdict.{Verdict}
 use Rattle.desk_model.specs.declared.reading.Verdict.TheVariants.{NotEnough, Superfluous, Minimal}
 use Rattle.desk_texts.specs.Expressions.{IsExpression, IsVerdict, Judges}

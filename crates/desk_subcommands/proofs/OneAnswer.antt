@@ -12,7 +12,7 @@ use Rattle.desk_expr.specs.Spelling.{SpellsWithinBy}
 use Rattle.desk_expr.specs.Meaning.{Holds, CanGo, IsFirst}
 use Rattle.desk_expr.proofs.ParseLemmas.{spells_once}
 use Rattle.desk_expr.proofs.TermLemmas.{spells_term_once}
-use Rattle.desk_expr.proofs.Minimal.{holds_more, not_minimal_if_can_go}
+use Rattle.desk_alts.proofs.Minimal.{holds_more, not_minimal_if_can_go}
 use Rattle.desk_subcommands.specs.Report.{IsBad, IsFirstBad, IsReport, IsVerdict, SpellTerms}
 use Rattle.desk_subcommands.specs.Report.{TellsOnce, status_of, text_of}
 use Rattle.desk_subcommands.specs.declared.report.Report.{Report}

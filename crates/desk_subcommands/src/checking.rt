@@ -8,7 +8,8 @@ ghost use Rattle.desk_subcommands.specs.Report.{IsReadTo, IsReport, IsVerdict, S
 
 use crate::failure::Failure;
 use crate::report::Report;
-use desk_expr::{Expr, ParseFault, Profile, Term, Verdict, check_choice, parse_in, parse_term};
+use desk_alts::{Verdict, check_choice};
+use desk_expr::{Expr, ParseFault, Profile, Term, parse_in, parse_term};
 use std::alloc::{AllocError, Global};
 use std::io::Write;
 

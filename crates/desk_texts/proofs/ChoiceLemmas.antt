@@ -16,7 +16,7 @@ use Rattle.desk_expr.specs.declared.term.Term.{Term}
 use Rattle.desk_expr.specs.Tree.{Tree}
 use Rattle.desk_expr.specs.Meaning.{Holds, Without, CanGo, IsFirst, IsMinimal}
 use Rattle.desk_expr.specs.Occurring.{leaves, AreTermsOf}
-use Rattle.desk_expr.proofs.Minimal.{minimal_if_none_can_go, not_minimal_if_can_go}
+use Rattle.desk_alts.proofs.Minimal.{minimal_if_none_can_go, not_minimal_if_can_go}
 use Rattle.desk_alts.proofs.Choosing.{holds_on_leaves}
 use Rattle.desk_texts.specs.declared.choice.Kept.{Kept}
 use Rattle.desk_texts.specs.Choices.{AreAlike, AreFirst, AreKept, IsSlot}

@@ -19,8 +19,8 @@ use Rattle.desk_expr.specs.Tree.{Tree}
 use Rattle.desk_expr.specs.Meaning.{Holds, IsSubset}
 use Rattle.desk_expr.specs.Occurring.{term_order, AreTermsOf}
 use Rattle.desk_expr.specs.Printing.{printed_term}
-use Rattle.desk_expr.proofs.SameTerms.{contains_cases, contains_here, contains_there, same_term}
-use Rattle.desk_expr.proofs.TableLemmas.{same_rank, ranks_with_itself}
+use Rattle.desk_alts.proofs.SameTerms.{contains_cases, contains_here, contains_there, same_term}
+use Rattle.desk_alts.proofs.TableLemmas.{same_rank, ranks_with_itself}
 use Rattle.desk_alts.specs.Sets.{IsTermSet}
 use Rattle.desk_alts.specs.Costs.{HasCosts, set_cost, IsCheapest, HasNoCosts}
 use Rattle.desk_alts.proofs.SetLemmas.{head_below, sorted_consed, sorted_none}

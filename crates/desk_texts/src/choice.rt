@@ -11,8 +11,9 @@ ghost use Rattle.desk_texts.specs.Choices.{AreFirst, AreKept, IsKeptOf, IsSlot};
 ghost use Rattle.desk_texts.specs.Expressions.{IsVerdict, JudgesTerms};
 
 use crate::term::read_term;
+use desk_alts::{TermTable, check_choice};
 use desk_base::TextList;
-use desk_expr::{Expr, Term, TermTable, check_choice};
+use desk_expr::{Expr, Term};
 use desk_model::Verdict;
 use std::alloc::{AllocError, Global};
 
@@ -86,9 +87,9 @@ fn judged(expr: &Expr, kept: &Kept) -> Verdict
         → IsVerdict expr.now chosen result }
 {
     match check_choice(expr, kept.terms.as_slice()) {
-        desk_expr::Verdict::NotEnough => Verdict::NotEnough,
-        desk_expr::Verdict::Superfluous(i) => Verdict::Superfluous(kept.places[i]),
-        desk_expr::Verdict::Minimal => Verdict::Minimal,
+        desk_alts::Verdict::NotEnough => Verdict::NotEnough,
+        desk_alts::Verdict::Superfluous(i) => Verdict::Superfluous(kept.places[i]),
+        desk_alts::Verdict::Minimal => Verdict::Minimal,
     }
 }
 

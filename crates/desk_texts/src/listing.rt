@@ -10,9 +10,9 @@ ghost use Rattle.desk_alts.specs.Faults.{IsFaultOf};
 ghost use Rattle.desk_model.specs.Listings.{IsCost};
 ghost use Rattle.desk_texts.specs.Listings.{AreTermTexts, IsListFault, IsListing, IsPriced, cost_at, cost_within};
 
-use desk_alts::{AltFault, Cost, TermSet};
+use desk_alts::{AltFault, Cost, TermSet, TermTable};
 use desk_base::{Items, Text, limits};
-use desk_expr::{Expr, Term, TermTable, print_term};
+use desk_expr::{Expr, Term, print_term};
 use desk_model::{Cheapest, ListFault};
 use std::alloc::{AllocError, Global};
 

@@ -1,5 +1,5 @@
 use Rattle.desk_expr.specs.Meaning.{CanGo}
-use Rattle.desk_expr.proofs.Minimal.{not_minimal_if_can_go}
+use Rattle.desk_alts.proofs.Minimal.{not_minimal_if_can_go}
 use Rattle.desk_alts.proofs.Decide.{same_first}
 use Rattle.desk_alts.proofs.Verdicts.{enough_if_can_go}
 use Rattle.desk_alts.proofs.laws.one_verdict.Goals as goal
