@@ -8,13 +8,15 @@ use Rattle.desk_expr.proofs.WordLemmas.{excepted_is_term, folded_id, licence_is_
 use Rattle.desk_expr.proofs.WordLemmas.{or_later_is_term, reference_is_term, word_of}
 use Rattle.desk_expr.specs.Grammar.{with_word, word}
 use Rattle.desk_expr.specs.Spelling.{SpellsTermWithinBy, symbol, symbol_of, symbols}
-use Rattle.desk_expr.specs.Tokens.{AreTokensBy, Lexeme}
-use Rattle.desk_expr.specs.Words.{is_folded_id, is_term, IsWordOf, licence_term, or_later_term}
-use Rattle.desk_expr.specs.Words.{reference_term, with_exception, without_last}
+use Rattle.desk_tokens.specs.Tokens.{AreTokensBy, Lexeme}
+use Rattle.desk_tokens.specs.Words.{IsWordOf}
+use Rattle.desk_expr.specs.Words.{is_folded_id, is_term, licence_term, or_later_term}
+use Rattle.desk_tokens.specs.Words.{without_last}
+use Rattle.desk_expr.specs.Words.{reference_term, with_exception}
 use Rattle.desk_expr.specs.declared.term.Term.{Term}
-use Rattle.desk_expr.specs.declared.token.Kind.{Kind}
-use Rattle.desk_expr.specs.declared.token.Kind.TheVariants.{Opening, Closing, And, Or, With}
-use Rattle.desk_expr.specs.declared.token.Kind.TheVariants.{Licence, LicenceOrLater, Reference, Bad}
+use Rattle.desk_tokens.specs.declared.token.Kind.{Kind}
+use Rattle.desk_tokens.specs.declared.token.Kind.TheVariants.{Opening, Closing, And, Or, With}
+use Rattle.desk_tokens.specs.declared.token.Kind.TheVariants.{Licence, LicenceOrLater, Reference, Bad}
 
 word_is_term : (k : Kind) (w : List ℕ) (t : Term) (o : Option (List ℕ)) → IsWordOf k w
     → symbol k w ≡ word t o → is_term t ≡ true

@@ -3,7 +3,7 @@ use Rattle.std.proofs.Common.{◌∙◌, inl, inr, List, length, take, sym, subs
 use Rattle.std.proofs.lemmas.List.{take_all}
 use Rattle.std.proofs.Math.Seq.{take-length}
 use Rattle.desk_base.specs.Limits as limit
-use Rattle.desk_expr.specs.Tokens.{Lexeme}
+use Rattle.desk_tokens.specs.Tokens.{Lexeme}
 use Rattle.desk_expr.specs.Spelling.{symbols, still_open, operand_words, KeepsLimits, AllFronts}
 use Rattle.desk_alts.proofs.Decide.{Decided, decided_le, decided_all}
 

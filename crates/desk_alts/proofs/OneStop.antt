@@ -6,14 +6,14 @@ use Rattle.desk_expr.specs.declared.fault.ParseFault.{ParseFault}
 use Rattle.desk_expr.specs.declared.fault.ParseFault.TheVariants.{Empty, BadToken, Unexpected}
 use Rattle.desk_expr.specs.declared.fault.ParseFault.TheVariants.{Unclosed, TooDeep, TooLong}
 use Rattle.desk_expr.specs.declared.fault.ParseFault.TheVariants.{TooManyTerms, Memory}
-use Rattle.desk_expr.specs.declared.token.Kind.TheVariants as kind
+use Rattle.desk_tokens.specs.declared.token.Kind.TheVariants as kind
 use Rattle.desk_expr.specs.Faults.{fault_number}
 use Rattle.desk_base.specs.declared.profile.Profile.{Profile}
-use Rattle.desk_expr.specs.Tokens.{Lexeme, AreTokensBy}
+use Rattle.desk_tokens.specs.Tokens.{Lexeme, AreTokensBy}
 use Rattle.desk_expr.specs.Grammar.{Symbol}
 use Rattle.desk_expr.specs.Spelling.{symbols, AllFronts, Begins, Stands, Reason, EndReason}
 use Rattle.desk_expr.specs.Spelling.{StopsAtToken, StopsAtEnd, IsStopBy}
-use Rattle.desk_expr.proofs.Lexing.{same_tokens}
+use Rattle.desk_tokens.proofs.Lexing.{same_tokens}
 use Rattle.desk_alts.proofs.Splits.{Cuts, two_cuts}
 
 -- ---- a token

@@ -20,7 +20,7 @@ use Rattle.desk_base.proofs.Bools.{and_left, and_right, both}
 use Rattle.desk_base.specs.Idstring.{is_idstring_byte, is_idstring}
 use Rattle.desk_base.specs.Folded.{folded}
 use Rattle.desk_expr.specs.declared.term.Term.{Term}
-use Rattle.desk_expr.specs.Words.{is_local_reference, is_reference_of_document, is_reference}
+use Rattle.desk_tokens.specs.Words.{is_local_reference, is_reference_of_document, is_reference}
 use Rattle.desk_expr.specs.Words.{is_folded_id, is_exception, is_term}
 use Rattle.desk_expr.specs.Occurring.{term_order}
 use Rattle.desk_expr.specs.Printing.{printed_term, printed_exception}

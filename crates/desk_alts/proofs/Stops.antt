@@ -9,14 +9,14 @@ use Rattle.desk_expr.specs.declared.fault.ParseFault.{ParseFault}
 use Rattle.desk_expr.specs.declared.fault.ParseFault.TheVariants.{Empty, BadToken, Unexpected}
 use Rattle.desk_expr.specs.declared.fault.ParseFault.TheVariants.{Unclosed, TooDeep, TooLong}
 use Rattle.desk_expr.specs.declared.fault.ParseFault.TheVariants.{TooManyTerms, Memory}
-use Rattle.desk_expr.specs.declared.token.Kind.{Kind}
-use Rattle.desk_expr.specs.declared.token.Kind.TheVariants as kind
+use Rattle.desk_tokens.specs.declared.token.Kind.{Kind}
+use Rattle.desk_tokens.specs.declared.token.Kind.TheVariants as kind
 use Rattle.desk_expr.specs.Faults.{fault_number}
-use Rattle.desk_expr.specs.Tokens.{Lexeme, AreTokensBy}
+use Rattle.desk_tokens.specs.Tokens.{Lexeme, AreTokensBy}
 use Rattle.desk_expr.specs.Grammar.{Symbol}
 use Rattle.desk_expr.specs.Spelling.{symbols, still_open, operand_words, closings, AllFronts}
 use Rattle.desk_expr.specs.Spelling.{Begins, Stands, Reason, IsStopBy}
-use Rattle.desk_expr.proofs.Lexing.{tokens_exist}
+use Rattle.desk_tokens.proofs.Lexing.{tokens_exist}
 use Rattle.desk_expr.proofs.ProgressLemmas.{fronts_push}
 use Rattle.desk_alts.proofs.Decide.{Decided, SomeOrNone, decided_le, first_below}
 

@@ -7,9 +7,9 @@ use Rattle.desk_base.specs.declared.profile.Profile.{Profile}
 use Rattle.desk_expr.specs.declared.fault.ParseFault.{ParseFault}
 use Rattle.desk_expr.specs.declared.fault.ParseFault.TheVariants.{TooLong}
 use Rattle.desk_expr.specs.declared.term.Term.{Term}
-use Rattle.desk_expr.specs.declared.token.Kind.TheVariants as kind
+use Rattle.desk_tokens.specs.declared.token.Kind.TheVariants as kind
 use Rattle.desk_expr.specs.Faults.{fault_number}
-use Rattle.desk_expr.specs.Tokens.{Lexeme}
+use Rattle.desk_tokens.specs.Tokens.{Lexeme}
 use Rattle.desk_expr.specs.Words.{with_exception}
 use Rattle.desk_expr.specs.Grammar.{Symbol, closing, with_word, word, bad, SpellsTerm, bare, excepted}
 use Rattle.desk_expr.specs.Spelling.{symbol, symbol_of, symbols, still_open, closings, Begins}

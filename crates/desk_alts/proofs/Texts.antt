@@ -2,10 +2,10 @@
 use Rattle.std.proofs.Common.{inl, inr, ℕ, ◌≤◌, List, length, subst}
 use Rattle.desk_base.specs.declared.profile.Profile.{Profile}
 use Rattle.desk_base.specs.Limits as limit
-use Rattle.desk_expr.specs.Tokens.{Lexeme, AreTokensBy}
+use Rattle.desk_tokens.specs.Tokens.{Lexeme, AreTokensBy}
 use Rattle.desk_expr.specs.Grammar.{SpellsTree}
 use Rattle.desk_expr.specs.Spelling.{symbols, KeepsLimits, AllFronts, SpellsWithinBy}
-use Rattle.desk_expr.proofs.Lexing.{tokens_exist, same_tokens}
+use Rattle.desk_tokens.proofs.Lexing.{tokens_exist, same_tokens}
 use Rattle.desk_alts.proofs.Decide.{Decided, SomeOrNone, decided_le}
 use Rattle.desk_alts.proofs.Trees.{tree_or_none}
 use Rattle.desk_alts.proofs.Limits.{fronts_keep_or_not}

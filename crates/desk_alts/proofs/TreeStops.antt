@@ -5,9 +5,9 @@ use Rattle.desk_base.specs.Limits as limit
 use Rattle.desk_base.specs.declared.profile.Profile.{Profile}
 use Rattle.desk_expr.specs.declared.fault.ParseFault.{ParseFault}
 use Rattle.desk_expr.specs.declared.fault.ParseFault.TheVariants.{TooLong}
-use Rattle.desk_expr.specs.declared.token.Kind.TheVariants as kind
+use Rattle.desk_tokens.specs.declared.token.Kind.TheVariants as kind
 use Rattle.desk_expr.specs.Faults.{fault_number}
-use Rattle.desk_expr.specs.Tokens.{Lexeme}
+use Rattle.desk_tokens.specs.Tokens.{Lexeme}
 use Rattle.desk_expr.specs.Tree.{Tree}
 use Rattle.desk_expr.specs.Grammar.{bad, SpellsTree}
 use Rattle.desk_expr.specs.Spelling.{symbol, symbol_of, symbols, Begins, IsStopBy, SpellsWithinBy}

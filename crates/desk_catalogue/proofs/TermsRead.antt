@@ -6,12 +6,13 @@ use Rattle.std.proofs.lemmas.Bool.{cases_Bool, leb-true, false≢true}
 use Rattle.desk_base.specs.declared.limits.TheConstants as limit
 use Rattle.desk_base.specs.declared.profile.Profile.TheVariants.{Capitals}
 use Rattle.desk_expr.specs.declared.term.Term.{Term}
-use Rattle.desk_expr.specs.Words.{with_exception, begins_like_reference}
-use Rattle.desk_expr.specs.Tokens.{Lexeme, AreTokens}
+use Rattle.desk_tokens.specs.Words.{begins_like_reference}
+use Rattle.desk_expr.specs.Words.{with_exception}
+use Rattle.desk_tokens.specs.Tokens.{Lexeme, AreTokens}
 use Rattle.desk_expr.specs.Grammar.{Symbol, with_word, word, SpellsTerm, bare, excepted}
 use Rattle.desk_expr.specs.Spelling.{symbols, SpellsTermWithin}
 use Rattle.desk_expr.specs.Printing.{printed_term}
-use Rattle.desk_expr.proofs.Lexing.{tokens_exist, same_tokens}
+use Rattle.desk_tokens.proofs.Lexing.{tokens_exist, same_tokens}
 use Rattle.desk_expr.proofs.TermLemmas.{spells_term_once}
 use Rattle.desk_catalogue.specs.Terms.{IsTermOf, ReadsTerms, if_licence, licence_of}
 use Rattle.desk_catalogue.specs.Reading.{catalogue_of}

@@ -3,7 +3,7 @@ use Rattle.std.specs.Prelude.{◌≡◌, ℕ, List, Option, Some, None, option_a
 use Rattle.desk_expr.specs.declared.term.Term.{Term}
 use Rattle.desk_expr.specs.Spelling.{SpellsTermWithin}
 use Rattle.desk_expr.specs.Printing.{printed_term}
-use Rattle.desk_expr.specs.Words.{begins_like_reference}
+use Rattle.desk_tokens.specs.Words.{begins_like_reference}
 
 -- the text spells the term that is printed like this, or none
 abbrev pub IsTermOf : List ℕ → Option (List ℕ) → Type 0

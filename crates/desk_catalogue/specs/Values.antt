@@ -5,7 +5,7 @@ use Rattle.std.specs.List.{list_all, list_any}
 use Rattle.std.specs.Str.{bytes_eq}
 use Rattle.toml.specs.Data.{Data, as_str, as_array, Items, no_items, item}
 use Rattle.desk_base.specs.Idstring.{is_idstring}
-use Rattle.desk_expr.specs.Words.{begins_like_reference}
+use Rattle.desk_tokens.specs.Words.{begins_like_reference}
 use Rattle.desk_base.specs.Limits as limit
 use Rattle.desk_base.specs.Bytes.{is_shown}
 

@@ -4,7 +4,7 @@ ghost use Rattle.std.specs.Prelude.{◌≡◌, ℕ, List, IfOk, false, option_ma
 ghost use Rattle.std.specs.Str.{bytes_eq};
 ghost use Rattle.toml.specs.Data.{get_member};
 ghost use Rattle.toml.specs.View.{view, table_view, items_view};
-ghost use Rattle.desk_expr.specs.Words.{begins_like_reference};
+ghost use Rattle.desk_tokens.specs.Words.{begins_like_reference};
 ghost use Rattle.desk_catalogue.specs.Values.{is_id, is_text_id, is_title, id_of, title_of, strings, texts_of};
 
 use desk_base::{are_shown, is_idstring_of_bytes, limits};

@@ -3,11 +3,11 @@ use Rattle.std.proofs.Common.{◌≡◌, ◌∙◌, inl, inr, ℕ, ◌+◌, ◌<
 use Rattle.std.proofs.Common.{subst, ap, refl, arith, true, length-append, append_assoc, add-zero}
 use Rattle.std.specs.Prelude.{IsTrue, All}
 use Rattle.desk_base.specs.declared.profile.Profile.TheVariants.{Capitals}
-use Rattle.desk_expr.specs.Words.{kind_by}
-use Rattle.desk_expr.specs.Tokens.{is_parenthesis, is_run_byte, NoRunBegins, IsPiece, Lexeme, AreTokens}
+use Rattle.desk_tokens.specs.Words.{kind_by}
+use Rattle.desk_tokens.specs.Tokens.{is_parenthesis, is_run_byte, NoRunBegins, IsPiece, Lexeme, AreTokens}
 use Rattle.desk_expr.specs.Grammar.{Symbol}
 use Rattle.desk_expr.specs.Spelling.{symbol, symbols}
-use Rattle.desk_expr.proofs.Lexing.{all_more}
+use Rattle.desk_tokens.proofs.Lexing.{all_more}
 use Rattle.desk_base.specs.Bytes.{is_blank}
 
 -- whatever follows, the tokens of the text are those of its front and those of what follows

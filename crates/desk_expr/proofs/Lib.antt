@@ -1,10 +1,8 @@
-pub mod Cuts
 pub mod WordLemmas
 pub mod Runs
 pub mod Residual
 pub mod Steps
 pub mod SymbolLemmas
-pub mod Lexing
 pub mod Unambiguous
 pub mod Balance
 pub mod ProgressLemmas

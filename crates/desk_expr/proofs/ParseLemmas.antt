@@ -6,22 +6,22 @@ use Rattle.std.specs.Prelude.{map, IfOk, IfErr, alloc_error}
 use Rattle.std.proofs.lemmas.List.{map-append, append-nil}
 use Rattle.desk_base.specs.declared.profile.Profile.{Profile}
 use Rattle.desk_base.specs.Limits as limit
-use Rattle.desk_expr.specs.declared.cut.TokenCuts.{TokenCuts}
+use Rattle.desk_tokens.specs.declared.cut.TokenCuts.{TokenCuts}
 use Rattle.desk_expr.specs.declared.fault.ParseFault.{ParseFault}
 use Rattle.desk_expr.specs.declared.fault.ParseFault.TheVariants.{Empty, BadToken, Unexpected}
 use Rattle.desk_expr.specs.declared.fault.ParseFault.TheVariants.{Unclosed, TooDeep, TooLong}
 use Rattle.desk_expr.specs.declared.fault.ParseFault.TheVariants.{TooManyTerms, Memory}
 use Rattle.desk_expr.specs.declared.progress.Progress.{Progress}
-use Rattle.desk_expr.specs.declared.token.Token.{Token}
+use Rattle.desk_tokens.specs.declared.token.Token.{Token}
 use Rattle.desk_expr.specs.Tree.{Tree}
-use Rattle.desk_expr.specs.Tokens.{Lexeme, lexeme, AreTokensBy}
-use Rattle.desk_expr.specs.Given.{TokenGiven}
+use Rattle.desk_tokens.specs.Tokens.{Lexeme, lexeme, AreTokensBy}
+use Rattle.desk_tokens.specs.Given.{TokenGiven}
 use Rattle.desk_expr.specs.Grammar.{Symbol, bad, SpellsTree}
 use Rattle.desk_expr.specs.Spelling.{symbol, symbol_of, symbols, AllFronts, KeepsLimits, Begins}
 use Rattle.desk_expr.specs.Spelling.{Stands, Reason, EndReason, StopsAtToken, StopsAtEnd, IsStopBy}
 use Rattle.desk_expr.specs.Spelling.{SpellsBy, SpellsWithinBy}
 use Rattle.desk_expr.specs.Progress.{StopsAfter, EndsAfter, HasRead, is_started}
-use Rattle.desk_expr.proofs.Lexing.{tokens_exist, same_tokens}
+use Rattle.desk_tokens.proofs.Lexing.{tokens_exist, same_tokens}
 use Rattle.desk_expr.proofs.Unambiguous.{one_tree}
 use Rattle.desk_expr.proofs.Balance.{no_bad, something}
 

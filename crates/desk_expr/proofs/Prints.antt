@@ -6,8 +6,9 @@ use Rattle.std.proofs.lemmas.List.{append-nil}
 use Rattle.desk_expr.specs.declared.printing.Place.TheVariants.{InAll, InAny}
 use Rattle.desk_expr.specs.declared.term.Term.{Term}
 use Rattle.desk_expr.specs.Tree.{Tree, Trees, one, all, any, no_more, more, parts_of}
-use Rattle.desk_expr.specs.Words.{is_folded_id, is_reference, is_exception, is_term, with_exception}
-use Rattle.desk_expr.specs.Tokens.{NoRunBegins as NoRun, Lexeme, AreTokens}
+use Rattle.desk_tokens.specs.Words.{is_reference}
+use Rattle.desk_expr.specs.Words.{is_folded_id, is_exception, is_term, with_exception}
+use Rattle.desk_tokens.specs.Tokens.{NoRunBegins as NoRun, Lexeme, AreTokens}
 use Rattle.desk_expr.specs.Grammar.{Symbol, opening, closing, and_word, or_word, with_word, word}
 use Rattle.desk_expr.specs.Grammar.{all_of, any_of, SpellsTerm, bare, excepted, Operand, a_term}
 use Rattle.desk_expr.specs.Grammar.{a_group, AndList, one_operand, and_more, OrList, one_list}

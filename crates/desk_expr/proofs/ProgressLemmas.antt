@@ -10,7 +10,7 @@ use Rattle.desk_expr.specs.declared.reader.Group.{Group}
 use Rattle.desk_expr.specs.declared.reader.Reader.{Reader}
 use Rattle.desk_expr.specs.declared.reader.State.{State}
 use Rattle.desk_expr.specs.declared.reader.State.TheVariants.{Operand, Word, Exception, Done}
-use Rattle.desk_expr.specs.declared.token.Kind.TheVariants.{Bad}
+use Rattle.desk_tokens.specs.declared.token.Kind.TheVariants.{Bad}
 use Rattle.desk_expr.specs.declared.word.Halt.{Halt}
 use Rattle.desk_expr.specs.declared.word.Halt.TheVariants as halt
 use Rattle.desk_expr.specs.Halting.{fault_at}
@@ -20,7 +20,7 @@ use Rattle.desk_expr.specs.declared.fault.ParseFault.TheVariants.{Empty, BadToke
 use Rattle.desk_expr.specs.declared.fault.ParseFault.TheVariants.{Unclosed, TooDeep, TooLong}
 use Rattle.desk_expr.specs.declared.fault.ParseFault.TheVariants.{TooManyTerms, Memory}
 use Rattle.desk_expr.specs.Tree.{Tree}
-use Rattle.desk_expr.specs.Tokens.{Lexeme}
+use Rattle.desk_tokens.specs.Tokens.{Lexeme}
 use Rattle.desk_expr.specs.Grammar.{Symbol, SpellsTree}
 use Rattle.desk_expr.specs.Spelling.{symbol_of, symbols, open_after, still_open, is_word, is_with}
 use Rattle.desk_expr.specs.Spelling.{operand_words_after, operand_words, AllFronts, Begins, Stands}

@@ -1,7 +1,7 @@
 -- Which kind of token each symbol stands for.
 use Rattle.std.proofs.Common.{◌≡◌, ℕ, List, refl}
-use Rattle.desk_expr.specs.declared.token.Kind.{Kind}
-use Rattle.desk_expr.specs.declared.token.Kind.TheVariants.{Opening, Closing, And, Or, With}
+use Rattle.desk_tokens.specs.declared.token.Kind.{Kind}
+use Rattle.desk_tokens.specs.declared.token.Kind.TheVariants.{Opening, Closing, And, Or, With}
 use Rattle.desk_expr.specs.Grammar.{opening, closing, and_word, or_word, with_word}
 use Rattle.desk_expr.specs.Spelling.{symbol}
 

@@ -6,7 +6,7 @@ use Rattle.std.specs.Prelude.{map, fold, IfOk, IfErr, alloc_error, ◌≢◌, �
 use Rattle.std.proofs.lemmas.List.{append-nil, length-map}
 use Rattle.desk_base.specs.declared.profile.Profile.{Profile}
 use Rattle.desk_base.specs.Limits as limit
-use Rattle.desk_expr.specs.declared.cut.TokenCuts.{TokenCuts}
+use Rattle.desk_tokens.specs.declared.cut.TokenCuts.{TokenCuts}
 use Rattle.desk_expr.specs.declared.fault.ParseFault.{ParseFault}
 use Rattle.desk_expr.specs.declared.fault.ParseFault.TheVariants.{Empty, BadToken, Unexpected}
 use Rattle.desk_expr.specs.declared.fault.ParseFault.TheVariants.{Unclosed, TooDeep, TooLong}
@@ -14,22 +14,22 @@ use Rattle.desk_expr.specs.declared.fault.ParseFault.TheVariants.{TooManyTerms, 
 use Rattle.desk_expr.specs.declared.term.Term.{Term}
 use Rattle.desk_expr.specs.declared.term_reader.TermState.{TermState}
 use Rattle.desk_expr.specs.declared.term_reader.TermState.TheVariants as state
-use Rattle.desk_expr.specs.declared.token.Kind.{Kind}
-use Rattle.desk_expr.specs.declared.token.Kind.TheVariants as kind
-use Rattle.desk_expr.specs.declared.token.Token.{Token}
+use Rattle.desk_tokens.specs.declared.token.Kind.{Kind}
+use Rattle.desk_tokens.specs.declared.token.Kind.TheVariants as kind
+use Rattle.desk_tokens.specs.declared.token.Token.{Token}
 use Rattle.desk_expr.specs.declared.word.Halt.{Halt}
 use Rattle.desk_expr.specs.declared.word.Halt.TheVariants as halt
 use Rattle.desk_expr.specs.Halting.{fault_at}
 use Rattle.desk_expr.specs.Words.{with_exception}
-use Rattle.desk_expr.specs.Tokens.{Lexeme, lexeme, AreTokensBy}
-use Rattle.desk_expr.specs.Given.{TokenGiven}
+use Rattle.desk_tokens.specs.Tokens.{Lexeme, lexeme, AreTokensBy}
+use Rattle.desk_tokens.specs.Given.{TokenGiven}
 use Rattle.desk_expr.specs.Grammar.{Symbol, with_word, word, bad, SpellsTerm, bare, excepted}
 use Rattle.desk_expr.specs.Spelling.{symbol, symbol_of, symbols, open_after, is_word, is_with}
 use Rattle.desk_expr.specs.Spelling.{operand_words_after, closings, AllFronts, Begins, Stands}
 use Rattle.desk_expr.specs.Spelling.{Reason, StopsAtToken, StopsAtEnd, IsStopBy, SpellsTermAloneBy}
 use Rattle.desk_expr.specs.Spelling.{SpellsTermWithinBy}
 use Rattle.desk_expr.specs.TermReading.{TermRest, HasBegun, TermSteps, TermStops, TermEnds, TermFalls}
-use Rattle.desk_expr.proofs.Lexing.{tokens_exist, same_tokens}
+use Rattle.desk_tokens.proofs.Lexing.{tokens_exist, same_tokens}
 use Rattle.desk_expr.proofs.ProgressLemmas.{symbols_push, fronts_push}
 use Rattle.desk_expr.proofs.ParseLemmas.{SoFar, faults_spell, stop_spells, symbols_behind, symbols_split}
 

@@ -16,12 +16,13 @@ use Rattle.desk_base.specs.Idstring.{is_idstring_byte, is_idstring}
 use Rattle.desk_base.specs.Folded.{folded}
 use Rattle.desk_base.specs.declared.profile.Profile.TheVariants.{Capitals}
 use Rattle.desk_expr.specs.declared.term.Term.{Term}
-use Rattle.desk_expr.specs.declared.token.Kind.{Kind}
-use Rattle.desk_expr.specs.declared.token.Kind.TheVariants.{Licence, LicenceOrLater, Reference}
-use Rattle.desk_expr.specs.Words.{is_local_reference, is_reference_of_document, is_reference}
-use Rattle.desk_expr.specs.Words.{begins_like_reference, is_licence_or_later, without_last}
-use Rattle.desk_expr.specs.Words.{word_kind, kind_by, is_folded_id, is_exception, is_term}
-use Rattle.desk_expr.specs.Tokens.{is_run_byte}
+use Rattle.desk_tokens.specs.declared.token.Kind.{Kind}
+use Rattle.desk_tokens.specs.declared.token.Kind.TheVariants.{Licence, LicenceOrLater, Reference}
+use Rattle.desk_tokens.specs.Words.{is_local_reference, is_reference_of_document, is_reference}
+use Rattle.desk_tokens.specs.Words.{begins_like_reference, is_licence_or_later, without_last}
+use Rattle.desk_tokens.specs.Words.{word_kind, kind_by}
+use Rattle.desk_expr.specs.Words.{is_folded_id, is_exception, is_term}
+use Rattle.desk_tokens.specs.Tokens.{is_run_byte}
 use Rattle.desk_expr.specs.Grammar.{Symbol, word}
 use Rattle.desk_expr.specs.Spelling.{symbol}
 use Rattle.desk_expr.specs.Printing.{printed_word}

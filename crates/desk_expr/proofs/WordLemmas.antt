@@ -12,11 +12,12 @@ use Rattle.std.proofs.lemmas.List.{length-map, get_or-drop}
 use Rattle.desk_base.specs.Idstring.{is_idstring_byte, is_idstring}
 use Rattle.desk_base.specs.Folded.{folded}
 use Rattle.desk_base.specs.declared.profile.Profile.{Profile}
-use Rattle.desk_expr.specs.declared.token.Kind.{Kind}
-use Rattle.desk_expr.specs.declared.token.Kind.TheVariants.{Opening, Closing, And, Or, With}
-use Rattle.desk_expr.specs.declared.token.Kind.TheVariants.{Licence, LicenceOrLater, Reference, Bad}
-use Rattle.desk_expr.specs.Words.{is_reference, begins_like_reference, is_licence_or_later}
-use Rattle.desk_expr.specs.Words.{without_last, is_operator, kind_by, IsWordOf, is_folded_id}
+use Rattle.desk_tokens.specs.declared.token.Kind.{Kind}
+use Rattle.desk_tokens.specs.declared.token.Kind.TheVariants.{Opening, Closing, And, Or, With}
+use Rattle.desk_tokens.specs.declared.token.Kind.TheVariants.{Licence, LicenceOrLater, Reference, Bad}
+use Rattle.desk_tokens.specs.Words.{is_reference, begins_like_reference, is_licence_or_later}
+use Rattle.desk_tokens.specs.Words.{without_last, is_operator, kind_by, IsWordOf}
+use Rattle.desk_expr.specs.Words.{is_folded_id}
 use Rattle.desk_expr.specs.Words.{is_exception, is_term}
 use Rattle.desk_expr.specs.declared.term.Term.{Term}
 

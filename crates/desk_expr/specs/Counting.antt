@@ -6,7 +6,7 @@ use Rattle.desk_expr.specs.declared.fault.ParseFault.{ParseFault}
 use Rattle.desk_expr.specs.declared.fault.ParseFault.TheVariants.{Empty, BadToken, Unexpected}
 use Rattle.desk_expr.specs.declared.fault.ParseFault.TheVariants.{Unclosed, TooDeep, TooLong}
 use Rattle.desk_expr.specs.declared.fault.ParseFault.TheVariants.{TooManyTerms, Memory}
-use Rattle.desk_expr.specs.Tokens.{Lexeme}
+use Rattle.desk_tokens.specs.Tokens.{Lexeme}
 use Rattle.desk_expr.specs.Spelling.{symbol_of, open_after, is_word, is_with}
 
 -- the number of terms after one more token

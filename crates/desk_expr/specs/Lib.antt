@@ -4,8 +4,6 @@ pub mod Shape
 pub mod Falls
 pub mod View
 pub mod Words
-pub mod Tokens
-pub mod Given
 pub mod Grammar
 pub mod Spelling
 pub mod Faults

@@ -6,7 +6,7 @@ use Rattle.desk_expr.specs.declared.fault.ParseFault.TheVariants.{Empty, BadToke
 use Rattle.desk_expr.specs.declared.fault.ParseFault.TheVariants.{Unclosed, TooDeep, TooLong}
 use Rattle.desk_expr.specs.declared.fault.ParseFault.TheVariants.{TooManyTerms, Memory}
 use Rattle.desk_expr.specs.Tree.{Tree}
-use Rattle.desk_expr.specs.Tokens.{Lexeme}
+use Rattle.desk_tokens.specs.Tokens.{Lexeme}
 use Rattle.desk_expr.specs.Grammar.{Symbol, SpellsTree}
 use Rattle.desk_expr.specs.Spelling.{symbols, still_open, operand_words, is_with, Stands, AllFronts, Reason, EndReason}
 use Rattle.desk_expr.specs.Reading.{Rest}

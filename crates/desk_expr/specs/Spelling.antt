@@ -7,12 +7,12 @@ use Rattle.desk_expr.specs.declared.fault.ParseFault.{ParseFault}
 use Rattle.desk_expr.specs.declared.fault.ParseFault.TheVariants.{Empty, BadToken, Unexpected}
 use Rattle.desk_expr.specs.declared.fault.ParseFault.TheVariants.{Unclosed, TooDeep, TooLong}
 use Rattle.desk_expr.specs.declared.fault.ParseFault.TheVariants.{TooManyTerms, Memory}
-use Rattle.desk_expr.specs.declared.token.Kind.{Kind}
-use Rattle.desk_expr.specs.declared.token.Kind.TheVariants as kind
+use Rattle.desk_tokens.specs.declared.token.Kind.{Kind}
+use Rattle.desk_tokens.specs.declared.token.Kind.TheVariants as kind
 use Rattle.desk_expr.specs.declared.term.Term.{Term}
 use Rattle.desk_expr.specs.Tree.{Tree}
 use Rattle.desk_expr.specs.Words.{licence_term, or_later_term, reference_term}
-use Rattle.desk_expr.specs.Tokens.{Lexeme, AreTokensBy}
+use Rattle.desk_tokens.specs.Tokens.{Lexeme, AreTokensBy}
 use Rattle.desk_base.specs.declared.profile.Profile.{Profile}
 use Rattle.desk_base.specs.declared.profile.Profile.TheVariants.{Capitals}
 use Rattle.desk_expr.specs.Grammar.{Symbol, opening, closing, and_word, or_word, with_word, word}

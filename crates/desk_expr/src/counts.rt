@@ -2,12 +2,12 @@
 
 ghost use Rattle.std.specs.Prelude.{◌≡◌, ◌≤◌, ◌-◌, ℕ, List, OnOk, IfOk, IfErr, [], false, length, slice_get, Some};
 ghost use Rattle.desk_base.specs.Limits.{expression_terms as most_terms};
-ghost use Rattle.desk_expr.specs.Tokens.{lexeme};
+ghost use Rattle.desk_tokens.specs.Tokens.{lexeme};
 ghost use Rattle.desk_expr.specs.Spelling.{symbol, open_after, is_word, is_with};
 
 use crate::fault::ParseFault;
-use crate::token::{Kind, Token};
 use desk_base::limits;
+use desk_tokens::{Kind, Token};
 use std::alloc::{AllocError, Global};
 
 /// The places of the parentheses that are still open, in the order of the text, the number of terms

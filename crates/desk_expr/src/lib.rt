@@ -1,4 +1,4 @@
-//! Licence expressions (SPDX 2.3, Annex D): cut into tokens, read into a tree, and printed.
+//! Licence expressions (SPDX 2.3, Annex D): a text is read into a tree, and a tree is printed.
 //!
 //! A contract sees an `Expr` as a `Tree`: one term, or All or Any of two or more parts. `Spells`
 //! (specs/Spelling.antt) says which text spells which tree, by dividing whole lists of tokens;
@@ -6,12 +6,11 @@
 //! that doesn't fit. `Holds` and `IsMinimal` (specs/Meaning.antt) say which sets of terms satisfy
 //! a tree, and `desk_alts` finds them.
 //!
-//! Operators are in capitals. `tokens_in`, `parse_in` and `parse_term_in` take a profile, which may
-//! allow small letters too.
+//! Operators are in capitals. `parse_in` and `parse_term_in` take a profile, which may allow small
+//! letters too.
 #![tactic(auto)]
 
 mod counts;
-mod cut;
 mod expr;
 mod fault;
 mod listing;
@@ -20,10 +19,8 @@ mod progress;
 mod reader;
 mod term;
 mod term_reader;
-mod token;
 mod word;
 
-pub use cut::{TokenCuts, is_reference};
 pub use desk_base::Profile;
 pub use expr::{Expr, Shape};
 pub use fault::{ParseFault, told};
@@ -32,4 +29,3 @@ pub use printing::{print, print_term};
 pub use progress::{parse, parse_in};
 pub use term::Term;
 pub use term_reader::{parse_term, parse_term_in};
-pub use token::{Kind, Token, tokens, tokens_in};

@@ -2,18 +2,18 @@
 
 ghost use Rattle.std.specs.Prelude.{◌≡◌, ℕ, List, [], ◌∷◌, ◌++◌, ◌⊎◌, IfOk, IfErr, alloc_error};
 ghost use Rattle.desk_expr.specs.Tree.{Tree};
-ghost use Rattle.desk_expr.specs.Tokens.{Lexeme, lexeme};
+ghost use Rattle.desk_tokens.specs.Tokens.{Lexeme, lexeme};
 ghost use Rattle.desk_expr.specs.Grammar.{SpellsTree};
-ghost use Rattle.desk_expr.specs.Words.{IsWordOf};
+ghost use Rattle.desk_tokens.specs.Words.{IsWordOf};
 ghost use Rattle.desk_expr.specs.Spelling.{symbols, Spells, SpellsBy, SpellsWithin, SpellsWithinBy, IsStop, IsStopBy};
 
 use crate::counts::Counts;
 use crate::expr::Expr;
 use crate::fault::ParseFault;
 use crate::reader::Reader;
-use crate::token::{Token, tokens_in};
 use crate::word::{Halt, is_bad};
 use desk_base::{Profile, limits};
+use desk_tokens::{Token, tokens_in};
 use std::alloc::Global;
 
 /// What has been read of a text, and what its limits are about.

@@ -3,13 +3,13 @@
 ghost use Rattle.std.specs.Prelude.{◌≡◌, ◌↔◌, ℕ, OnOk, IfOk, IfErr, List, [], ◌∷◌, ◌++◌, Some, alloc_error};
 ghost use Rattle.desk_expr.specs.Tree.{one, Tree};
 ghost use Rattle.desk_expr.specs.Grammar.{all_of, any_of, Symbol, SpellsTree};
-ghost use Rattle.desk_expr.specs.Words.{IsWordOf};
+ghost use Rattle.desk_tokens.specs.Words.{IsWordOf};
 ghost use Rattle.desk_expr.specs.Spelling.{symbol};
 ghost use Rattle.desk_expr.specs.Reading.{Rest, Steps, Stops, EndsWith};
 
 use crate::expr::{Expr, Leaf};
-use crate::token::{Kind, Token};
 use crate::word::{Halt, excepted, exception_of, leaf_of, push};
+use desk_tokens::{Kind, Token};
 use std::alloc::Global;
 
 /// An OR list that is being read: the AND lists before the last one, and the operands of the last

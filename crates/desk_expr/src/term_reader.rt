@@ -2,18 +2,18 @@
 
 ghost use Rattle.std.specs.Prelude.{◌≡◌, ℕ, List, ◌∷◌, [], ◌++◌, ◌⊎◌, IfOk, IfErr, alloc_error};
 ghost use Rattle.desk_expr.specs.declared.term.Term.{Term};
-ghost use Rattle.desk_expr.specs.Tokens.{Lexeme, lexeme};
+ghost use Rattle.desk_tokens.specs.Tokens.{Lexeme, lexeme};
 ghost use Rattle.desk_expr.specs.Grammar.{SpellsTerm};
-ghost use Rattle.desk_expr.specs.Words.{IsWordOf};
+ghost use Rattle.desk_tokens.specs.Words.{IsWordOf};
 ghost use Rattle.desk_expr.specs.Spelling.{symbol, SpellsTermAlone, SpellsTermAloneBy, SpellsTermWithin, SpellsTermWithinBy, IsStop, IsStopBy};
 ghost use Rattle.desk_expr.specs.TermReading.{TermSteps, TermStops, TermEnds, TermFalls};
 
 use crate::expr::Leaf;
 use crate::fault::ParseFault;
 use crate::term::Term;
-use crate::token::{Kind, Token, tokens_in};
 use crate::word::{Halt, excepted, exception_of, is_bad, leaf_of};
 use desk_base::{Profile, limits};
+use desk_tokens::{Kind, Token, tokens_in};
 use std::alloc::Global;
 
 /// What comes before the next token.

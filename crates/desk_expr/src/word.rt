@@ -3,7 +3,8 @@
 ghost use Rattle.std.specs.Prelude.{◌≡◌, ◌↔◌, ℕ, List, Option, OnOk, IfOk, IfErr, [], ◌∷◌, ◌++◌, Some, None, IsTrue, alloc_error};
 ghost use Rattle.desk_expr.specs.declared.term.Term.{Term};
 ghost use Rattle.desk_expr.specs.Grammar.{word};
-ghost use Rattle.desk_expr.specs.Words.{IsWordOf, is_licence_or_later, is_reference, licence_term, or_later_term, reference_term, with_exception, is_term, is_folded_id};
+ghost use Rattle.desk_tokens.specs.Words.{IsWordOf, is_licence_or_later, is_reference};
+ghost use Rattle.desk_expr.specs.Words.{licence_term, or_later_term, reference_term, with_exception, is_term, is_folded_id};
 ghost use Rattle.desk_base.specs.Idstring.{is_idstring};
 ghost use Rattle.desk_expr.specs.Spelling.{symbol};
 ghost use Rattle.desk_base.specs.Folded.{folded};
@@ -11,8 +12,8 @@ ghost use Rattle.desk_base.specs.Folded.{folded};
 use crate::expr::Leaf;
 use crate::fault::ParseFault;
 use crate::term::Term;
-use crate::token::Kind;
 use desk_base::Key;
+use desk_tokens::Kind;
 use std::alloc::{AllocError, Global};
 
 /// Why reading stops.

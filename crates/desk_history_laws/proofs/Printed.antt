@@ -15,14 +15,17 @@ use Rattle.desk_base.proofs.Texts.{texts_equal}
 use Rattle.desk_expr.specs.Grammar.{opening, closing, with_word, word}
 use Rattle.desk_expr.specs.Printing.{printed_exception, printed_term, printed_word}
 use Rattle.desk_expr.specs.Spelling.{SpellsTermAlone, SpellsTermWithin, symbol, symbol_of, symbols}
-use Rattle.desk_expr.specs.Tokens.{AreTokens, is_parenthesis, IsPiece, is_run_byte, Lexeme, NoRunBegins}
-use Rattle.desk_expr.specs.Words.{begins_like_reference, is_licence_or_later, is_reference, is_term}
-use Rattle.desk_expr.specs.Words.{IsWordOf, kind_by, licence_term, or_later_term, reference_term}
-use Rattle.desk_expr.specs.Words.{with_exception, without_last, word_kind}
+use Rattle.desk_tokens.specs.Tokens.{AreTokens, is_parenthesis, IsPiece, is_run_byte, Lexeme, NoRunBegins}
+use Rattle.desk_tokens.specs.Words.{begins_like_reference, is_licence_or_later, is_reference}
+use Rattle.desk_expr.specs.Words.{is_term}
+use Rattle.desk_tokens.specs.Words.{IsWordOf, kind_by}
+use Rattle.desk_expr.specs.Words.{licence_term, or_later_term, reference_term}
+use Rattle.desk_tokens.specs.Words.{without_last, word_kind}
+use Rattle.desk_expr.specs.Words.{with_exception}
 use Rattle.desk_expr.specs.declared.term.Term.{Term}
-use Rattle.desk_expr.specs.declared.token.Kind.{Kind}
-use Rattle.desk_expr.specs.declared.token.Kind.TheVariants.{Opening, Closing, And, Or, With}
-use Rattle.desk_expr.specs.declared.token.Kind.TheVariants.{Licence, LicenceOrLater, Reference, Bad}
+use Rattle.desk_tokens.specs.declared.token.Kind.{Kind}
+use Rattle.desk_tokens.specs.declared.token.Kind.TheVariants.{Opening, Closing, And, Or, With}
+use Rattle.desk_tokens.specs.declared.token.Kind.TheVariants.{Licence, LicenceOrLater, Reference, Bad}
 use Rattle.desk_expr.proofs.Prints.{printed_term_spells}
 use Rattle.desk_expr.proofs.TermLemmas.{term_inv}
 use Rattle.desk_expr.proofs.WordLemmas.{word_of}

@@ -13,7 +13,7 @@ use Rattle.desk_catalogue.specs.Reading.{catalogue_of, rule_at, rule_of, RuleTex
 use Rattle.desk_catalogue.specs.Terms.{if_licence, licence_of}
 use Rattle.desk_catalogue.specs.Values.{is_among}
 use Rattle.desk_catalogue.specs.declared.catalogue.Catalogue.{Catalogue as WholeCatalogue}
-use Rattle.desk_expr.specs.Words.{begins_like_reference}
+use Rattle.desk_tokens.specs.Words.{begins_like_reference}
 use Rattle.desk_model.specs.Keys.{rule_order}
 use Rattle.desk_model.specs.Lists.{IsIn}
 use Rattle.desk_model.specs.Texts.{sorted_set}

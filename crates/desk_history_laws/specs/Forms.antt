@@ -2,7 +2,8 @@
 -- D.4).
 use Rattle.std.specs.Prelude.{ℕ, ◌&&◌, not, Bool, false, List, Option, Some, None, is_none, if◌then◌else◌}
 use Rattle.desk_expr.specs.declared.term.Term.{Term}
-use Rattle.desk_expr.specs.Words.{is_folded_id, is_reference}
+use Rattle.desk_tokens.specs.Words.{is_reference}
+use Rattle.desk_expr.specs.Words.{is_folded_id}
 
 -- the reference that a term names, without its exception
 abbrev pub reference_of : Term → Option (List ℕ)

@@ -4,7 +4,7 @@ use Rattle.std.specs.Prelude.{Some, None, if◌then◌else◌}
 use Rattle.std.specs.List.{starts_with, ends_with}
 use Rattle.desk_base.specs.Idstring.{is_idstring}
 use Rattle.desk_expr.specs.declared.term.Term.{Term}
-use Rattle.desk_expr.specs.Words.{is_reference, without_last}
+use Rattle.desk_tokens.specs.Words.{is_reference, without_last}
 use Rattle.desk_expr.specs.Spelling.{SpellsTermWithin}
 use Rattle.desk_fields.specs.Text.{first_word, after_word}
 

@@ -6,9 +6,10 @@ ghost use Rattle.desk_catalogue.specs.Terms.{IsTermOf};
 ghost use Rattle.desk_texts.specs.Terms.{IsTerm, reference_in, is_licence, adopted_as, without_plus, licence_id_in, exception_in};
 
 use desk_base::{Text, is_idstring_of_bytes};
-use desk_expr::{Term, is_reference, parse_term, print_term, told};
+use desk_expr::{Term, parse_term, print_term, told};
 use desk_fields::split_word;
 use desk_tagvalue::behind;
+use desk_tokens::is_reference;
 use std::alloc::{AllocError, Global};
 
 /// The term that a text spells.

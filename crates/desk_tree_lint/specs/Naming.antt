@@ -4,7 +4,7 @@ use Rattle.std.specs.Prelude.{ℕ, ◌==◌, ◌||◌, not, nat_eq, Bool, List, 
 use Rattle.std.specs.Prelude.{Option, Some, None, if◌then◌else◌}
 use Rattle.std.specs.List.{flat_map, slice_split, ends_with}
 use Rattle.std.specs.Str.{bytes_eq}
-use Rattle.desk_expr.specs.Words.{without_last}
+use Rattle.desk_tokens.specs.Words.{without_last}
 use Rattle.desk_tree_gather.specs.declared.gathering.FileInfo.{FileInfo}
 use Rattle.desk_tree_lint.specs.declared.naming.Name.{Name}
 use Rattle.desk_tree_lint.specs.Texts.{key_of}

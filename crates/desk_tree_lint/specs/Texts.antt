@@ -5,7 +5,7 @@ use Rattle.std.specs.Prelude.{None, option_map, unwrap_or, if◌then◌else◌}
 use Rattle.std.specs.List.{list_any, filter_map, starts_with, ends_with}
 use Rattle.std.specs.Path.{rfind_below}
 use Rattle.desk_base.specs.Folded.{folded}
-use Rattle.desk_expr.specs.Words.{is_reference}
+use Rattle.desk_tokens.specs.Words.{is_reference}
 use Rattle.desk_tree_gather.specs.declared.files.SourceFile.{SourceFile}
 
 -- a name in `LICENSES/`: that of a text, unless it leads into another folder or ends with

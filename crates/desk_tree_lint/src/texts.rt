@@ -7,7 +7,7 @@ ghost use Rattle.desk_tree_lint.specs.Texts.{text_name, stem, key_of, text_file,
 ghost use Rattle.desk_tree_lint.specs.Shown.{text_in, texts_in};
 
 use desk_base::Key;
-use desk_expr::is_reference;
+use desk_tokens::is_reference;
 use std::alloc::{AllocError, Global};
 use std::collections::BTreeMap;
 

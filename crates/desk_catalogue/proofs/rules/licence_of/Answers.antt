@@ -1,6 +1,6 @@
 use Rattle.std.proofs.Common.{◌∙◌, sym, ap, Some, inl, inr}
 use Rattle.std.specs.Prelude.{alloc_error}
-use Rattle.desk_expr.specs.Words.{begins_like_reference}
+use Rattle.desk_tokens.specs.Words.{begins_like_reference}
 use Rattle.desk_catalogue.proofs.TermsRead.{tells_reference, tells_licence, tells_none}
 use Rattle.desk_catalogue.proofs.rules.licence_of.Goals as goal
 

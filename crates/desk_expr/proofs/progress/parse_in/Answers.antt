@@ -1,7 +1,7 @@
 use Rattle.std.proofs.Common.{List, [], sym, subst, length}
 use Rattle.std.specs.Prelude.{map}
 use Rattle.std.proofs.lemmas.List.{append-nil}
-use Rattle.desk_expr.specs.Tokens.{Lexeme, lexeme, AreTokensBy}
+use Rattle.desk_tokens.specs.Tokens.{Lexeme, lexeme, AreTokensBy}
 use Rattle.desk_expr.specs.Progress.{HasRead}
 use Rattle.desk_expr.proofs.ParseLemmas.{spells_once, so_far_push, lexemes_push, stop_at_token}
 use Rattle.desk_expr.proofs.ParseLemmas.{stop_spells_nothing, faults_spell_nothing, spelled_at_end}

@@ -3,8 +3,8 @@ use Rattle.std.specs.Prelude.{map, ◌≢◌}
 use Rattle.std.proofs.lemmas.Bool.{false≢true}
 use Rattle.std.proofs.lemmas.List.{append-nil}
 use Rattle.desk_expr.specs.declared.fault.ParseFault.TheVariants.{BadToken}
-use Rattle.desk_expr.specs.declared.token.Kind.TheVariants.{Bad}
-use Rattle.desk_expr.specs.Tokens.{Lexeme, lexeme, AreTokensBy}
+use Rattle.desk_tokens.specs.declared.token.Kind.TheVariants.{Bad}
+use Rattle.desk_tokens.specs.Tokens.{Lexeme, lexeme, AreTokensBy}
 use Rattle.desk_expr.proofs.ParseLemmas.{so_far_none, so_far_push, lexemes_push}
 use Rattle.desk_expr.proofs.TermLemmas.{TermRead, TermStopsAfter, nothing_read, one_read, stopped}
 use Rattle.desk_expr.proofs.TermLemmas.{stop_at_token, spelled_at_end, stopped_at_end}

@@ -1,5 +1,5 @@
 use Rattle.std.specs.Prelude.{map}
-use Rattle.desk_expr.specs.Tokens.{lexeme}
+use Rattle.desk_tokens.specs.Tokens.{lexeme}
 use Rattle.desk_expr.proofs.ParseLemmas.{SoFar}
 use Rattle.desk_expr.proofs.TermLemmas.{TermRead}
 use Rattle.desk_expr.proofs.term_reader.parse_term_in.Given as goal

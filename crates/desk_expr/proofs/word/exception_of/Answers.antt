@@ -2,11 +2,12 @@ use Rattle.std.proofs.Common.{◌≡◌, ◌∙◌, ℕ, List, Result, Ok, Err, 
 use Rattle.std.specs.Prelude.{IfOk}
 use Rattle.desk_base.specs.Folded.{folded}
 use Rattle.desk_expr.specs.declared.term.Term.{Term}
-use Rattle.desk_expr.specs.declared.token.Kind.{Kind}
-use Rattle.desk_expr.specs.declared.token.Kind.TheVariants.{Licence}
+use Rattle.desk_tokens.specs.declared.token.Kind.{Kind}
+use Rattle.desk_tokens.specs.declared.token.Kind.TheVariants.{Licence}
 use Rattle.desk_expr.specs.declared.word.Halt.{Halt}
 use Rattle.desk_expr.specs.Grammar.{word}
-use Rattle.desk_expr.specs.Words.{licence_term, IsWordOf, is_folded_id}
+use Rattle.desk_tokens.specs.Words.{IsWordOf}
+use Rattle.desk_expr.specs.Words.{licence_term, is_folded_id}
 use Rattle.desk_expr.specs.Spelling.{symbol}
 use Rattle.desk_expr.proofs.WordLemmas.{folded_id}
 use Rattle.desk_expr.proofs.word.exception_of.Goals as goal

@@ -2,8 +2,8 @@ use Rattle.std.proofs.Common.{◌≡◌, ◌∙◌, ℕ, List, Option, Result, O
 use Rattle.std.specs.Prelude.{IfOk}
 use Rattle.desk_base.specs.Folded.{folded}
 use Rattle.desk_expr.specs.declared.term.Term.{Term}
-use Rattle.desk_expr.specs.declared.token.Kind.{Kind}
-use Rattle.desk_expr.specs.declared.token.Kind.TheVariants.{Licence}
+use Rattle.desk_tokens.specs.declared.token.Kind.{Kind}
+use Rattle.desk_tokens.specs.declared.token.Kind.TheVariants.{Licence}
 use Rattle.desk_expr.specs.declared.word.Halt.{Halt}
 use Rattle.desk_expr.specs.Grammar.{word}
 use Rattle.desk_expr.specs.Words.{licence_term}

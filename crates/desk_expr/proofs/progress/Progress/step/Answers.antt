@@ -1,9 +1,9 @@
 use Rattle.std.proofs.Common.{refl, true, sym, subst, ◌∙◌}
 use Rattle.std.specs.Prelude.{◌≢◌}
 use Rattle.std.proofs.lemmas.Bool.{false≢true}
-use Rattle.desk_expr.specs.declared.token.Kind.TheVariants.{Bad}
+use Rattle.desk_tokens.specs.declared.token.Kind.TheVariants.{Bad}
 use Rattle.desk_expr.specs.Progress.{StopsAfter}
-use Rattle.desk_expr.specs.Tokens.{lexeme}
+use Rattle.desk_tokens.specs.Tokens.{lexeme}
 use Rattle.desk_expr.proofs.ProgressLemmas.{stopped, one_read, over}
 use Rattle.desk_expr.proofs.progress.Progress.step.Goals as goal
 

@@ -1,6 +1,6 @@
 use Rattle.std.proofs.Common.{ℕ, ◌-◌, ◌<◌, ◌≤◌, length, get_or}
 use Rattle.std.specs.Prelude.{IsTrue}
-use Rattle.desk_expr.proofs.cut.blanks.Given as goal
+use Rattle.desk_tokens.proofs.cut.blanks.Given as goal
 use Rattle.desk_base.specs.Bytes.{is_blank}
 
 abbrev pub invariant-loop-n : goal.invariant-loop-n

@@ -1,11 +1,11 @@
 use Rattle.std.proofs.Common.{List, [], ◌∷◌, subst, sym, None}
 use Rattle.std.specs.Prelude.{map}
 use Rattle.std.specs.Iterator.{Yields}
-use Rattle.desk_expr.specs.declared.cut.TokenCuts.{TokenCuts}
-use Rattle.desk_expr.specs.declared.token.Token.{Token}
-use Rattle.desk_expr.specs.Tokens.{AreTokensBy, lexeme}
-use Rattle.desk_expr.specs.Given.{TokenGiven}
-use Rattle.desk_expr.proofs.token.tokens_in.Goals as goal
+use Rattle.desk_tokens.specs.declared.cut.TokenCuts.{TokenCuts}
+use Rattle.desk_tokens.specs.declared.token.Token.{Token}
+use Rattle.desk_tokens.specs.Tokens.{AreTokensBy, lexeme}
+use Rattle.desk_tokens.specs.Given.{TokenGiven}
+use Rattle.desk_tokens.proofs.token.tokens_in.Goals as goal
 
 -- what `next` returns until it returns none are the tokens of what is left
 all_given : (given : List Token) (cuts last after : TokenCuts) → Yields TokenGiven cuts given last

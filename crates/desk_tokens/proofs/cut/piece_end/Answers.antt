@@ -1,7 +1,7 @@
 use Rattle.std.proofs.Common.{◌≡◌, ◌∙◌, sym, get_or, true, false, ap}
-use Rattle.desk_expr.specs.Tokens.{is_parenthesis}
-use Rattle.desk_expr.proofs.Cuts.{parenthesis_boundary, parenthesis_piece, run_boundary, run_piece, run_byte}
-use Rattle.desk_expr.proofs.cut.piece_end.Goals as goal
+use Rattle.desk_tokens.specs.Tokens.{is_parenthesis}
+use Rattle.desk_tokens.proofs.Cuts.{parenthesis_boundary, parenthesis_piece, run_boundary, run_piece, run_byte}
+use Rattle.desk_tokens.proofs.cut.piece_end.Goals as goal
 
 -- the first byte is a parenthesis
 first : (c : goal.Then-is_parenthesis) → is_parenthesis (get_or c.args.text.now 0 0) ≡ true

@@ -1,6 +1,6 @@
 use Rattle.std.proofs.Common.{take, ◌≡◌, ◌∙◌, ◌++◌, ◌+◌, ap, sym, subst, length-take-le, take-append-drop}
-use Rattle.desk_expr.specs.Tokens.{IsPiece}
-use Rattle.desk_expr.proofs.cut.first_token.Goals as goal
+use Rattle.desk_tokens.specs.Tokens.{IsPiece}
+use Rattle.desk_tokens.proofs.cut.first_token.Goals as goal
 
 pub returns-clause-some : goal.returns-clause-some
 returns-clause-some c =

@@ -9,7 +9,7 @@ use Rattle.std.proofs.lemmas.Str.{IsCharBoundary-start, IsCharBoundary-end}
 use Rattle.std.proofs.lemmas.Str.{IsCharBoundary-before_ascii, IsCharBoundary-after_ascii}
 use Rattle.std.proofs.lemmas.Bool.Decides.{nat_tests}
 use Rattle.std.proofs.lemmas.List.Elements.{All-from_get_or}
-use Rattle.desk_expr.specs.Tokens.{is_parenthesis, is_run_byte, NoRunBegins, IsPiece}
+use Rattle.desk_tokens.specs.Tokens.{is_parenthesis, is_run_byte, NoRunBegins, IsPiece}
 use Rattle.desk_base.specs.Bytes.{is_blank}
 
 blank_low : (b : ℕ) → IsTrue (is_blank b) → b < 128

@@ -5,8 +5,8 @@ ghost use Rattle.std.specs.Prelude.{◌≡◌, ◌==◌, ◌+◌, ◌≤◌, ◌
 ghost use Rattle.std.specs.List.{position_or_len};
 ghost use Rattle.std.specs.Str.{IsCharBoundary};
 ghost use Rattle.std.specs.Iterator.{at_most};
-ghost use Rattle.desk_expr.specs.Tokens.{is_parenthesis, is_run_byte, IsPiece, IsFirstToken, lexeme};
-ghost use Rattle.desk_expr.specs.Words.{is_local_reference, is_reference_of_document, is_reference, begins_like_reference, is_licence_or_later, word_kind, is_operator, kind_by};
+ghost use Rattle.desk_tokens.specs.Tokens.{is_parenthesis, is_run_byte, IsPiece, IsFirstToken, lexeme};
+ghost use Rattle.desk_tokens.specs.Words.{is_local_reference, is_reference_of_document, is_reference, begins_like_reference, is_licence_or_later, word_kind, is_operator, kind_by};
 ghost use Rattle.desk_base.specs.Bytes.{is_blank};
 
 use crate::token::{Kind, Token};
@@ -216,7 +216,7 @@ pub struct TokenCuts<'a> {
 impl<'a> Iterator for TokenCuts<'a> {
     type Item = Token<'a>;
 
-    ghost use Rattle.desk_expr.specs.Given.{TokenGiven};
+    ghost use Rattle.desk_tokens.specs.Given.{TokenGiven};
 
     ghost next_gives = { TokenGiven };
 

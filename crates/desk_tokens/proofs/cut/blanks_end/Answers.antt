@@ -1,5 +1,5 @@
-use Rattle.desk_expr.proofs.Cuts.{blanks_boundary, all_blank}
-use Rattle.desk_expr.proofs.cut.blanks_end.Goals as goal
+use Rattle.desk_tokens.proofs.Cuts.{blanks_boundary, all_blank}
+use Rattle.desk_tokens.proofs.cut.blanks_end.Goals as goal
 
 pub returns-clause-cut : goal.returns-clause-cut
 returns-clause-cut c =

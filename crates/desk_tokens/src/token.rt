@@ -2,9 +2,9 @@
 
 ghost use Rattle.std.specs.Prelude.{◌≡◌, ℕ, List, map};
 ghost use Rattle.std.specs.Iterator.{Drains};
-ghost use Rattle.desk_expr.specs.declared.token.Token.{Token};
-ghost use Rattle.desk_expr.specs.Tokens.{AreTokens, AreTokensBy, lexeme};
-ghost use Rattle.desk_expr.specs.Given.{TokenGiven};
+ghost use Rattle.desk_tokens.specs.declared.token.Token.{Token};
+ghost use Rattle.desk_tokens.specs.Tokens.{AreTokens, AreTokensBy, lexeme};
+ghost use Rattle.desk_tokens.specs.Given.{TokenGiven};
 
 use crate::cut::TokenCuts;
 use desk_base::Profile;

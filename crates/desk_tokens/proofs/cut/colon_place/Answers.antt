@@ -1,7 +1,7 @@
 use Rattle.std.proofs.Common.{sym, arith, eq-eqb, length}
 use Rattle.std.specs.Prelude.{◌==◌}
 use Rattle.std.proofs.lemmas.List.Sums.{position_or_len_is}
-use Rattle.desk_expr.proofs.cut.colon_place.Goals as goal
+use Rattle.desk_tokens.proofs.cut.colon_place.Goals as goal
 
 pub returns-then-byte-eq58 : goal.returns-then-byte-eq58
 returns-then-byte-eq58 c =

@@ -6,8 +6,8 @@ use Rattle.std.specs.Prelude.{IsTrue, All}
 use Rattle.std.proofs.lemmas.Bool.Decides.{nat_tests}
 use Rattle.std.proofs.lemmas.List.{append-nil}
 use Rattle.desk_base.specs.declared.profile.Profile.{Profile}
-use Rattle.desk_expr.specs.Words.{kind_by}
-use Rattle.desk_expr.specs.Tokens.{is_parenthesis, is_run_byte, NoRunBegins, IsPiece, Lexeme, IsFirstToken, AreTokensBy}
+use Rattle.desk_tokens.specs.Words.{kind_by}
+use Rattle.desk_tokens.specs.Tokens.{is_parenthesis, is_run_byte, NoRunBegins, IsPiece, Lexeme, IsFirstToken, AreTokensBy}
 use Rattle.desk_base.specs.Bytes.{is_blank}
 
 -- ---- all of a list

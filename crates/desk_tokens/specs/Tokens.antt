@@ -1,9 +1,9 @@
 -- How a text is cut into tokens: parentheses, and longest runs of other bytes between blanks and
 -- parentheses.
 use Rattle.std.specs.Prelude.{◌≡◌, ◌⊎◌, ℕ, ◌+◌, ◌==◌, ◌||◌, Bool, false, not, List, [], ◌∷◌, ◌++◌, length, IsTrue, All}
-use Rattle.desk_expr.specs.declared.token.Kind.{Kind}
-use Rattle.desk_expr.specs.declared.token.Token.{Token}
-use Rattle.desk_expr.specs.Words.{kind_by}
+use Rattle.desk_tokens.specs.declared.token.Kind.{Kind}
+use Rattle.desk_tokens.specs.declared.token.Token.{Token}
+use Rattle.desk_tokens.specs.Words.{kind_by}
 use Rattle.desk_base.specs.declared.profile.Profile.{Profile}
 use Rattle.desk_base.specs.declared.profile.Profile.TheVariants.{Capitals}
 use Rattle.desk_base.specs.Bytes.{is_blank}

@@ -1,7 +1,7 @@
 use Rattle.std.proofs.Common.{ℕ, ◌-◌, ◌<◌, ◌≤◌, length, get_or}
 use Rattle.std.specs.Prelude.{IsTrue}
-use Rattle.desk_expr.specs.Tokens.{is_run_byte}
-use Rattle.desk_expr.proofs.cut.run.Given as goal
+use Rattle.desk_tokens.specs.Tokens.{is_run_byte}
+use Rattle.desk_tokens.proofs.cut.run.Given as goal
 
 abbrev pub invariant-loop-n : goal.invariant-loop-n
 invariant-loop-n l = record {

@@ -1,8 +1,8 @@
 -- Which token comes next.
 use Rattle.std.specs.Prelude.{◌≡◌, Option, Some, None, All, IsTrue}
-use Rattle.desk_expr.specs.declared.token.Token.{Token}
-use Rattle.desk_expr.specs.declared.cut.TokenCuts.{TokenCuts}
-use Rattle.desk_expr.specs.Tokens.{IsFirstToken, lexeme}
+use Rattle.desk_tokens.specs.declared.token.Token.{Token}
+use Rattle.desk_tokens.specs.declared.cut.TokenCuts.{TokenCuts}
+use Rattle.desk_tokens.specs.Tokens.{IsFirstToken, lexeme}
 use Rattle.desk_base.specs.Bytes.{is_blank}
 
 -- the first token of what is left, and what follows it; or only blanks are left, and stay, so the
