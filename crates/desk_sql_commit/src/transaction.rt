@@ -12,7 +12,8 @@ ghost use Rattle.desk_sql_write.specs.Written.{Undone};
 
 use desk_model::{Change, Fault, StoreFault};
 use desk_sql_layout::fault::fault_of;
-use desk_sql_write::{is_writable, write_change};
+use desk_sql_layout::writable::is_writable;
+use desk_sql_write::write_change;
 use sqlite::{Alter, Connection};
 use std::alloc::Global;
 

@@ -1,7 +1,7 @@
 use Rattle.std.proofs.Common.{◌≡◌, length}
 use Rattle.std.specs.List.{list_all}
 use Rattle.desk_sql_layout.specs.Cells.{is_word}
-use Rattle.desk_sql_write.proofs.writable.are_words.Given as goal
+use Rattle.desk_sql_layout.proofs.writable.are_words.Given as goal
 
 -- the codes that are left pass exactly if all do
 abbrev pub invariant-loop-code : goal.invariant-loop-code

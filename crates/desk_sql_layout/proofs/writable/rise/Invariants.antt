@@ -1,6 +1,6 @@
 use Rattle.std.proofs.Common.{◌≡◌, length}
 use Rattle.desk_sql_layout.specs.Writable.{rise}
-use Rattle.desk_sql_write.proofs.writable.rise.Given as goal
+use Rattle.desk_sql_layout.proofs.writable.rise.Given as goal
 
 -- the packages that are left are in order exactly if all are
 abbrev pub invariant-loop-first : goal.invariant-loop-first

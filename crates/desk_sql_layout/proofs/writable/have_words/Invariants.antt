@@ -1,6 +1,6 @@
 use Rattle.std.proofs.Common.{◌≡◌, length}
 use Rattle.desk_sql_layout.specs.Writable.{have_words}
-use Rattle.desk_sql_write.proofs.writable.have_words.Given as goal
+use Rattle.desk_sql_layout.proofs.writable.have_words.Given as goal
 
 -- the rules that are left pass exactly if all do
 abbrev pub invariant-loop-rule : goal.invariant-loop-rule

@@ -1,7 +1,7 @@
 use Rattle.std.proofs.Common.{◌≡◌, length, not}
 use Rattle.std.specs.Prelude.{◌==◌}
 use Rattle.std.specs.List.{list_all}
-use Rattle.desk_sql_write.proofs.writable.is_word.Given as goal
+use Rattle.desk_sql_layout.proofs.writable.is_word.Given as goal
 
 -- the bytes that are left pass exactly if all do
 abbrev pub invariant-loop-byte : goal.invariant-loop-byte
