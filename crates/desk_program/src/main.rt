@@ -172,7 +172,7 @@ fn explain<R: Print>(rt: &R, alloc: Global, name: &str) -> Result<u8, Failure> {
 /// Writes the conclusions that are proposed for a document, which the desk knows by this number.
 fn propose(rt: &HostRuntime, path: &str, number: u32, profile: Profile) -> Result<u8, Failure> {
     let bytes = bytes_at(rt, path)?;
-    desk_subcommands::propose(
+    desk_views::propose(
         rt.alloc(),
         &Standard,
         number,

@@ -9,10 +9,10 @@
 //! `query` makes a query that changes nothing: `query::query` returns its rows as cells, and
 //! `read_rows` and `read_one` read them as the desk knows them (`ReadRow`; `rows` has each kind of
 //! row, and `columns` the value in a column). A value of another kind, which no desk's table has,
-//! is reported as a fault of the store's rows (`ROWS`). `specs/Queried.antt` says what a query shows
-//! and leaves, and `specs/Causes.antt` when it fails: if the rows are as a desk writes them, and the
-//! steps of a query have no limit, only if no memory is left, or with a fault of the database if
-//! the disk failed once more.
+//! is reported as a fault of the store's rows (`ROWS`). `specs/Queried.antt` says what a query
+//! shows and leaves, and `specs/Causes.antt` when it fails: if the rows are as a desk writes them,
+//! and the steps of a query have no limit, only if no memory is left, or with a fault of the
+//! database if the disk failed once more.
 //!
 //! `proofs/` is open to the crates above: what a statement makes of the rows of a table
 //! (`Statements`), what a query shows of them (`Queries`, `Orders`, `Selects`, `Finding`), that a

@@ -3,12 +3,14 @@
 ghost use Rattle.std.specs.Prelude.{◌≡◌, IfErr, IfOk, List, map};
 ghost use Rattle.std.specs.List.{AllByRecursion};
 ghost use Rattle.desk_sql_layout.specs.Causes.{HasDay, IsRow};
-ghost use Rattle.desk_sql_layout.specs.Cells.{attached_cells, change_cells, choice_cells, conclusion_cells, duty_cells};
-ghost use Rattle.desk_sql_layout.specs.Cells.{frozen_cells, package_cells, release_cells};
+ghost use Rattle.desk_sql_layout.specs.Cells.{attached_cells, change_cells, choice_cells};
+ghost use Rattle.desk_sql_layout.specs.Cells.{conclusion_cells, duty_cells, frozen_cells};
+ghost use Rattle.desk_sql_layout.specs.Cells.{package_cells, release_cells};
 ghost use Rattle.desk_model.specs.declared.row.ChangeRow.{ChangeRow as Change};
 ghost use Rattle.desk_model.specs.declared.row.DutyRow.{DutyRow as Duty};
 ghost use Rattle.desk_model.specs.declared.row.ReleaseRow.{ReleaseRow as Release};
-ghost use Rattle.desk_sql_layout.specs.Shown.{EndsOnDay, bytes_cells, ending_cells, known_cells, number_cells, state_cells, text_cells};
+ghost use Rattle.desk_sql_layout.specs.Shown.{EndsOnDay, bytes_cells, ending_cells};
+ghost use Rattle.desk_sql_layout.specs.Shown.{known_cells, number_cells, state_cells, text_cells};
 
 use crate::columns::{
     bytes_at, day_at, duty_state_at, flag_at, number_at, profile_at, release_state_at, text_at,

@@ -9,4 +9,3 @@ pub mod Auditing
 pub mod Converting
 pub mod Migrating
 pub mod Meaning
-pub mod Proposing

@@ -13,13 +13,11 @@
 //!   which version to which a file was migrated (`specs/Migrating.antt`).
 //! - `gather` writes the document of a tree of files (`specs/Gathering.antt`), and `lint` what is
 //!   wrong in it (`specs/Linting.antt`).
-//! - `propose` writes the conclusions that are proposed for a document (`specs/Proposing.antt`),
-//!   and `write_proposals` those for one that was read already.
 //! - `convert` writes the tag-value document that says the same as one in JSON, and `document_of`
 //!   takes either (`specs/Converting.antt`).
 //! - `explain` writes what a name means (`specs/Meaning.antt`).
 //! - `tell` writes the reply to a request, and a `Teller` says in words why it was refused.
-//!   `desk_views` has the subcommands that show what a desk holds.
+//!   `desk_views` has the subcommands that show what a desk holds or propose.
 //! - `Failure` and `Trouble` say in words what failed, and what to do.
 #![tactic(auto)]
 
@@ -34,7 +32,6 @@ mod linting;
 mod listing;
 mod meaning;
 mod migrating;
-mod proposing;
 mod report;
 mod scripting;
 mod teller;
@@ -53,7 +50,6 @@ pub use linting::{lint, tell_blanks};
 pub use listing::alternatives;
 pub use meaning::explain;
 pub use migrating::tell_migration;
-pub use proposing::{propose, refuse_document, write_proposals};
 pub use scripting::script;
 pub use teller::Teller;
 pub use trouble::{PortTrouble, Trouble};

@@ -2,4 +2,5 @@ pub mod Showing
 pub mod Listing
 pub mod Wanting
 pub mod Paging
+pub mod Proposals
 pub mod Proposing

@@ -13,7 +13,7 @@ use Rattle.desk_snapshot.specs.Rows.{is_attachment, is_conclusion}
 use Rattle.desk_snapshot.specs.declared.rows.StoredDocument.{StoredDocument}
 use Rattle.desk_snapshot.specs.declared.rows.StoredRelease.{StoredRelease}
 use Rattle.desk_snapshot.specs.declared.snapshot.Snapshot.{Snapshot}
-use Rattle.desk_subcommands.specs.Proposing.{HasLines, IsRefused}
+use Rattle.desk_views.specs.Proposals.{HasLines, IsRefused}
 use Rattle.desk_tagvalue.specs.Documents.{Spells}
 use Rattle.desk_tagvalue.specs.Parts.{DocumentText, PackageText}
 

@@ -1,5 +1,5 @@
 //! What an office looks at in a desk, written out: the texts of its answers, lists of what it
-//! holds, what keeps a release from being frozen.
+//! holds, what is proposed, what keeps a release from being frozen.
 //!
 //! Each function is given what it writes about and a writer, and returns the program's status, as
 //! those of `desk_subcommands` do.
@@ -11,8 +11,9 @@
 //! - `page` writes a page on a release (`specs/Paging.antt`).
 //! - `write_choices` writes choices as the requests that make them, and `write_choices_for` those
 //!   for a document.
-//! - `propose_held` writes the conclusions that are proposed for a document that a desk holds
-//!   (`specs/Proposing.antt`); `document_row` finds the document, and `open_releases` the releases
+//! - `propose` writes the conclusions that are proposed for a document (`specs/Proposals.antt`),
+//!   `write_proposals` those for one that was read already, and `propose_held` those for one that a
+//!   desk holds (`specs/Proposing.antt`); `document_row` finds it, and `open_releases` the releases
 //!   for which choices of its packages are made.
 //! - `tell_wanting` writes the refusals that keep a release from being frozen, one on each line
 //!   (`specs/Wanting.antt`).
@@ -21,6 +22,7 @@
 mod choosing;
 mod listing;
 mod paging;
+mod proposals;
 mod proposing;
 mod showing;
 mod wanting;
@@ -28,6 +30,7 @@ mod wanting;
 pub use choosing::{write_choices, write_choices_for};
 pub use listing::{write_documents, write_duties, write_releases};
 pub use paging::page;
+pub use proposals::{propose, refuse_document, write_proposals};
 pub use proposing::{document_row, open_releases, propose_held};
 pub use showing::show;
 pub use wanting::tell_wanting;

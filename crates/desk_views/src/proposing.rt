@@ -12,12 +12,13 @@ ghost use Rattle.desk_tagvalue.specs.Views.{package_text};
 ghost use Rattle.desk_subcommands.specs.Failures.{IfMemory, IsOfOutput};
 ghost use Rattle.desk_views.specs.Proposing.{ProposesHeld, document_held, is_document, is_open_with, open_releases_with, with_conclusion};
 
+use crate::proposals::{refuse_document, write_proposals};
 use desk_access::texts::Texts;
 use desk_base::{Items, Text};
 use desk_lists::profile_at;
 use desk_model::ReleaseState;
 use desk_snapshot::{ByAttachment, ByPackage, Snapshot, StoredDocument, StoredRelease};
-use desk_subcommands::{Failure, refuse_document, write_proposals};
+use desk_subcommands::Failure;
 use desk_tagvalue::{Document, Package, read};
 use std::alloc::{AllocError, Global};
 use std::io::Write;

@@ -2,7 +2,7 @@ use Rattle.std.proofs.Common.{◌≡◌, inl, of_z, pos, rules, subst, sym, to_z
 use Rattle.std.proofs.lemmas.Result.{IfOk-weaker}
 use Rattle.desk_base.specs.declared.profile.Profile.{Profile}
 use Rattle.desk_findings.specs.Fields.{IsReading}
-use Rattle.desk_subcommands.specs.Proposing.{HasLines}
+use Rattle.desk_views.specs.Proposals.{HasLines}
 use Rattle.desk_tagvalue.specs.Documents.{document_text}
 use Rattle.desk_tagvalue.specs.Parts.{DocumentText}
 use Rattle.desk_views.proofs.proposing.propose_held.Goals as goal

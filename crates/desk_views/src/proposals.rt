@@ -7,14 +7,13 @@ ghost use Rattle.desk_findings.specs.Fields.{IsReading};
 ghost use Rattle.desk_model.specs.Readings.{Readings};
 ghost use Rattle.desk_tagvalue.specs.Documents.{document_text};
 ghost use Rattle.desk_subcommands.specs.Failures.{IfMemory, IsOfOutput};
-ghost use Rattle.desk_subcommands.specs.Proposing.{HasLines, IsRefused, Proposes};
+ghost use Rattle.desk_views.specs.Proposals.{HasLines, IsRefused, Proposes};
 
-use crate::failure::Failure;
-use crate::filing::tell;
 use desk_access::texts::Texts;
 use desk_base::Profile;
 use desk_import::{Proposals, proposals_of};
 use desk_model::{Answer, Outcome, Refusal};
+use desk_subcommands::{Failure, tell};
 use desk_tagvalue::{Document, read};
 use std::alloc::{AllocError, Global};
 use std::io::Write;

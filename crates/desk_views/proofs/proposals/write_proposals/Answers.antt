@@ -1,6 +1,6 @@
 use Rattle.std.proofs.Common.{refl}
 use Rattle.desk_subcommands.proofs.WriterLemmas.{appends_kept}
-use Rattle.desk_subcommands.proofs.proposing.write_proposals.Goals as goal
+use Rattle.desk_views.proofs.proposals.write_proposals.Goals as goal
 
 pub returns-clause-told : goal.returns-clause-told
 returns-clause-told g c = λ reads is. (

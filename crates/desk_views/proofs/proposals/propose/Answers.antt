@@ -1,7 +1,7 @@
 use Rattle.std.proofs.Common.{inl, inr}
 use Rattle.std.proofs.lemmas.Result.{IfOk-weaker}
 use Rattle.desk_tagvalue.specs.Documents.{document_text}
-use Rattle.desk_subcommands.proofs.proposing.propose.Goals as goal
+use Rattle.desk_views.proofs.proposals.propose.Goals as goal
 
 pub returns-in-Ok-clause-told : goal.returns-in-Ok-clause-told
 returns-in-Ok-clause-told g c = λ w reads right is.
