@@ -4,7 +4,6 @@ use Rattle.std.proofs.Common.{◌++◌, [], length, get_or, take, drop, map, ref
 use Rattle.std.specs.List.{list_all}
 use Rattle.std.specs.Prelude.{◌&&◌, alloc_error}
 use Rattle.std.proofs.lemmas.List.{drop_more, take_more, map_push}
-use denote.Ref.{Bor}
 use Rattle.desk_expr.specs.Faults.{fault_number}
 use Rattle.desk_expr.specs.declared.fault.ParseFault.{ParseFault}
 use Rattle.desk_expr.specs.declared.fault.ParseFault.TheVariants.{Memory}
@@ -12,7 +11,6 @@ use Rattle.desk_tree_annotations.specs.declared.glob.Piece.{Piece}
 use Rattle.desk_tree_annotations.specs.Glob.{Spells}
 use Rattle.desk_tree_annotations.proofs.GlobOnce.{spells_once}
 use Rattle.desk_tree_annotations.specs.Right.{Tells, Reading, IsRight}
-use Rattle.desk_base.specs.Borrowed.{texts}
 
 pub tells_once : (text : List ℕ) (a b : Bool) → Tells text a → Tells text b → a ≡ b
 tells_once text true true h k = refl
@@ -45,27 +43,26 @@ not_memory fault some (inl is) = let zero = ap fault_number is in absurd (omega 
 not_memory fault some (inr p) = p
 
 -- an expression that is one, and one that isn't
-pub all_go : (test : List ℕ → Bool) (listed : List (Bor (List ℕ))) (i : ℕ) (v : Bor (List ℕ))
-    → i < length listed → test (get_or listed i v).now ≡ true
-    → list_all test (texts (drop (i + 1) listed)) ≡ list_all test (texts (drop i listed))
+pub all_go : (test : List ℕ → Bool) (listed : List (List ℕ)) (i : ℕ) (v : List ℕ)
+    → i < length listed → test (get_or listed i v) ≡ true
+    → list_all test (drop (i + 1) listed) ≡ list_all test (drop i listed)
 all_go test listed i v within is =
-    sym (ap (λ b. b && list_all test (texts (drop (i + 1) listed))) is)
-    ∙ ap (λ l. list_all test (texts l)) (sym (drop_more listed i v within))
+    sym (ap (λ b. b && list_all test (drop (i + 1) listed)) is)
+    ∙ ap (list_all test) (sym (drop_more listed i v within))
 
-pub all_stop : (test : List ℕ → Bool) (listed : List (Bor (List ℕ))) (i : ℕ) (v : Bor (List ℕ))
-    → i < length listed → test (get_or listed i v).now ≡ false
-    → false ≡ list_all test (texts (drop i listed))
+pub all_stop : (test : List ℕ → Bool) (listed : List (List ℕ)) (i : ℕ) (v : List ℕ)
+    → i < length listed → test (get_or listed i v) ≡ false
+    → false ≡ list_all test (drop i listed)
 all_stop test listed i v within is =
-    sym (ap (λ b. b && list_all test (texts (drop (i + 1) listed))) is)
-    ∙ ap (λ l. list_all test (texts l)) (sym (drop_more listed i v within))
+    sym (ap (λ b. b && list_all test (drop (i + 1) listed)) is)
+    ∙ ap (list_all test) (sym (drop_more listed i v within))
 
 -- the pieces of one more pattern
-pub pieces_more : (f : List ℕ → List Piece) (listed : List (Bor (List ℕ))) (i : ℕ)
-    (v : Bor (List ℕ)) (pieces : List Piece) (old : List (List Piece)) → i < length listed
-    → pieces ≡ f (get_or listed i v).now → old ≡ map f (texts (take i listed))
-    → old ++ pieces ∷ [] ≡ map f (texts (take (i + 1) listed))
+pub pieces_more : (f : List ℕ → List Piece) (listed : List (List ℕ)) (i : ℕ) (v : List ℕ)
+    (pieces : List Piece) (old : List (List Piece)) → i < length listed
+    → pieces ≡ f (get_or listed i v) → old ≡ map f (take i listed)
+    → old ++ pieces ∷ [] ≡ map f (take (i + 1) listed)
 pieces_more f listed i v pieces old within is so_far =
-    ap (λ o. o ++ pieces ∷ []) so_far ∙ ap (λ x. map f (texts (take i listed)) ++ x ∷ []) is
-    ∙ sym (ap (λ l. map f (texts l)) (take_more listed i v within)
-    ∙ (ap (map f) (map_push (λ (t : Bor (List ℕ)). t.now) (take i listed) (get_or listed i v))
-    ∙ map_push f (texts (take i listed)) (get_or listed i v).now))
+    ap (λ o. o ++ pieces ∷ []) so_far ∙ ap (λ x. map f (take i listed) ++ x ∷ []) is
+    ∙ sym (ap (map f) (take_more listed i v within)
+    ∙ map_push f (take i listed) (get_or listed i v))

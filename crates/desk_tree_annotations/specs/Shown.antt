@@ -3,7 +3,6 @@ use Rattle.std.specs.Prelude.{◌≡◌, Result, Ok, Err}
 use Rattle.desk_tree_annotations.specs.declared.fault.AnnotationsFault.{AnnotationsFault}
 use Rattle.desk_tree_annotations.specs.declared.entries.Written.{Written}
 use Rattle.desk_tree_annotations.specs.Reading.{Read, WrittenTexts}
-use Rattle.desk_base.specs.Borrowed.{texts_in}
 
 -- a result is what is read, as it is shown
 abbrev pub Gives : {A B : Type 0} → Read B → (A → B) → Result A AnnotationsFault → Type 0
@@ -12,8 +11,8 @@ Gives read show (Err fault) = read ≡ Err fault
 
 abbrev pub written_in : Written → WrittenTexts
 written_in w = record {
-  paths = texts_in w.paths;
+  paths = w.paths;
   precedence = w.precedence.now;
-  notices = texts_in w.notices;
-  licences = texts_in w.licences;
+  notices = w.notices;
+  licences = w.licences;
 }

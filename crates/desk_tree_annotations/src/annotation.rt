@@ -1,7 +1,7 @@
 //! Annotations.
 
 use crate::glob::Glob;
-use crate::shared::SharedText;
+use crate::shared::SharedTexts;
 use desk_base::Items;
 
 /// How an annotation relates to what a file states itself.
@@ -23,9 +23,9 @@ pub struct Annotation {
     /// How it relates to what a file states itself.
     pub precedence: Precedence,
     /// Copyright notices, as they are written.
-    pub notices: Items<SharedText>,
+    pub notices: SharedTexts,
     /// Licence expressions, as they are written.
-    pub licences: Items<SharedText>,
+    pub licences: SharedTexts,
 }
 
 /// The annotations of a REUSE.toml.

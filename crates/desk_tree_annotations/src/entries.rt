@@ -11,24 +11,26 @@ ghost use Rattle.desk_tree_annotations.specs.Shown.{Gives, written_in};
 use crate::annotation::Annotation;
 use crate::expressions::are_expressions;
 use crate::fault::{AnnotationFault, AnnotationsFault};
-use crate::values::{copies, globs, member, precedence_of, precedence_text, texts_at, texts_of};
+use crate::shared::SharedTexts;
+use crate::values::{globs, member, precedence_of, precedence_text, texts_at, texts_of};
+use desk_base::TextList;
 use std::alloc::{AllocError, Global};
 use toml::{Table, Value};
 
 /// The texts of an annotation.
 #[derive(Drop)]
 pub(crate) struct Written<'a> {
-    pub(crate) paths: Vec<&'a str>,
+    pub(crate) paths: TextList,
     pub(crate) precedence: &'a str,
-    pub(crate) notices: Vec<&'a str>,
-    pub(crate) licences: Vec<&'a str>,
+    pub(crate) notices: TextList,
+    pub(crate) licences: TextList,
 }
 
 // The texts of an annotation that has a path.
 fn written_by<'a>(
     alloc: Global,
     table: &'a Table,
-    path: &'a Value,
+    path: &Value,
     index: usize,
 ) -> Result<Result<Written<'a>, AnnotationsFault>, AllocError>
     ensures { let ms = table_view table.now in IfOk result
@@ -78,26 +80,23 @@ fn written_at(
 // The annotation with these texts.
 fn annotation_of(
     alloc: Global,
-    written: &Written<'_>,
+    written: Written<'_>,
     index: usize,
 ) -> Result<Result<Annotation, AnnotationsFault>, AllocError>
     ensures { (r : Reading) → IsRight r → IfOk result (λ a.
-        a ≡ annotation_of r index (written_in written.now)) }
+        a ≡ annotation_of r index (written_in written.entry)) }
 {
     let Some(precedence) = precedence_of(written.precedence) else {
         return Ok(Err(AnnotationsFault::BadAnnotation(index, AnnotationFault::BadPrecedence)));
     };
-    if !are_expressions(alloc, written.licences.as_slice())? {
+    if !are_expressions(alloc, &written.licences)? {
         return Ok(Err(AnnotationsFault::BadAnnotation(index, AnnotationFault::BadExpression)));
     }
-    let paths = globs(alloc, written.paths.as_slice())?;
-    let notices = copies(alloc, written.notices.as_slice())?;
-    let licences = copies(alloc, written.licences.as_slice())?;
     Ok(Ok(Annotation {
-        paths,
+        paths: globs(alloc, &written.paths)?,
         precedence,
-        notices,
-        licences,
+        notices: SharedTexts::of(alloc, written.notices)?,
+        licences: SharedTexts::of(alloc, written.licences)?,
     }))
 }
 
@@ -111,7 +110,7 @@ pub(crate) fn annotation_at(
         → IfOk result (λ a. a ≡ annotation_at r index (view value.now)) }
 {
     match written_at(alloc, value, index)? {
-        Ok(written) => annotation_of(alloc, &written, index),
+        Ok(written) => annotation_of(alloc, written, index),
         Err(fault) => Ok(Err(fault)),
     }
 }

@@ -3,8 +3,8 @@
 ghost use Rattle.std.specs.Prelude.{◌≡◌, true, IfOk, IfSome};
 ghost use Rattle.std.specs.List.{list_all};
 ghost use Rattle.desk_tree_annotations.specs.Right.{Tells, Reading, IsRight};
-ghost use Rattle.desk_base.specs.Borrowed.{texts};
 
+use desk_base::TextList;
 use desk_expr::{parse, told};
 use std::alloc::{AllocError, Global};
 
@@ -41,12 +41,12 @@ pub fn is_expression_beside(
 }
 
 /// Whether each text is a licence expression.
-pub(crate) fn are_expressions(alloc: Global, listed: &[&str]) -> Result<bool, AllocError>
+pub(crate) fn are_expressions(alloc: Global, listed: &TextList) -> Result<bool, AllocError>
     ensures { (r : Reading) → IsRight r
-        → IfOk result (λ b. b ≡ list_all r.is_expression (texts listed.now)) }
+        → IfOk result (λ b. b ≡ list_all r.is_expression listed.now) }
 {
-    for text in listed {
-        let is_read = is_expression(alloc, text)?;
+    for place in 0..listed.len() {
+        let is_read = is_expression(alloc, listed.at(place))?;
         if !is_read {
             return Ok(false);
         }

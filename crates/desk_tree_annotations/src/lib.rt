@@ -22,8 +22,8 @@
 //!   reads in the text and, from a `Reading`, the pieces of patterns and which texts are licence
 //!   expressions. `read` returns this for each reading that is right by the definitions of patterns
 //!   and of `desk_expr` (`IsRight`); they all give the same answer (`one_reading`).
-//! - The notices and licences of an annotation are each a `SharedText`: all files for which it
-//!   counts hold them without a copy.
+//! - The notices and licences of an annotation are `SharedTexts`: they stand in one buffer, and all
+//!   files for which it counts hold each, a `SharedText`, without a copy.
 //! - `Annotations::sift` goes on after faults: it returns all annotations that can be read, and the
 //!   fault of each other one (`specs/Sifting.antt`). If `read` returns annotations, they are the
 //!   same, and if not, its fault is the first (`reading_is_sifting`).
@@ -51,6 +51,6 @@ pub use fault::{AnnotationFault, AnnotationsFault};
 pub use glob::{Glob, Piece, each_text_is_a_glob, one_glob};
 pub use info::{Info, header, one_header};
 pub use laws::{one_reading, reading_is_sifting};
-pub use shared::SharedText;
+pub use shared::{SharedText, SharedTexts};
 pub use sifting::Sifted;
 pub use tags::Tagged;

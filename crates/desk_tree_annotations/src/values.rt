@@ -5,12 +5,10 @@ ghost use Rattle.toml.specs.Data.{get_member, as_integer};
 ghost use Rattle.toml.specs.View.{view, table_view, items_view};
 ghost use Rattle.desk_tree_annotations.specs.Right.{Reading, IsRight};
 ghost use Rattle.desk_tree_annotations.specs.Values.{strings, texts_of, texts_at, precedence_text, precedence_of, is_version};
-ghost use Rattle.desk_base.specs.Borrowed.{texts, texts_in};
 
 use crate::annotation::Precedence;
 use crate::glob::Glob;
-use crate::shared::SharedText;
-use desk_base::Items;
+use desk_base::{Items, TextList};
 use std::alloc::{AllocError, Global};
 use toml::{Table, Value};
 
@@ -32,10 +30,10 @@ pub(crate) fn is_version(value: Option<&Value>) -> bool
 }
 
 // The texts of a list that holds nothing else.
-fn strings<'a>(alloc: Global, values: &'a [Value]) -> Result<Option<Vec<&'a str>>, AllocError>
-    ensures { IfOk result (λ r. option_map texts_in r ≡ strings (items_view values.now)) }
+fn strings(alloc: Global, values: &[Value]) -> Result<Option<TextList>, AllocError>
+    ensures { IfOk result (λ r. r ≡ strings (items_view values.now)) }
 {
-    let mut texts = Vec::new(alloc);
+    let mut texts = TextList::new(alloc);
     for value in values {
         match value.as_str() {
             Some(text) => texts.push(text)?,
@@ -46,11 +44,11 @@ fn strings<'a>(alloc: Global, values: &'a [Value]) -> Result<Option<Vec<&'a str>
 }
 
 /// The texts of a value, which is a text or a list of texts.
-pub(crate) fn texts_of(alloc: Global, value: &Value) -> Result<Option<Vec<&str>>, AllocError>
-    ensures { IfOk result (λ r. option_map texts_in r ≡ texts_of (view value.now)) }
+pub(crate) fn texts_of(alloc: Global, value: &Value) -> Result<Option<TextList>, AllocError>
+    ensures { IfOk result (λ r. r ≡ texts_of (view value.now)) }
 {
     if let Some(text) = value.as_str() {
-        let mut texts = Vec::new(alloc);
+        let mut texts = TextList::new(alloc);
         texts.push(text)?;
         return Ok(Some(texts));
     }
@@ -61,17 +59,16 @@ pub(crate) fn texts_of(alloc: Global, value: &Value) -> Result<Option<Vec<&str>>
 }
 
 /// The texts at a key, or none if it is absent.
-pub(crate) fn texts_at<'a>(
+pub(crate) fn texts_at(
     alloc: Global,
-    table: &'a Table,
+    table: &Table,
     key: &str,
-) -> Result<Option<Vec<&'a str>>, AllocError>
-    ensures { IfOk result (λ r. option_map texts_in r
-        ≡ texts_at (get_member key.now (table_view table.now))) }
+) -> Result<Option<TextList>, AllocError>
+    ensures { IfOk result (λ r. r ≡ texts_at (get_member key.now (table_view table.now))) }
 {
     match member(table, key) {
         Some(value) => texts_of(alloc, value),
-        None => Ok(Some(Vec::new(alloc))),
+        None => Ok(Some(TextList::new(alloc))),
     }
 }
 
@@ -102,24 +99,13 @@ pub(crate) fn precedence_of(text: &str) -> Option<Precedence>
     None
 }
 
-/// Copies of texts.
-pub(crate) fn copies(alloc: Global, listed: &[&str]) -> Result<Items<SharedText>, AllocError>
-    ensures { IfOk result (λ v. v ≡ texts listed.now) }
-{
-    let mut copies = Items::new(alloc);
-    for text in listed {
-        copies.push(SharedText::of(alloc, text)?)?;
-    }
-    Ok(copies)
-}
-
 /// The patterns that these texts are.
-pub(crate) fn globs(alloc: Global, listed: &[&str]) -> Result<Items<Glob>, AllocError>
-    ensures { (r : Reading) → IsRight r → IfOk result (λ v. v ≡ map r.pieces (texts listed.now)) }
+pub(crate) fn globs(alloc: Global, listed: &TextList) -> Result<Items<Glob>, AllocError>
+    ensures { (r : Reading) → IsRight r → IfOk result (λ v. v ≡ map r.pieces listed.now) }
 {
     let mut globs = Items::new(alloc);
-    for text in listed {
-        let glob = Glob::parse(alloc, text)?;
+    for place in 0..listed.len() {
+        let glob = Glob::parse(alloc, listed.at(place))?;
         globs.push(glob)?;
     }
     Ok(globs)

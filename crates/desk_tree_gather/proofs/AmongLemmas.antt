@@ -164,6 +164,23 @@ pub set_once : (xs ys : Texts) → ((t : List ℕ) → is_among xs t ≡ is_amon
 set_once xs ys same = sorted_once (sorted_set xs) (sorted_set ys) (set_sorted xs) (set_sorted ys)
     (λ t. among-set xs t ∙ same t ∙ sym (among-set ys t))
 
+-- the set has these texts and no others
+pub to_set : (xs : Texts) (t : List ℕ) → Contains xs t → Contains (sorted_set xs) t
+to_set xs t at = among_to (sorted_set xs) t (among-set xs t ∙ among_from xs t at)
+
+pub from_set : (xs : Texts) (t : List ℕ) → Contains (sorted_set xs) t → Contains xs t
+from_set xs t at = among_to xs t (sym (among-set xs t) ∙ among_from (sorted_set xs) t at)
+
+-- a sorted list with the same texts is the set
+pub set_by_members : (xs ys : Texts) → IsStrictlySortedBy order ys
+    → ((t : List ℕ) → Contains ys t → Contains xs t)
+    → ((t : List ℕ) → Contains xs t → Contains ys t) → ys ≡ sorted_set xs
+set_by_members xs ys up own all =
+    same_sorted order nat_list_cmp_total ys (sorted_set xs) up (set_sorted xs) (λ t. (
+      (λ at. to_set xs t (own t at)),
+      (λ at. all t (from_set xs t at)),
+    ))
+
 pub set_filtered : (p : List ℕ → Bool) (xs ys : Texts)
     → ((t : List ℕ) → is_among ys t ≡ (is_among xs t && p t))
     → sorted_set ys ≡ filter p (sorted_set xs)

@@ -1,7 +1,7 @@
 -- The texts that no earlier file has.
 use Rattle.std.proofs.Common.{◌≡◌, ◌∙◌, ℕ, ◌+◌, ◌<◌, Bool, true, false, cond, List, [], ◌∷◌, ◌++◌}
 use Rattle.std.proofs.Common.{length, get_or, take, drop, map, sym, ap, refl, filter, append_assoc}
-use Rattle.std.specs.Prelude.{◌||◌, ◌&&◌, not, OnOk, Result, Ok, Err}
+use Rattle.std.specs.Prelude.{◌||◌, ◌&&◌, not}
 use Rattle.std.specs.Str.{bytes_eq}
 use Rattle.std.specs.List.{flat_map}
 use Rattle.std.specs.BTreeSet.{BTreeSet, UpdatesBy}
@@ -173,10 +173,6 @@ pub still_seen : (ys : List (List ℕ)) (s new : BTreeSet (Bor (List ℕ))) (l a
     → AddsUnseen ys s new l after → (t : List ℕ) → has_text s t ≡ true → has_text new t ≡ true
 still_seen ys s new l after adds t has = adds.seen t ∙ ap (λ b. is_among ys t || b) has
     ∙ or_true (is_among ys t)
-
-pub on_ok : {T E : Type 0} (result : Result T E) {P : Type 0} → P → OnOk result P
-on_ok (Ok x) holds = holds
-on_ok (Err e) holds = tt
 
 -- ---- files one after another
 

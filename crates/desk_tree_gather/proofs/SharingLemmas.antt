@@ -97,7 +97,7 @@ texts_at-drop all of numbers i d within =
 not_zero : (n : ℕ) → (suc n == 0) ≡ false
 not_zero n = grind (arith, nat_tests)
 
-none_test : (xs : List (List ℕ)) → (length xs == 0) ≡ is_none xs
+pub none_test : (xs : List (List ℕ)) → (length xs == 0) ≡ is_none xs
 none_test [] = refl
 none_test (x ∷ xs) = not_zero (length xs)
 
@@ -107,13 +107,12 @@ some_first (x ∷ xs) ys is = refl
 
 -- there are some at a number
 pub some_there : (all : List Annotation) (of : Subject) (numbers : List ℕ) (i d : ℕ)
-    (own texts : List (List ℕ)) → i < length numbers
-    → texts ≡ texts_at all of (get_or numbers i d ∷ []) → (length texts == 0) ≡ false
+    (own : List (List ℕ)) → i < length numbers
+    → is_none (texts_at all of (get_or numbers i d ∷ [])) ≡ false
     → is_none (texts_at all of (drop i numbers) ++ own) ≡ false
-some_there all of numbers i d own texts within are some =
+some_there all of numbers i d own within some =
     ap (λ l. is_none (l ++ own)) (texts_at-drop all of numbers i d within)
     ∙ ap is_none (append_assoc (texts_at all of (get_or numbers i d ∷ []))
     (texts_at all of (drop (i + 1) numbers)) own)
     ∙ some_first (texts_at all of (get_or numbers i d ∷ []))
-    (texts_at all of (drop (i + 1) numbers) ++ own)
-    (ap is_none (sym are) ∙ sym (none_test texts) ∙ some)
+    (texts_at all of (drop (i + 1) numbers) ++ own) some

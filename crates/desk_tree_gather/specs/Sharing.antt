@@ -1,6 +1,6 @@
 -- What files share: the texts of an annotation are kept once, and each file for which it counts has
 -- its number, its place among all.
-use Rattle.std.specs.Prelude.{ℕ, Bool, true, false, List, [], ◌∷◌, ◌++◌, map}
+use Rattle.std.specs.Prelude.{ℕ, Bool, true, false, List, [], ◌∷◌, ◌++◌, map, Option, Some, None}
 use Rattle.std.specs.List.{slice_get, flat_map, filter_map}
 use Rattle.desk_model.specs.Texts.{sorted_set}
 use Rattle.desk_tree_annotations.specs.declared.annotation.Annotation.{Annotation}
@@ -23,6 +23,11 @@ texts_at all of numbers = flat_map (texts_of of) (annotations_at all numbers)
 -- that, and a file's own texts
 abbrev pub all_texts : List Annotation → Subject → Sources → List (List ℕ)
 all_texts all of sources = texts_at all of sources.numbers.items ++ sources.own.items
+
+-- texts, or none
+abbrev pub texts_or_none : Option (List (List ℕ)) → List (List ℕ)
+texts_or_none (Some texts) = texts
+texts_or_none None = []
 
 -- where a file's texts come from
 abbrev pub sources_in : Subject → Covered → Sources

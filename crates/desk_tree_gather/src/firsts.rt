@@ -10,7 +10,7 @@ use crate::information::{Sources, Subject, texts_at};
 use crate::infos::Covered;
 use crate::sets::shared_set;
 use desk_base::Items;
-use desk_tree_annotations::{Annotation, SharedText};
+use desk_tree_annotations::{Annotation, SharedText, SharedTexts};
 use std::alloc::{AllocError, Global};
 use std::collections::BTreeSet;
 
@@ -48,6 +48,25 @@ fn add_unseen<'m>(
     Ok(())
 }
 
+// Adds the texts of a list that weren't seen before.
+fn add_listed<'m>(
+    seen: &mut BTreeSet<&'m str>,
+    texts: &'m SharedTexts,
+    list: &mut Vec<SharedText>,
+) -> Result<(), AllocError>
+    ensures { OnOk result (AddsUnseen texts.now seen.old seen.new list.old.items list.new.items) }
+{
+    for place in 0..texts.len() {
+        let text = texts.at(place);
+        if seen.contains(text) {
+            continue;
+        }
+        seen.insert(text)?;
+        list.push(texts.shared(place)?)?;
+    }
+    Ok(())
+}
+
 // Adds the texts of an annotation that weren't seen before: none if the annotation was seen.
 fn add_annotation<'m>(
     of: Subject,
@@ -65,7 +84,10 @@ fn add_annotation<'m>(
     if !added {
         return Ok(());
     }
-    add_unseen(&mut seen.texts, texts_at(of, all, number), list)
+    match texts_at(of, all, number) {
+        Some(texts) => add_listed(&mut seen.texts, texts, list),
+        None => Ok(()),
+    }
 }
 
 // The texts of a file that weren't seen before.
@@ -88,7 +110,7 @@ fn unseen<'m>(
         add_annotation(of, all, *number, seen, &mut list)?;
     }
     add_unseen(&mut seen.texts, sources.own.as_slice(), &mut list)?;
-    shared_set(alloc, list)
+    Ok(shared_set(list))
 }
 
 /// For each file the texts that no file before it has.

@@ -19,10 +19,10 @@ use crate::files::{File, SourceFile, bytes_at, files_of, is_covered, tree_of};
 use crate::folders::{Folders, by_folder};
 use crate::information::{Sources, Subject, given};
 use crate::infos::{Covered, Infos};
-use crate::sets::shared_set;
+use crate::sets::set_in;
 use crate::tomls::tomls_of;
 use crate::trail::Trail;
-use desk_base::{Items, Text};
+use desk_base::{Items, Text, TextList};
 use desk_tree_annotations::{Annotation, Info, SharedText, Tagged, header, is_expression_beside};
 use std::alloc::{AllocError, Global};
 use std::collections::BTreeMap;
@@ -120,12 +120,12 @@ fn own_of<'a>(
     stated_in(alloc, held.path.as_str(), held.bytes)
 }
 
-fn values(alloc: Global, tags: &[Tagged<'_>]) -> Result<Vec<SharedText>, AllocError>
-    ensures { IfOk result (λ v. v.items ≡ values (map tag_text tags.now)) }
+fn values(alloc: Global, tags: &[Tagged<'_>]) -> Result<TextList, AllocError>
+    ensures { IfOk result (λ list. list ≡ values (map tag_text tags.now)) }
 {
-    let mut values = Vec::with_capacity(alloc, tags.len())?;
+    let mut values = TextList::new(alloc);
     for tag in tags {
-        values.push(SharedText::of(alloc, tag.value)?)?;
+        values.push(tag.value)?;
     }
     Ok(values)
 }
@@ -143,8 +143,8 @@ fn given_of(
         (given of (values (map tag_text own.now)) (annotations_at all.now counting.now))) }
 {
     let listed = values(alloc, own)?;
-    let own = shared_set(alloc, listed)?;
-    given(alloc, of, own.into_vec(), all, counting)
+    let own = set_in(alloc, listed)?;
+    given(alloc, of, own, all, counting)
 }
 
 /// The information of a file, from its own and the annotations that count.

@@ -3,9 +3,9 @@
 ghost use Rattle.std.specs.Prelude.{◌≡◌, ◌++◌, ◌∷◌, [], List, IfOk, OnOk, option_map, option_to_list};
 ghost use Rattle.std.specs.List.{slice_get};
 ghost use Rattle.desk_tree_gather.specs.Information.{texts_of, some_or, given};
-ghost use Rattle.desk_tree_gather.specs.Sharing.{annotations_at, texts_at, all_texts};
+ghost use Rattle.desk_tree_gather.specs.Sharing.{annotations_at, texts_at, texts_or_none, all_texts};
 
-use desk_tree_annotations::{Annotation, Precedence, SharedText};
+use desk_tree_annotations::{Annotation, Precedence, SharedText, SharedTexts};
 use std::alloc::{AllocError, Global};
 
 /// What is asked about a file.
@@ -32,22 +32,27 @@ pub(crate) fn annotation_at(all: &[Annotation], number: usize) -> Option<&Annota
 }
 
 // The texts of an annotation.
-fn texts_of<'m>(of: Subject, annotation: &'m Annotation) -> &'m [SharedText]
+fn texts_of<'m>(of: Subject, annotation: &'m Annotation) -> &'m SharedTexts
     ensures { result.now ≡ texts_of of annotation.now }
 {
     match of {
-        Subject::Notices => annotation.notices.as_slice(),
-        Subject::Licences => annotation.licences.as_slice(),
+        Subject::Notices => &annotation.notices,
+        Subject::Licences => &annotation.licences,
     }
 }
 
-/// The texts of the annotation with a number.
-pub(crate) fn texts_at<'m>(of: Subject, all: &'m [Annotation], number: usize) -> &'m [SharedText]
-    ensures { result.now ≡ texts_at all.now of (number ∷ []) }
+/// The texts of the annotation with a number, if there is one.
+pub(crate) fn texts_at<'m>(
+    of: Subject,
+    all: &'m [Annotation],
+    number: usize,
+) -> Option<&'m SharedTexts>
+    ensures { texts_or_none (option_map (λ texts. texts.now) result)
+        ≡ texts_at all.now of (number ∷ []) }
 {
     match annotation_at(all, number) {
-        Some(annotation) => texts_of(of, annotation),
-        None => &[],
+        Some(annotation) => Some(texts_of(of, annotation)),
+        None => None,
     }
 }
 

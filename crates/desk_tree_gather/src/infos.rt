@@ -1,17 +1,17 @@
 //! The information of files, which share what annotations give.
 
-ghost use Rattle.std.specs.Prelude.{◌≡◌, ◌++◌, IfOk, OnOk, length, map};
+ghost use Rattle.std.specs.Prelude.{◌≡◌, ◌++◌, ◌∷◌, [], IfOk, OnOk, length, map};
 ghost use Rattle.std.specs.List.{flat_map};
 ghost use Rattle.desk_model.specs.Texts.{sorted_set};
 ghost use Rattle.desk_tree_gather.specs.Firsts.{first_in, first_texts, firsts_of, texts_in};
-ghost use Rattle.desk_tree_gather.specs.Sharing.{all_texts, sources_in, info_at, infos_at, is_none, outline_of, outline_in};
+ghost use Rattle.desk_tree_gather.specs.Sharing.{texts_at, all_texts, sources_in, info_at, infos_at, is_none, outline_of, outline_in};
 
 use crate::firsts::{First, firsts_of};
 use crate::gathering::FileInfo;
 use crate::information::{Sources, Subject, texts_at};
 use crate::sets::shared_set;
 use desk_base::{Items, Text};
-use desk_tree_annotations::{Annotation, SharedText};
+use desk_tree_annotations::{Annotation, SharedText, SharedTexts};
 use std::alloc::{AllocError, Global};
 use std::marker::Model;
 
@@ -75,6 +75,32 @@ fn add(list: &mut Vec<SharedText>, more: &[SharedText]) -> Result<(), AllocError
     Ok(())
 }
 
+// Adds the texts of a list to others.
+fn add_listed(list: &mut Vec<SharedText>, more: &SharedTexts) -> Result<(), AllocError>
+    ensures { OnOk result (list.new.items ≡ list.old.items ++ more.now) }
+{
+    for place in 0..more.len() {
+        list.push(more.shared(place)?)?;
+    }
+    Ok(())
+}
+
+// Adds the texts of the annotation with a number to others.
+fn add_at(
+    of: Subject,
+    all: &[Annotation],
+    number: usize,
+    list: &mut Vec<SharedText>,
+) -> Result<(), AllocError>
+    ensures { OnOk result (list.new.items
+        ≡ list.old.items ++ texts_at all.now of (number ∷ [])) }
+{
+    match texts_at(of, all, number) {
+        Some(texts) => add_listed(list, texts),
+        None => Ok(()),
+    }
+}
+
 // The texts of a file, each once, in byte order.
 fn set_of(
     alloc: Global,
@@ -86,10 +112,10 @@ fn set_of(
 {
     let mut list = Vec::new(alloc);
     for number in sources.numbers.as_slice() {
-        add(&mut list, texts_at(of, all, *number))?;
+        add_at(of, all, *number, &mut list)?;
     }
     add(&mut list, sources.own.as_slice())?;
-    shared_set(alloc, list)
+    Ok(shared_set(list))
 }
 
 /// The information of a file.
@@ -107,12 +133,22 @@ pub(crate) fn info_at(
     })
 }
 
+// Whether there are no texts of the annotation with a number.
+fn has_none_at(of: Subject, all: &[Annotation], number: usize) -> bool
+    ensures { result ≡ is_none (texts_at all.now of (number ∷ [])) }
+{
+    match texts_at(of, all, number) {
+        Some(texts) => texts.is_empty(),
+        None => true,
+    }
+}
+
 // Whether a file has no texts.
 fn has_none(of: Subject, all: &[Annotation], sources: &Sources) -> bool
     ensures { result ≡ is_none (all_texts all.now of sources.now) }
 {
     for number in sources.numbers.as_slice() {
-        if !texts_at(of, all, *number).is_empty() {
+        if !has_none_at(of, all, *number) {
             return false;
         }
     }
@@ -169,7 +205,7 @@ fn distinct_in(alloc: Global, firsts: &[First<'_>]) -> Result<Items<SharedText>,
     for first in firsts {
         add(&mut list, first.texts.as_slice())?;
     }
-    shared_set(alloc, list)
+    Ok(shared_set(list))
 }
 
 impl Infos {

@@ -33,11 +33,13 @@ fn has_blank_end(text: &str) -> bool
 fn has_blank(annotation: &Annotation) -> bool
     ensures { result ≡ has_blank annotation.now }
 {
-    annotation
-        .licences
-        .as_slice()
-        .iter()
-        .any(|licence| has_blank_end(licence.as_str()))
+    let licences = &annotation.licences;
+    for place in 0..licences.len() {
+        if has_blank_end(licences.at(place)) {
+            return true;
+        }
+    }
+    false
 }
 
 // Adds an annotation if it has such a licence.

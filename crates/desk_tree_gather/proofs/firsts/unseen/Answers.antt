@@ -1,9 +1,8 @@
-use Rattle.std.proofs.Common.{◌≡◌, ◌∙◌, ◌++◌, [], subst}
-use Rattle.std.specs.Prelude.{IfOk}
+use Rattle.std.proofs.Common.{◌∙◌, ◌++◌, [], subst}
 use Rattle.std.proofs.lemmas.List.{take_all}
 use Rattle.desk_tree_gather.specs.Firsts.{AddsUnseen}
 use Rattle.desk_tree_gather.specs.Sharing.{texts_at}
-use Rattle.desk_tree_gather.proofs.FirstsLemmas.{adds_both, on_ok, still_seen, unseen_set}
+use Rattle.desk_tree_gather.proofs.FirstsLemmas.{adds_both, still_seen, unseen_set}
 use Rattle.desk_tree_gather.proofs.SharingLemmas.{texts_at-take}
 use Rattle.desk_tree_gather.proofs.firsts.unseen.Goals as goal
 use Rattle.desk_tree_gather.proofs.firsts.unseen.Goals.{After-shared_set}
@@ -44,19 +43,17 @@ whole c =
     c.in_ok-add_unseen.ensures)
 
 pub returns-clause-knows : goal.returns-clause-knows
-returns-clause-knows c =
-    on_ok c.shared_set.result (λ number has t among.
+returns-clause-knows c = λ number has t among.
     still_seen c.as_slice.result.now c.loop-number.seen.texts c.add_unseen.new.seen
     c.loop-number.list.items c.add_unseen.new.list.items c.in_ok-add_unseen.ensures t
-    (c.loop-number.invariant.knows number has t among))
+    (c.loop-number.invariant.knows number has t among)
 
 pub returns-clause-seen : goal.returns-clause-seen
-returns-clause-seen c = on_ok c.shared_set.result (whole c).seen
+returns-clause-seen c = (whole c).seen
 
 pub returns-clause-unseen : goal.returns-clause-unseen
 returns-clause-unseen c =
-    subst (λ l. IfOk c.shared_set.result (λ texts. texts ≡ l))
-    (unseen_set (texts_at c.args.all.now c.args.of c.args.sources.now.numbers.items
-    ++ c.args.sources.now.own.items) c.args.seen.now.texts c.add_unseen.new.seen
-    c.add_unseen.new.list.items (whole c))
     c.shared_set.ensures
+    ∙ unseen_set (texts_at c.args.all.now c.args.of c.args.sources.now.numbers.items
+    ++ c.args.sources.now.own.items) c.args.seen.now.texts c.add_unseen.new.seen
+    c.add_unseen.new.list.items (whole c)

@@ -15,6 +15,6 @@ returns c =
     (λ g is.
     ap sorted_set is
     ∙ ap (λ l. sorted_set (given c.args.of l found))
-    (c.into_vec.ensures ∙ c.in_ok-own.ensures ∙ ap sorted_set c.in_ok-listed.ensures)
+    (c.in_ok-own.ensures ∙ ap sorted_set c.in_ok-listed.ensures)
     ∙ given_set c.args.of (values (map tag_text c.args.own.now)) found)
     c.given.ensures

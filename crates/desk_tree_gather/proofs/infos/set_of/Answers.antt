@@ -1,10 +1,13 @@
-use Rattle.std.proofs.Common.{◌∙◌, ◌++◌}
+use Rattle.std.proofs.Common.{◌∙◌, ◌++◌, ◌∷◌, [], get_or}
+use Rattle.desk_tree_gather.specs.Sharing.{texts_at}
 use Rattle.desk_tree_gather.proofs.SharingLemmas.{texts_at-take}
 use Rattle.desk_tree_gather.proofs.infos.set_of.Goals as goal
 
 pub loop-number-preserved : goal.loop-number-preserved
 loop-number-preserved c =
-    c.in_ok-add.ensures
-    ∙ (λ i. c.loop-number.invariant i ++ c.texts_at.ensures i)
-    ∙ texts_at-take c.args.all.now c.args.of c.as_slice-number-items.result.now
-    c.loop-number.number-index _ c.loop-number-test.true
+    let all = c.args.all.now in
+    let numbers = c.as_slice-number-items.result.now in
+    let number = get_or numbers c.loop-number.number-index 0 in
+    c.in_ok-add_at.ensures
+    ∙ (λ i. c.loop-number.invariant i ++ texts_at all c.args.of (number ∷ []))
+    ∙ texts_at-take all c.args.of numbers c.loop-number.number-index 0 c.loop-number-test.true
