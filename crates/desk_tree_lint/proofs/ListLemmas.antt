@@ -3,6 +3,8 @@ use Rattle.std.proofs.Common.{◌≡◌, ◌∙◌, ℕ, ◌+◌, ◌<◌, Bool,
 use Rattle.std.proofs.Common.{◌++◌, length, get_or, drop, map, sym, ap, refl, append_assoc}
 use Rattle.std.specs.Prelude.{filter, ◌||◌}
 use Rattle.std.proofs.lemmas.List.{drop_more}
+use denote.Ref.{Bor}
+use Rattle.desk_base.specs.Borrowed.{texts}
 use Rattle.desk_catalogue.specs.Values.{is_among}
 use Rattle.desk_tree_lint.specs.declared.texts.LicenceText.{LicenceText}
 use Rattle.desk_tree_lint.specs.Texts.{TextFile}
@@ -17,18 +19,18 @@ key_kept : (b : Bool) (x text : List ℕ) (rest : List (List ℕ)) → text ≡ 
 key_kept true x text rest is = ap (λ t. t ∷ rest) is
 key_kept false x text rest is = refl
 
-pub missing_more : (used : List (List ℕ)) (texts : List TextFile) (i : ℕ) (d : List ℕ)
-    (done : List (List ℕ)) (b : Bool) (text : List ℕ) → i < length used
-    → text ≡ get_or used i d → b ≡ not (is_among (map (λ (t : TextFile). t.key) texts)
-    (get_or used i d))
-    → (done ++ only b text) ++ missing (drop (i + 1) used) texts ≡ done
-    ++ missing (drop i used) texts
-missing_more used texts i d done b text within is lacks =
-    let rest = missing (drop (i + 1) used) texts in
-    let x = get_or used i d in
+pub missing_more : (used : List (Bor (List ℕ))) (listed : List TextFile) (i : ℕ)
+    (d : Bor (List ℕ)) (done : List (List ℕ)) (b : Bool) (text : List ℕ) → i < length used
+    → text ≡ (get_or used i d).now → b ≡ not (is_among (map (λ (t : TextFile). t.key) listed)
+    (get_or used i d).now)
+    → (done ++ only b text) ++ missing (texts (drop (i + 1) used)) listed ≡ done
+    ++ missing (texts (drop i used)) listed
+missing_more used listed i d done b text within is lacks =
+    let rest = missing (texts (drop (i + 1) used)) listed in
+    let x = (get_or used i d).now in
     append_assoc done (only b text) rest
     ∙ ap (λ l. done ++ l) (key_kept b x text rest is ∙ ap (λ t. cond t (x ∷ rest) rest) lacks
-    ∙ sym (ap (λ l. missing l texts) (drop_more used i d within)))
+    ∙ sym (ap (λ l. missing (texts l) listed) (drop_more used i d within)))
 
 path_kept : (b : Bool) (x : TextFile) (path : List ℕ) (rest : List TextFile) → path ≡ x.path
     → only b path ++ map (λ (t : TextFile). t.path) rest

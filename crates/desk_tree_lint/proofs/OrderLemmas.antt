@@ -11,16 +11,24 @@ use Rattle.std.specs.Ordering.{is_lt, ordering_reverse}
 use Rattle.std.specs.List.Sorted.{IsStrictlySortedBy, IsSortedBy, IsBinarySearchResult, IsSearchInRange}
 use Rattle.std.proofs.lemmas.Bool.{cases_Bool, false≢true}
 use Rattle.std.proofs.lemmas.Cmp.{nat_list_cmp_total}
-use Rattle.std.proofs.lemmas.List.{get_or-map, length-map, map-id}
+use Rattle.std.proofs.lemmas.List.{get_or-map, length-map}
 use Rattle.std.proofs.lemmas.List.Sorted.{searchable_from_sorted}
 use Rattle.std.proofs.lemmas.Map.Keys.{Less-from_sorted}
 use Rattle.std.proofs.lemmas.Map.Text.{is_eq-slice_cmp}
 use Rattle.std.proofs.str.Laws.{order}
+use denote.Ref.{Bor}
+use Rattle.desk_base.specs.Borrowed.{texts}
 use Rattle.desk_catalogue.specs.Values.{is_among}
 
 pub or_true : (b : Bool) → (b || true) ≡ true
 or_true true = refl
 or_true false = refl
+
+-- tests that imply one another
+pub both_ways : (a b : Bool) → (a ≡ true → b ≡ true) → (b ≡ true → a ≡ true) → a ≡ b
+both_ways true b to from = sym (to refl)
+both_ways false true to from = from refl
+both_ways false false to from = refl
 
 module _ {A : Type 0} (text_of : A → List ℕ) where
   -- a text that stands at a place
@@ -69,18 +77,15 @@ module _ {A : Type 0} (text_of : A → List ℕ) where
       (order k i))
 
 -- whether halving finds a text among others in order
-pub halved : (keys : List (List ℕ)) (key : List ℕ) (r : Result ℕ ℕ)
-    → IsStrictlySortedBy (slice_cmp nat_cmp) keys → IsSearchInRange r (length keys)
-    → IsBinarySearchResult (λ k. slice_cmp nat_cmp k key) keys r
-    → is_ok r ≡ is_among keys key
+pub halved : (keys : List (Bor (List ℕ))) (key : Bor (List ℕ)) (r : Result ℕ ℕ)
+    → IsStrictlySortedBy (slice_cmp nat_cmp) (texts keys) → IsSearchInRange r (length keys)
+    → IsBinarySearchResult (λ (k : Bor (List ℕ)). slice_cmp nat_cmp k.now key.now) keys r
+    → is_ok r ≡ is_among (texts keys) key.now
 halved keys key (Ok i) up within h =
-    sym (ap (λ ks. is_among ks key) (sym (map-id keys))
-    ∙ among_at (λ k. k) keys key i key within
-    (sym (is_eq-slice_cmp (get_or keys i key) key) ∙ ap is_eq (h key)))
-halved keys key (Err i) up within h =
-    sym (ap (λ ks. is_among ks key) (sym (map-id keys))
-    ∙ halved_none (λ k. k) keys key i
-    (subst (IsStrictlySortedBy (slice_cmp nat_cmp)) (sym (map-id keys)) up) h)
+    sym (among_at (λ (k : Bor (List ℕ)). k.now) keys key.now i key within
+    (sym (is_eq-slice_cmp (get_or keys i key).now key.now) ∙ ap is_eq (h key)))
+halved keys key (Err i) up within h = sym (halved_none (λ (k : Bor (List ℕ)). k.now) keys key.now i
+    up h)
 
 -- ---- texts sorted, each once
 

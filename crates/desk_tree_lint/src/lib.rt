@@ -17,6 +17,8 @@ mod linting;
 mod lists;
 mod names;
 mod naming;
+mod ordering;
+mod path;
 mod texts;
 mod used;
 

@@ -12,6 +12,7 @@ ghost use Rattle.desk_tree_lint.specs.Used.{AreUsed};
 ghost use Rattle.desk_tree_lint.specs.Lists.{lists_of, IsLint};
 
 use crate::lists::{Lint, bare, missing, unused};
+use crate::ordering::ordered;
 use crate::texts::text_files;
 use crate::used::used;
 use desk_tree_gather::{First, GatherFault, Infos, SourceFile, Subject, gathered, tree_of};
@@ -30,7 +31,8 @@ pub fn lists_of<'a>(
         → IfOk result (λ l. (keys : List (List ℕ)) × AreUsed infos.now keys
         × (l ≡ lists_of infos.now keys (text_files (tree_in tree.now)))) }
 {
-    let keys = used(alloc, firsts)?;
+    let used = used(alloc, firsts)?;
+    let keys = ordered(alloc, &used)?;
     let texts = text_files(alloc, tree)?;
     Ok(Lint {
         missing: missing(alloc, keys.as_slice(), texts.as_slice())?,

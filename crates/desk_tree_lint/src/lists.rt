@@ -13,7 +13,7 @@ ghost use Rattle.desk_tree_lint.specs.Shown.{bytes_in, only, texts_in};
 ghost use Rattle.desk_base.specs.Borrowed.{texts};
 
 use crate::texts::LicenceText;
-use desk_base::{Items, Key, Text, TextList};
+use desk_base::{Items, Text, TextList};
 use desk_tree_gather::{Infos, Outline};
 use std::alloc::{AllocError, Global};
 use std::collections::BTreeSet;
@@ -64,10 +64,11 @@ fn known_by<'a>(
 }
 
 // Whether a key is among others, which are in order.
-fn has_key(keys: &[Key], key: &Key) -> bool
-    ensures { IsStrictlySortedBy (slice_cmp nat_cmp) keys.now → result ≡ is_among keys.now key.now }
+fn has_key(keys: &[&str], key: &str) -> bool
+    ensures { IsStrictlySortedBy (slice_cmp nat_cmp) (texts keys.now)
+        → result ≡ is_among (texts keys.now) key.now }
 {
-    keys.binary_search(key).is_ok()
+    keys.binary_search(&key).is_ok()
 }
 
 // Adds a text if it belongs to a list.
@@ -98,16 +99,16 @@ fn add_key_if(list: &mut TextList, belongs: bool, key: &str) -> Result<(), Alloc
 /// The keys that are used and have no text.
 pub(crate) fn missing(
     alloc: Global,
-    used: &[Key],
+    used: &[&str],
     listed: &[LicenceText<'_>],
 ) -> Result<TextList, AllocError>
-    ensures { IfOk result (λ lacking. lacking ≡ missing used.now (texts_in listed.now)) }
+    ensures { IfOk result (λ lacking. lacking ≡ missing (texts used.now) (texts_in listed.now)) }
 {
     let known = known_by(alloc, listed)?;
     let mut lacking = TextList::new(alloc);
     for key in used {
-        let lacks = !known.contains(key.as_str());
-        add_key_if(&mut lacking, lacks, key.as_str())?;
+        let lacks = !known.contains(*key);
+        add_key_if(&mut lacking, lacks, key)?;
     }
     Ok(lacking)
 }
@@ -115,15 +116,15 @@ pub(crate) fn missing(
 /// The paths of the texts whose keys aren't used. The keys that are used are in order.
 pub(crate) fn unused(
     alloc: Global,
-    used: &[Key],
+    used: &[&str],
     listed: &[LicenceText<'_>],
 ) -> Result<Items<Text>, AllocError>
-    ensures { IsStrictlySortedBy (slice_cmp nat_cmp) used.now
-        → IfOk result (λ paths. paths ≡ unused used.now (texts_in listed.now)) }
+    ensures { IsStrictlySortedBy (slice_cmp nat_cmp) (texts used.now)
+        → IfOk result (λ paths. paths ≡ unused (texts used.now) (texts_in listed.now)) }
 {
     let mut paths = Items::new(alloc);
     for text in listed {
-        let needless = !has_key(used, &text.key);
+        let needless = !has_key(used, text.key.as_str());
         add_if(alloc, &mut paths, needless, text.path)?;
     }
     Ok(paths)

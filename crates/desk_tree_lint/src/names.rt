@@ -3,8 +3,8 @@
 ghost use Rattle.std.specs.Prelude.{◌≡◌, ◌<◌, ◌++◌, ◌∷◌, [], length, slice_index_or, IfOk, OnOk};
 
 use crate::naming::Name;
+use crate::path::SharedPath;
 use desk_base::{Text, TextList};
-use desk_tree_annotations::SharedText;
 use std::alloc::{AllocError, Global};
 use std::marker::Model;
 
@@ -13,7 +13,7 @@ use std::marker::Model;
 #[derive(Drop)]
 pub struct Names {
     ids: TextList,
-    paths: Vec<Option<SharedText>>,
+    paths: Vec<Option<SharedPath>>,
 }
 
 impl Model for Names {
@@ -54,7 +54,7 @@ impl Names {
         let id = Text::of(alloc, self.ids.at(place))?;
         match &self.paths[place] {
             Some(path) => {
-                let path = Some(path.clone()?);
+                let path = Some(Text::of(alloc, path.as_str())?);
                 Ok(Name { id, path })
             }
             None => Ok(Name { id, path: None }),
@@ -62,7 +62,7 @@ impl Names {
     }
 
     /// Adds a name at the end.
-    pub(crate) fn push(&mut self, id: &str, path: Option<SharedText>) -> Result<(), AllocError>
+    pub(crate) fn push(&mut self, id: &str, path: Option<SharedPath>) -> Result<(), AllocError>
         ensures { OnOk result (self.new ≡ self.old ++ (record { id = id.now; path = path }) ∷ []) }
     {
         // With room for the path the identifier is never added alone.

@@ -7,6 +7,7 @@ ghost use Rattle.std.specs.List.Sorted.{IsStrictlySortedBy};
 ghost use Rattle.std.specs.Ordering.{nat_cmp};
 ghost use Rattle.desk_base.specs.Borrowed.{texts, texts_in};
 ghost use Rattle.desk_catalogue.specs.Values.{is_among};
+ghost use Rattle.desk_model.specs.Texts.{sorted_set};
 ghost use Rattle.desk_tree_gather.specs.Firsts.{first_in, firsts_of};
 ghost use Rattle.desk_tree_gather.specs.declared.gathering.FileInfo.{FileInfo};
 ghost use Rattle.desk_tree_gather.specs.declared.information.Subject.TheVariants.{Licences};
@@ -15,6 +16,8 @@ ghost use Rattle.desk_tree_lint.specs.declared.naming.Asked.{Asked};
 ghost use Rattle.desk_tree_lint.specs.Firsts.{mention_in, asked_in, asked_of, keys_asked, Holds, first_mentions};
 
 use crate::names::Names;
+use crate::ordering::ordered;
+use crate::path::SharedPath;
 use crate::texts::key_of;
 use desk_base::{Text, TextList};
 use desk_tree_annotations::SharedText;
@@ -27,14 +30,14 @@ pub struct Name {
     /// The identifier as it was first written.
     pub id: Text,
     /// The first file that names it.
-    pub path: Option<SharedText>,
+    pub path: Option<Text>,
 }
 
 // An identifier and the file that names it.
 #[derive(Drop)]
 pub(crate) struct Mention<'a> {
     pub(crate) id: &'a str,
-    pub(crate) path: SharedText,
+    pub(crate) path: SharedPath,
 }
 
 // A key that is asked for, and its first mention so far.
@@ -114,29 +117,6 @@ fn ids(alloc: Global, licence: &str) -> Result<Vec<&str>, AllocError>
     Ok(found)
 }
 
-// The texts themselves.
-fn borrowed(alloc: Global, keys: &TextList) -> Result<Vec<&str>, AllocError>
-    ensures { IfOk result (λ v. texts_in v ≡ keys.now) }
-{
-    let mut borrowed = Vec::with_capacity(alloc, keys.len())?;
-    for place in 0..keys.len() {
-        borrowed.push(keys.at(place))?;
-    }
-    Ok(borrowed)
-}
-
-// The keys in byte order, each once.
-fn ordered(alloc: Global, keys: &TextList) -> Result<Vec<&str>, AllocError>
-    ensures ordered { IfOk result (λ v. IsStrictlySortedBy (slice_cmp nat_cmp) (texts_in v)) }
-    ensures members { IfOk result (λ v. (key : List ℕ) → is_among keys.now key ≡ true
-        → is_among (texts_in v) key ≡ true) }
-{
-    let mut keys = borrowed(alloc, keys)?;
-    keys.sort_unstable();
-    keys.dedup();
-    Ok(keys)
-}
-
 // The keys with no mentions.
 fn unmentioned<'k, 'a>(alloc: Global, keys: &[&'k str]) -> Result<Vec<Asked<'k, 'a>>, AllocError>
     ensures { IfOk result (λ v. map asked_in v.items ≡ asked_of (texts keys.now) []) }
@@ -149,6 +129,14 @@ fn unmentioned<'k, 'a>(alloc: Global, keys: &[&'k str]) -> Result<Vec<Asked<'k, 
         })?;
     }
     Ok(asked)
+}
+
+// The keys in byte order, each once, with no mentions.
+fn asked_for<'k, 'a>(alloc: Global, keys: &'k TextList) -> Result<Vec<Asked<'k, 'a>>, AllocError>
+    ensures { IfOk result (λ v. map asked_in v.items ≡ asked_of (sorted_set keys.now) []) }
+{
+    let ordered = ordered(alloc, keys)?;
+    unmentioned(alloc, ordered.as_slice())
 }
 
 // The place of a key among those that are asked for.
@@ -168,7 +156,7 @@ fn place_of(asked: &[Asked<'_, '_>], key: &str) -> Option<usize>
 fn keep<'a>(
     alloc: Global,
     asked: &mut [Asked<'_, 'a>],
-    path: &SharedText,
+    path: &SharedPath,
     id: &'a str,
 ) -> Result<(), AllocError>
     ensures { OnOk result ((keys : List (List ℕ)) (ms : List MentionText)
@@ -190,7 +178,7 @@ fn keep<'a>(
 fn keep_each<'a>(
     alloc: Global,
     asked: &mut [Asked<'_, 'a>],
-    path: &SharedText,
+    path: &SharedPath,
     ids: &[&'a str],
 ) -> Result<(), AllocError>
     ensures { OnOk result ((keys : List (List ℕ)) (ms : List MentionText) → Holds keys ms asked.old
@@ -206,7 +194,7 @@ fn keep_each<'a>(
 fn keep_licence<'a>(
     alloc: Global,
     asked: &mut [Asked<'_, 'a>],
-    path: &SharedText,
+    path: &SharedPath,
     licence: &'a str,
 ) -> Result<(), AllocError>
     ensures { OnOk result ((keys : List (List ℕ)) (ms : List MentionText) → Holds keys ms asked.old
@@ -220,7 +208,7 @@ fn keep_licence<'a>(
 fn keep_licences<'a>(
     alloc: Global,
     asked: &mut [Asked<'_, 'a>],
-    path: &SharedText,
+    path: &SharedPath,
     licences: &'a [SharedText],
 ) -> Result<(), AllocError>
     ensures { OnOk result ((keys : List (List ℕ)) (ms : List MentionText)
@@ -243,7 +231,7 @@ fn keep_firsts<'a>(
         → Holds keys (first_mentions (map first_in listed.now)) asked.new) }
 {
     for first in listed {
-        let path = SharedText::of(alloc, first.path)?;
+        let path = SharedPath::of(alloc, first.path)?;
         keep_licences(alloc, asked, &path, first.texts.as_slice())?;
     }
     Ok(())
@@ -295,8 +283,7 @@ pub fn names_of(alloc: Global, firsts: &[First<'_>], keys: &TextList) -> Result<
     ensures { (infos : List FileInfo) → map first_in firsts.now ≡ firsts_of Licences infos
         → IfOk result (λ names. names ≡ map (name_of infos) keys.now) }
 {
-    let ordered = ordered(alloc, keys)?;
-    let mut asked = unmentioned(alloc, ordered.as_slice())?;
+    let mut asked = asked_for(alloc, keys)?;
     keep_firsts(alloc, asked.as_mut_slice(), firsts)?;
     each_name(alloc, asked.as_slice(), keys)
 }

@@ -13,7 +13,7 @@ use crate::problems::Problems;
 use crate::row::{Kind, Row, row_of};
 use desk_base::{Items, Text};
 use desk_expr::{ParseFault, parse};
-use desk_tree_annotations::{AnnotationFault, SharedText};
+use desk_tree_annotations::AnnotationFault;
 use desk_tree_gather::Flaw;
 use desk_tree_lint::{Name, Names};
 use std::alloc::{AllocError, Global};
@@ -239,7 +239,7 @@ fn add_blanks(alloc: Global, rows: &mut Vec<Row>, blanks: &[Blank]) -> Result<()
 }
 
 // Which file names a licence.
-fn named_words(alloc: Global, path: &Option<SharedText>) -> Result<String, AllocError>
+fn named_words(alloc: Global, path: &Option<Text>) -> Result<String, AllocError>
     ensures { IfOk result (λ words. string_bytes words ≡ named_words path.now) }
 {
     match path {

@@ -1,4 +1,5 @@
 use Rattle.std.proofs.Common.{◌∙◌, ap, not, drop, ◌++◌, ◌+◌}
+use Rattle.desk_base.specs.Borrowed.{texts}
 use Rattle.desk_catalogue.specs.Values.{is_among}
 use Rattle.desk_tree_lint.specs.Lists.{unused}
 use Rattle.desk_tree_lint.specs.Shown.{text_in, texts_in}
@@ -7,11 +8,12 @@ use Rattle.desk_tree_lint.proofs.lists.unused.Goals as goal
 
 pub loop-text-preserved : goal.loop-text-preserved
 loop-text-preserved c = λ up.
-    ap (λ l. l ++ unused c.args.used.now
+    ap (λ l. l ++ unused (texts c.args.used.now)
     (texts_in (drop (c.loop-text.text-index + 1) c.args.listed.now))) c.in_ok-add_if.ensures
-    ∙ unused_more c.args.used.now c.args.listed.now c.loop-text.text-index c.text-item.result
+    ∙ unused_more (texts c.args.used.now) c.args.listed.now c.loop-text.text-index c.text-item.result
     c.loop-text.paths _ _ c.loop-text-test.true
     (ap (λ t. (text_in t).path) c.text-item.is)
     (ap not (c.has_key-needless.ensures up
-    ∙ ap (is_among c.args.used.now) (ap (λ t. (text_in t).key) c.text-item.is)))
+    ∙ ap (is_among (texts c.args.used.now))
+    (c.as_str.ensures ∙ ap (λ t. (text_in t).key) c.text-item.is)))
     ∙ c.loop-text.invariant up

@@ -1,33 +1,33 @@
 use Rattle.std.proofs.Common.{◌≡◌, ◌∙◌, arith, [], ap, subst, sym, map, length, drop}
 use Rattle.std.specs.Prelude.{IfOk}
 use Rattle.std.proofs.lemmas.List.{take_at}
-use Rattle.desk_base.specs.Borrowed.{texts, texts_in}
+use Rattle.desk_model.specs.Texts.{sorted_set}
 use Rattle.desk_tree_gather.specs.declared.information.Subject.TheVariants.{Licences}
 use Rattle.desk_tree_gather.specs.Firsts.{firsts_of}
-use Rattle.desk_tree_lint.specs.Firsts.{Holds, asked_in, asked_of, first_mentions}
+use Rattle.desk_tree_gather.proofs.AmongLemmas.{among-set, set_sorted}
+use Rattle.desk_tree_lint.specs.Firsts.{Holds, asked_in, first_mentions}
 use Rattle.desk_tree_lint.specs.Naming.{name_by}
 use Rattle.desk_tree_lint.proofs.FirstLemmas.{mentions_alike}
 use Rattle.desk_tree_lint.proofs.naming.names_of.Goals as goal
 
 pub returns : goal.returns
 returns c = λ infos are.
-    let keys = texts_in c.in_ok-ordered.ordered in
+    let keys = sorted_set c.args.keys.now in
     let none : Holds keys [] c.as_mut_slice.result.now =
     record {
-      ordered = c.in_ok-ordered.ensures.ordered;
-      firsts = ap (map asked_in) c.as_mut_slice.ensures.value ∙ c.in_ok-asked.ensures
-          ∙ ap (λ ks. asked_of (texts ks) []) c.as_slice.ensures.value;
+      ordered = set_sorted c.args.keys.now;
+      firsts = ap (map asked_in) c.as_mut_slice.ensures.value ∙ c.in_ok-asked.ensures;
     } in
     let holds = subst (λ fs. Holds keys (first_mentions fs) c.keep_firsts.new.asked) are
     (c.in_ok-keep_firsts.ensures keys none) in
     let same : c.in_ok-asked.asked.len ≡ length c.keep_firsts.new.asked =
     omega (arith, c.as_mut_slice.ensures.len, c.keep_firsts.auto.asked) in
-    let back : c.as_slice-2.result.now ≡ c.keep_firsts.new.asked =
-    c.as_slice-2.ensures.value ∙ take_at c.keep_firsts.new.asked
+    let back : c.as_slice.result.now ≡ c.keep_firsts.new.asked =
+    c.as_slice.ensures.value ∙ take_at c.keep_firsts.new.asked
     (drop (length c.keep_firsts.new.asked) c.in_ok-asked.asked.items) c.in_ok-asked.asked.len
     (sym same) in
     subst (λ names. IfOk c.each_name.result (λ x. x ≡ names))
     (λ i. map (λ key. name_by key (sym (mentions_alike infos key) i)) c.args.keys.now)
     (c.each_name.ensures keys (first_mentions (firsts_of Licences infos))
     (subst (λ asked. Holds keys (first_mentions (firsts_of Licences infos)) asked) (sym back) holds)
-    c.in_ok-ordered.ensures.members)
+    (λ key has. among-set c.args.keys.now key ∙ has))

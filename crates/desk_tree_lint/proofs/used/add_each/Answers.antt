@@ -9,8 +9,8 @@ pub loop-licence-preserved : goal.loop-licence-preserved
 loop-licence-preserved c = λ key.
     along (some_more (λ text. Uses text key) c.args.licences.now c.loop-licence.licence-index
     c.licence-item.result _ _ c.loop-licence-test.true
-    (subst (λ t. Contains c.add_used.new.keys.items key
-    ↔ (Contains c.loop-licence.keys.items key ⊎ Uses t key)) (c.as_str.ensures ∙ c.licence-item.is)
+    (subst (λ t. Contains c.add_used.new.keys key
+    ↔ (Contains c.loop-licence.keys key ⊎ Uses t key)) (c.as_str.ensures ∙ c.licence-item.is)
     (c.in_ok-add_used.ensures key)))
     (c.loop-licence.invariant key)
 

@@ -7,13 +7,13 @@ use Rattle.desk_tree_lint.proofs.used.add_used.Goals as goal
 pub returns-in_ok-found-in-Ok : goal.returns-in_ok-found-in-Ok
 returns-in_ok-found-in-Ok c =
     added_by c.add_keys.result c.add_keys.ensures (λ added.
-    uses_these c.args.licence.now _ c.in_ok-found-in-Ok.found.items c.args.keys.now.items
-    c.add_keys.new.keys.items c.in-Ok.ensures.spelled c.in_ok-found-in-Ok.ensures.terms
+    uses_these c.args.licence.now _ c.in_ok-found-in-Ok.found.items c.args.keys.now
+    c.add_keys.new.keys c.in-Ok.ensures.spelled c.in_ok-found-in-Ok.ensures.terms
     c.in-Ok.ensures.only
-    (added ∙ ap (λ ts. c.args.keys.now.items ++ keys_in ts) c.as_slice.ensures.value))
+    (added ∙ ap (λ ts. c.args.keys.now ++ keys_in ts) c.as_slice.ensures.value))
 
 pub returns-in-Err : goal.returns-in-Err
 returns-in-Err c =
     added_by c.told.result c.told.ensures.text (λ some.
-    uses_none c.args.licence.now c.args.keys.now.items c.args.keys.now.items
+    uses_none c.args.licence.now c.args.keys.now c.args.keys.now
     (not_memory c.in-Err.fault some c.in-Err.ensures.complete) refl)

@@ -9,15 +9,15 @@ use Rattle.desk_tree_lint.proofs.used.each_used.Goals as goal
 
 pub loop-first-init : goal.loop-first-init
 loop-first-init c = λ key. some_start (λ (f : FirstTexts). IsUsedIn f.texts key)
-    (map first_in c.args.firsts.now) key c.new-keys.result.items c.new-keys.ensures.items
+    (map first_in c.args.firsts.now) key c.new-keys.result c.new-keys.ensures
 
 pub loop-first-preserved : goal.loop-first-preserved
 loop-first-preserved c = λ key.
     along (some_first (λ (f : FirstTexts). IsUsedIn f.texts key) _ _ _ _ _
     (ap (map first_in) (drop_more c.args.firsts.now c.loop-first.first-index c.first-item.result
     c.loop-first-test.true))
-    (subst (λ ts. Contains c.add_each.new.keys.items key
-    ↔ (Contains c.loop-first.keys.items key ⊎ IsUsedIn ts key))
+    (subst (λ ts. Contains c.add_each.new.keys key
+    ↔ (Contains c.loop-first.keys key ⊎ IsUsedIn ts key))
     (c.as_slice.ensures ∙ ap (λ (f : First). f.texts) c.first-item.is)
     (c.in_ok-add_each.ensures key)))
     (c.loop-first.invariant key)

@@ -7,5 +7,5 @@ use Rattle.desk_tree_lint.proofs.used.each_used.Given as goal
 -- what was added, and what is still to come, is all that is used
 abbrev pub invariant-loop-first : goal.invariant-loop-first
 invariant-loop-first l = (key : List ℕ)
-    → (Contains l.keys.items key ⊎ IsFirstUsed (map first_in (drop l.first-index l.firsts)) key)
+    → (Contains l.keys key ⊎ IsFirstUsed (map first_in (drop l.first-index l.firsts)) key)
     ↔ IsFirstUsed (map first_in l.firsts) key

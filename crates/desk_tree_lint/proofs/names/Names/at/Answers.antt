@@ -22,12 +22,13 @@ index-requires c = let s = c.self.inside in
       s.paths.ok.0,
     )
 
-pub returns-in_ok-clone-in-Some : goal.returns-in_ok-clone-in-Some
-returns-in_ok-clone-in-Some c =
+pub returns-in_ok-of-in-Some : goal.returns-in_ok-of-in-Some
+returns-in_ok-of-in-Some c =
     let s = c.self.inside in
     name_there s.ids s.paths.items c.args.self.now c.args.place c.in_ok-id.id _ c.index.result.now
     c.self.invariant c.self.view_is c.requires (c.in_ok-id.ensures ∙ c.at.ensures)
-    (ap Some c.in_ok-clone-in-Some.ensures.cases ∙ sym c.in-Some.is ∙ c.index.ensures)
+    (ap Some (c.in_ok-of-in-Some.ensures ∙ c.as_str.ensures) ∙ sym c.in-Some.is
+    ∙ c.index.ensures)
 
 pub returns-in-None : goal.returns-in-None
 returns-in-None c =
