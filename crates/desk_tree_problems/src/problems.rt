@@ -67,6 +67,8 @@ fn surveyed(alloc: Global, files: &[SourceFile]) -> Result<Problems, AllocError>
     ensures { (r : Reader) → IsRightReader r → IfOk result (AreProblems r files.now) }
 {
     let Surveyed { tree, flaws, infos } = survey(alloc, files)?;
+    // This reads each REUSE.toml again, so it comes before anything else that takes much memory.
+    let blanks = blanks_in(alloc, &tree)?;
     let firsts = infos.firsts(alloc, Subject::Licences)?;
     let Lint {
         missing,
@@ -79,7 +81,7 @@ fn surveyed(alloc: Global, files: &[SourceFile]) -> Result<Problems, AllocError>
     Ok(Problems {
         dep5,
         flaws,
-        blanks: blanks_in(alloc, &tree)?,
+        blanks,
         missing,
         names,
         unused: unused_unless(alloc, unsure, unused),
