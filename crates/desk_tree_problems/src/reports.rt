@@ -1,6 +1,6 @@
 //! The report on a tree.
 
-ghost use Rattle.std.specs.Prelude.{◌≡◌, List, IfOk};
+ghost use Rattle.std.specs.Prelude.{◌≡◌, [], List, IfOk};
 ghost use Rattle.desk_tree_gather.specs.Readers.{Reader, IsRightReader};
 ghost use Rattle.desk_tree_problems.specs.Reports.{text_of, AreBlankLines, IsReport};
 ghost use Rattle.desk_tree_problems.specs.Rows.{AreRows};
@@ -13,6 +13,7 @@ use crate::row::Kind;
 use crate::rows::rows_of;
 use crate::summary::lines_text;
 use crate::telling::problem_lines;
+use desk_base::TextList;
 use desk_tree_gather::SourceFile;
 use std::alloc::{AllocError, Global};
 
@@ -39,6 +40,16 @@ fn text_of(alloc: Global, json: bool, problems: &Problems) -> Result<Vec<u8>, Al
     }
 }
 
+// The problems without the keys of the missing texts: a report shows their names instead, and so
+// doesn't keep both.
+fn without_keys(alloc: Global, problems: Problems) -> Problems
+    ensures { result ≡ record problems { missing = [] } }
+{
+    let mut problems = problems;
+    problems.missing = TextList::new(alloc);
+    problems
+}
+
 /// The report on a tree, as lines or as a JSON object. The only error is lack of memory.
 ///
 /// For each right reader it is that of `IsReport`.
@@ -47,8 +58,9 @@ pub fn report_on(alloc: Global, files: &[SourceFile], json: bool) -> Result<Repo
 {
     let problems = problems_of(alloc, files)?;
     let number = number_of(&problems)?;
+    let shown = without_keys(alloc, problems);
     Ok(Report {
-        text: text_of(alloc, json, &problems)?,
+        text: text_of(alloc, json, &shown)?,
         is_clean: number == 0,
     })
 }
