@@ -7,7 +7,7 @@ use Rattle.desk_expr.specs.Spelling.{SpellsWithin}
 use Rattle.desk_alts.proofs.Texts.{tree_of_text}
 use Rattle.desk_tree_annotations.proofs.GlobOnce.{each_spelled}
 use Rattle.desk_tree_annotations.specs.Right.{Reading, IsRight, Tells}
-use Rattle.desk_tree_gather.specs.Readers.{Reader, IsRightReader}
+use Rattle.desk_tree_infos.specs.Readers.{Reader, IsRightReader}
 use Rattle.desk_laws.proofs.Matching.{decided}
 use Rattle.desk_laws.proofs.Stating.{stated}
 

@@ -10,7 +10,7 @@ use Rattle.desk_tree_annotations.specs.Runs.{RunText}
 use Rattle.desk_tree_annotations.specs.Tags.{IsClose, IsBare, Tells, Counts, seen_after, TagText}
 use Rattle.desk_tree_annotations.specs.Tags.{onto, Gives, IsInfo, notice_tag, licence_tag}
 use Rattle.desk_tree_annotations.proofs.EachRun.{shown_within}
-use Rattle.desk_tree_gather.specs.Readers.{Stated}
+use Rattle.desk_tree_infos.specs.Readers.{Stated}
 
 -- ---- values
 

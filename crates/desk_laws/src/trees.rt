@@ -8,12 +8,12 @@
 
 ghost use Rattle.std.specs.Prelude.{◌≡◌, List};
 ghost use Rattle.desk_tree_gather.specs.Gathering.{gathered};
-ghost use Rattle.desk_tree_gather.specs.Readers.{Reader, IsRightReader};
+ghost use Rattle.desk_tree_infos.specs.Readers.{Reader, IsRightReader};
 ghost use Rattle.desk_tree_gather.specs.Survey.{flaws_of, infos_sifted, kept};
 ghost use Rattle.desk_tree_gather.specs.Trees.{Read};
 ghost use Rattle.desk_tree_gather.specs.declared.files.SourceFile.{SourceFile};
 ghost use Rattle.desk_tree_gather.specs.declared.flaw.Flaw.{Flaw};
-ghost use Rattle.desk_tree_gather.specs.declared.gathering.FileInfo.{FileInfo};
+ghost use Rattle.desk_tree_infos.specs.declared.infos.FileInfo.{FileInfo};
 
 /// There is a right reader.
 pub fn right_reader_exists()

@@ -1,7 +1,7 @@
 -- What `gather` writes, and the status that it returns.
 use Rattle.std.specs.Prelude.{◌≡◌, ℕ, List, if◌then◌else◌}
 use Rattle.desk_tree_gather.specs.declared.files.SourceFile.{SourceFile}
-use Rattle.desk_tree_gather.specs.Readers.{Reader}
+use Rattle.desk_tree_infos.specs.Readers.{Reader}
 use Rattle.desk_tree_document.specs.Drafts.{Named}
 use Rattle.desk_tree_document.specs.declared.document.Gathering.{Gathering}
 use Rattle.desk_tree_document.specs.Gathering.{IsGathering, gathering_text, is_document}

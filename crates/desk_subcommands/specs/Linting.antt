@@ -1,7 +1,7 @@
 -- What `lint` writes, and the status that it returns.
 use Rattle.std.specs.Prelude.{◌≡◌, ℕ, Bool, List, if◌then◌else◌}
 use Rattle.desk_tree_gather.specs.declared.files.SourceFile.{SourceFile}
-use Rattle.desk_tree_gather.specs.Readers.{Reader}
+use Rattle.desk_tree_infos.specs.Readers.{Reader}
 use Rattle.desk_tree_problems.specs.declared.reports.Report.{Report}
 use Rattle.desk_tree_problems.specs.Reports.{IsReport}
 

@@ -2,7 +2,7 @@
 
 ghost use Rattle.std.specs.Prelude.{◌≡◌, ℕ, List, IfOk, IfErr};
 ghost use Rattle.std.specs.Io.KnownBytes.{Appends, Keeps};
-ghost use Rattle.desk_tree_gather.specs.Readers.{Reader, IsRightReader};
+ghost use Rattle.desk_tree_infos.specs.Readers.{Reader, IsRightReader};
 ghost use Rattle.desk_tree_document.specs.Gathering.{IsGathering, IsUnwritable};
 ghost use Rattle.desk_subcommands.specs.Failures.{IfBadValue, IfUntold, IsOfDocument};
 ghost use Rattle.desk_subcommands.specs.Gathering.{gathering_status, Gathers};

@@ -4,10 +4,10 @@ use Rattle.std.specs.Prelude.{◌||◌, Ok, Err}
 use Rattle.std.specs.List.{list_any}
 use Rattle.std.proofs.lemmas.List.{drop_more}
 use Rattle.desk_tree_gather.specs.declared.fault.GatherFault.{GatherFault}
-use Rattle.desk_tree_gather.specs.declared.gathering.FileInfo.{FileInfo}
+use Rattle.desk_tree_infos.specs.declared.infos.FileInfo.{FileInfo}
 use Rattle.desk_tree_gather.specs.declared.telling.ToldFile.{ToldFile}
-use Rattle.desk_tree_gather.specs.Readers.{Reader}
-use Rattle.desk_tree_gather.specs.Sharing.{OutlineText, outline_of}
+use Rattle.desk_tree_infos.specs.Readers.{Reader}
+use Rattle.desk_tree_infos.specs.Sharing.{OutlineText, outline_of}
 use Rattle.desk_tagvalue.specs.declared.drafts.DraftFile.{DraftFile}
 use Rattle.desk_tree_document.specs.Drafts.{is_bare}
 use Rattle.desk_tree_document.specs.Told.{file_told, files_told}

@@ -11,10 +11,10 @@ use Rattle.desk_tree_document.proofs.Digests.{length-sha1, sha1_bytes}
 use Rattle.desk_tree_document.proofs.Ships.{ships_draft}
 use Rattle.desk_tree_document.specs.Shipping.{IsDigest, IsTextOf, ShipsWhenRead}
 use Rattle.desk_tree_gather.specs.Gathering.{gathered}
-use Rattle.desk_tree_gather.specs.Readers.{Reader}
+use Rattle.desk_tree_infos.specs.Readers.{Reader}
 use Rattle.desk_tree_gather.specs.Trees.{bytes_of, tree_of}
 use Rattle.desk_tree_gather.specs.declared.files.SourceFile.{SourceFile}
-use Rattle.desk_tree_gather.specs.declared.gathering.FileInfo.{FileInfo}
+use Rattle.desk_tree_infos.specs.declared.infos.FileInfo.{FileInfo}
 use Rattle.desk_tagvalue.specs.declared.drafts.Draft.{Draft}
 use Rattle.desk_tagvalue.specs.declared.drafts.DraftFile.{DraftFile}
 

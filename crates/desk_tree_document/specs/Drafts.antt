@@ -6,11 +6,11 @@ use Rattle.desk_model.specs.Texts.{sorted_set}
 use Rattle.desk_tagvalue.specs.declared.drafts.Draft.{Draft}
 use Rattle.desk_tagvalue.specs.declared.drafts.DraftFile.{DraftFile}
 use Rattle.desk_tree_gather.specs.declared.files.SourceFile.{SourceFile}
-use Rattle.desk_tree_gather.specs.declared.gathering.FileInfo.{FileInfo}
-use Rattle.desk_tree_gather.specs.Readers.{Reader}
+use Rattle.desk_tree_infos.specs.declared.infos.FileInfo.{FileInfo}
+use Rattle.desk_tree_infos.specs.Readers.{Reader}
 use Rattle.desk_tree_gather.specs.Trees.{Read, bytes_of, tree_of}
 use Rattle.desk_tree_gather.specs.Gathering.{gathered}
-use Rattle.desk_tree_gather.specs.Sharing.{is_none}
+use Rattle.desk_tree_infos.specs.Sharing.{is_none}
 use Rattle.desk_tree_document.specs.Texts.{expression_read, copyright_of}
 use Rattle.desk_base.specs.Results.{then_read, followed}
 

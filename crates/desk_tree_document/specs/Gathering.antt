@@ -11,7 +11,7 @@ use Rattle.desk_tree_gather.specs.declared.fault.GatherFault.TheVariants.{BadExp
 use Rattle.desk_tree_gather.specs.declared.fault.GatherFault.TheVariants.{TwicePath, TooManyFiles}
 use Rattle.desk_tree_gather.specs.declared.fault.GatherFault.TheVariants.{ExpressionTooLong, Memory}
 use Rattle.desk_tree_gather.specs.declared.files.SourceFile.{SourceFile}
-use Rattle.desk_tree_gather.specs.Readers.{Reader}
+use Rattle.desk_tree_infos.specs.Readers.{Reader}
 use Rattle.desk_tree_document.specs.Drafts.{Named, draft_of}
 use Rattle.desk_tree_document.specs.Shipping.{ShipsWhenRead}
 use Rattle.desk_tagvalue.specs.declared.drafts.Draft.{Draft}

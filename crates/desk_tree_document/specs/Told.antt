@@ -2,9 +2,9 @@
 use Rattle.std.specs.Prelude.{ℕ, List, [], ◌∷◌, map, Ok}
 use Rattle.desk_tagvalue.specs.declared.drafts.Draft.{Draft}
 use Rattle.desk_tagvalue.specs.declared.drafts.DraftFile.{DraftFile}
-use Rattle.desk_tree_gather.specs.declared.gathering.FileInfo.{FileInfo}
+use Rattle.desk_tree_infos.specs.declared.infos.FileInfo.{FileInfo}
 use Rattle.desk_tree_gather.specs.declared.telling.ToldFile.{ToldFile}
-use Rattle.desk_tree_gather.specs.Readers.{Reader}
+use Rattle.desk_tree_infos.specs.Readers.{Reader}
 use Rattle.desk_tree_gather.specs.Trees.{Read}
 use Rattle.desk_tree_document.specs.Drafts.{Named, draft_with}
 use Rattle.desk_tree_document.specs.Texts.{expression_read, copyright_of}

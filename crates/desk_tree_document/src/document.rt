@@ -2,7 +2,7 @@
 
 ghost use Rattle.std.specs.Prelude.{◌≡◌, ◌++◌, [], All, IfOk, IfErr, codes, decimal};
 ghost use Rattle.std.specs.String.{string_bytes};
-ghost use Rattle.desk_tree_gather.specs.Readers.{Reader, IsRightReader};
+ghost use Rattle.desk_tree_infos.specs.Readers.{Reader, IsRightReader};
 ghost use Rattle.desk_tagvalue.specs.Drafts.{draft_lines};
 ghost use Rattle.desk_tagvalue.specs.Written.{Adds, Stands};
 ghost use Rattle.desk_tree_document.specs.Gathering.{fault_line, gathering_text, is_document, IsGathering, IsReadBack, MayFail};

@@ -2,7 +2,7 @@
 
 ghost use Rattle.std.specs.Prelude.{◌≡◌, ◌⊎◌, ℕ, List, IfOk, IfErr, Ok, Err, alloc_error, map};
 ghost use Rattle.desk_bom.specs.Codes.{IsCode};
-ghost use Rattle.desk_tree_gather.specs.Readers.{Reader, IsRightReader};
+ghost use Rattle.desk_tree_infos.specs.Readers.{Reader, IsRightReader};
 ghost use Rattle.desk_tree_document.specs.Drafts.{draft_with, draft_of};
 ghost use Rattle.desk_tree_document.specs.Shown.{Gives, named};
 ghost use Rattle.desk_tree_document.specs.Texts.{copyright_of, expression_read};

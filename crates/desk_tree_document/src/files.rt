@@ -2,8 +2,8 @@
 
 ghost use Rattle.std.specs.Prelude.{◌≡◌, IfOk, map};
 ghost use Rattle.std.specs.List.{list_any};
-ghost use Rattle.desk_tree_gather.specs.Readers.{Reader, IsRightReader};
-ghost use Rattle.desk_tree_gather.specs.Sharing.{outline_in};
+ghost use Rattle.desk_tree_infos.specs.Readers.{Reader, IsRightReader};
+ghost use Rattle.desk_tree_infos.specs.Sharing.{outline_in};
 ghost use Rattle.desk_tree_document.specs.Drafts.{package_licences, package_notices};
 ghost use Rattle.desk_tree_document.specs.Told.{file_told, files_told};
 ghost use Rattle.desk_tree_document.specs.Shown.{Gives};

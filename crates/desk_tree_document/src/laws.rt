@@ -9,7 +9,7 @@
 ghost use Rattle.std.specs.Prelude.{◌≡◌, List, ℕ, All, Ok};
 ghost use Rattle.desk_tree_document.specs.Drafts.{Named, draft_of};
 ghost use Rattle.desk_tree_document.specs.Shipping.{IsDigest, IsTextOf, ShipsWhenRead};
-ghost use Rattle.desk_tree_gather.specs.Readers.{Reader};
+ghost use Rattle.desk_tree_infos.specs.Readers.{Reader};
 ghost use Rattle.desk_tree_gather.specs.declared.files.SourceFile.{SourceFile};
 ghost use Rattle.desk_tagvalue.specs.declared.drafts.Draft.{Draft};
 

@@ -3,12 +3,13 @@ use Rattle.std.proofs.Common.{◌≡◌, ◌∙◌, List, sym, ap, subst}
 use Rattle.std.specs.Prelude.{Result, Ok, Err}
 use Rattle.desk_tree_gather.specs.declared.fault.GatherFault.{GatherFault}
 use Rattle.desk_tree_gather.specs.declared.files.SourceFile.{SourceFile}
-use Rattle.desk_tree_gather.specs.declared.folders.Folders.{Folders}
-use Rattle.desk_tree_gather.specs.Readers.{Reader, Stated}
+use Rattle.desk_tree_infos.specs.declared.folders.Folders.{Folders}
+use Rattle.desk_tree_infos.specs.Readers.{Reader, Stated}
 use Rattle.desk_tree_gather.specs.Shown.{Gives}
 use Rattle.desk_tree_gather.specs.Trees.{Read, tree_of}
-use Rattle.desk_tree_gather.specs.Tomls.{TomlText, tomls_of}
-use Rattle.desk_tree_gather.specs.Information.{counting}
+use Rattle.desk_tree_infos.specs.Tomls.{TomlText}
+use Rattle.desk_tree_gather.specs.Tomls.{tomls_of}
+use Rattle.desk_tree_infos.specs.Information.{counting}
 use Rattle.desk_tree_gather.specs.Gathering.{holder, stated_in, info_with, info_of, infos_of, gathered}
 use Rattle.desk_base.specs.Results.{then_read}
 

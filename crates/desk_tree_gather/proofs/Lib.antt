@@ -1,16 +1,9 @@
 pub mod EachLemmas
 pub mod TreeLemmas
-pub mod SharingLemmas
-pub mod FolderLemmas
-pub mod Running
 pub mod ReaderLemmas
 pub mod PlacedLemmas
 pub mod TomlLemmas
 pub mod StatedLemmas
-pub mod RestLemmas
-pub mod WayLemmas
-pub mod AmongLemmas
-pub mod FirstsLemmas
 pub mod GatheredLemmas
 pub mod SurveyLaws
 pub mod SurveyLemmas

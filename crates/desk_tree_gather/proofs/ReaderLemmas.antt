@@ -8,7 +8,7 @@ use Rattle.desk_tree_annotations.specs.Tags.{IsInfo}
 use Rattle.desk_tree_annotations.proofs.TagOnce.{info_once}
 use Rattle.desk_tree_annotations.proofs.RightLemmas.{same_reading, same_test}
 use Rattle.desk_tree_annotations.specs.Right.{Tells}
-use Rattle.desk_tree_gather.specs.Readers.{Reader, IsRightReader, Stated}
+use Rattle.desk_tree_infos.specs.Readers.{Reader, IsRightReader, Stated}
 
 pub same_match : (r : Reader) → IsRightReader r → (pieces : List Piece) (path : List ℕ) (b : Bool)
     → Decides b (IsMatch pieces path) → b ≡ r.matches pieces path

@@ -9,7 +9,7 @@ use Rattle.desk_tree_annotations.specs.declared.info.Info.{Info}
 use Rattle.desk_tree_annotations.specs.declared.tags.Tagged.{Tagged}
 use Rattle.desk_tree_gather.specs.declared.fault.GatherFault.{GatherFault}
 use Rattle.desk_tree_gather.specs.declared.files.SourceFile.{SourceFile}
-use Rattle.desk_tree_gather.specs.Readers.{Reader, Stated}
+use Rattle.desk_tree_infos.specs.Readers.{Reader, Stated}
 use Rattle.desk_tree_gather.specs.Trees.{bytes_at}
 use Rattle.desk_tree_gather.specs.Gathering.{holder, holder_by, bad_line, unless_bad, stated_in}
 use Rattle.desk_tree_gather.specs.Shown.{Gives, stated_of}

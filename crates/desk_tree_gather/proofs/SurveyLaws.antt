@@ -17,11 +17,12 @@ use Rattle.desk_tree_gather.specs.declared.files.SourceFile.{SourceFile}
 use Rattle.desk_tree_gather.specs.declared.flaw.Flaw.{Flaw}
 use Rattle.desk_tree_gather.specs.declared.flaw.Flaw.TheVariants.{TooManyFiles, BadPath, TwicePath}
 use Rattle.desk_tree_gather.specs.declared.flaw.Flaw.TheVariants.{BadToml, BadExpression}
-use Rattle.desk_tree_gather.specs.Readers.{Reader, Stated}
+use Rattle.desk_tree_infos.specs.Readers.{Reader, Stated}
 use Rattle.desk_tree_gather.specs.Paths.{is_path, is_toml, is_covered, folder_of}
 use Rattle.desk_tree_gather.specs.Trees.{Read, each, put_file, bytes_at, placed, tree_of}
-use Rattle.desk_tree_gather.specs.Tomls.{TomlText, told_of, toml_read, toml_of, tomls_of}
-use Rattle.desk_tree_gather.specs.Information.{counting}
+use Rattle.desk_tree_infos.specs.Tomls.{TomlText}
+use Rattle.desk_tree_gather.specs.Tomls.{told_of, toml_read, toml_of, tomls_of}
+use Rattle.desk_tree_infos.specs.Information.{counting}
 use Rattle.desk_tree_gather.specs.Gathering.{holder, bad_line, unless_bad, stated_in, info_with}
 use Rattle.desk_tree_gather.specs.Gathering.{info_of, infos_of, gathered}
 use Rattle.desk_tree_gather.specs.Survey.{unless_flawed, sifted, path_flaws, flaw_of, toml_flaws}

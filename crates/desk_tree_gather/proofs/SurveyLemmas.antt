@@ -14,8 +14,8 @@ use Rattle.desk_tree_gather.specs.declared.files.File.{File}
 use Rattle.desk_tree_gather.specs.declared.files.SourceFile.{SourceFile}
 use Rattle.desk_tree_gather.specs.declared.flaw.Flaw.{Flaw}
 use Rattle.desk_tree_gather.specs.declared.flaw.Flaw.TheVariants.{BadToml, BadExpression}
-use Rattle.desk_tree_gather.specs.declared.gathering.FileInfo.{FileInfo}
-use Rattle.desk_tree_gather.specs.Readers.{Reader, Stated}
+use Rattle.desk_tree_infos.specs.declared.infos.FileInfo.{FileInfo}
+use Rattle.desk_tree_infos.specs.Readers.{Reader, Stated}
 use Rattle.desk_tree_gather.specs.Paths.{folder_of}
 use Rattle.desk_tree_gather.specs.Trees.{put_file}
 use Rattle.desk_tree_gather.specs.Shown.{file_of, files_of}

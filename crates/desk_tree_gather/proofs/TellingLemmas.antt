@@ -13,13 +13,14 @@ use Rattle.std.proofs.lemmas.Map.Text.{is_eq-slice_cmp}
 use Rattle.sha1.specs.Sha1.{sha1}
 use Rattle.desk_tree_gather.specs.declared.fault.GatherFault.{GatherFault}
 use Rattle.desk_tree_gather.specs.declared.files.SourceFile.{SourceFile}
-use Rattle.desk_tree_gather.specs.declared.gathering.FileInfo.{FileInfo}
+use Rattle.desk_tree_infos.specs.declared.infos.FileInfo.{FileInfo}
 use Rattle.desk_tree_gather.specs.declared.telling.ToldFile.{ToldFile}
-use Rattle.desk_tree_gather.specs.Readers.{Reader, Stated}
+use Rattle.desk_tree_infos.specs.Readers.{Reader, Stated}
 use Rattle.desk_tree_gather.specs.Paths.{is_covered}
 use Rattle.desk_tree_gather.specs.Trees.{Read, each, some_bytes, bytes_at, bytes_of, tree_of}
-use Rattle.desk_tree_gather.specs.Tomls.{TomlText, tomls_of}
-use Rattle.desk_tree_gather.specs.Information.{counting}
+use Rattle.desk_tree_infos.specs.Tomls.{TomlText}
+use Rattle.desk_tree_gather.specs.Tomls.{tomls_of}
+use Rattle.desk_tree_infos.specs.Information.{counting}
 use Rattle.desk_tree_gather.specs.Gathering.{holder, holder_by, stated_in, info_with, info_of, infos_of, gathered}
 use Rattle.desk_tree_gather.specs.Telling.{with_digest, told, told_of, told_in, told_beside}
 use Rattle.desk_tree_gather.proofs.GatheredLemmas.{gathered_fails, gathered_found}

@@ -10,7 +10,7 @@ use Rattle.desk_tree_annotations.specs.declared.fault.AnnotationsFault.TheVarian
 use Rattle.desk_tree_annotations.specs.Reading.{annotations_of}
 use Rattle.desk_tree_gather.specs.declared.fault.GatherFault.TheVariants.{BadToml}
 use Rattle.desk_tree_gather.specs.declared.files.SourceFile.{SourceFile}
-use Rattle.desk_tree_gather.specs.Readers.{Reader}
+use Rattle.desk_tree_infos.specs.Readers.{Reader}
 use Rattle.desk_tree_gather.specs.Paths.{folder_of}
 use Rattle.desk_tree_gather.specs.Tomls.{told_of, toml_read, toml_of}
 

@@ -3,7 +3,7 @@ use Rattle.std.specs.Prelude.{List, map}
 use Rattle.desk_tree_annotations.specs.declared.annotation.Annotation.{Annotation}
 use Rattle.desk_tree_gather.specs.declared.telling.Digested.{Digested}
 use Rattle.desk_tree_gather.specs.declared.telling.ToldFile.{ToldFile}
-use Rattle.desk_tree_gather.specs.Sharing.{info_at}
+use Rattle.desk_tree_infos.specs.Sharing.{info_at}
 
 abbrev pub told_at : List Annotation → Digested → ToldFile
 told_at all file = record { info = info_at all file.info; digest = file.digest }

@@ -5,13 +5,14 @@ use Rattle.desk_model.specs.Texts.{sorted_set}
 use Rattle.desk_tree_annotations.specs.declared.annotation.Annotation.{Annotation}
 use Rattle.desk_tree_gather.specs.declared.fault.GatherFault.TheVariants.{BadExpression}
 use Rattle.desk_tree_gather.specs.declared.files.SourceFile.{SourceFile}
-use Rattle.desk_tree_gather.specs.declared.gathering.FileInfo.{FileInfo}
-use Rattle.desk_tree_gather.specs.declared.information.Subject.TheVariants.{Notices, Licences}
-use Rattle.desk_tree_gather.specs.Readers.{Stated, Reader}
+use Rattle.desk_tree_infos.specs.declared.infos.FileInfo.{FileInfo}
+use Rattle.desk_tree_infos.specs.declared.information.Subject.TheVariants.{Notices, Licences}
+use Rattle.desk_tree_infos.specs.Readers.{Stated, Reader}
 use Rattle.desk_tree_gather.specs.Paths.{is_covered}
 use Rattle.desk_tree_gather.specs.Trees.{Read, each, bytes_at, tree_of}
-use Rattle.desk_tree_gather.specs.Tomls.{TomlText, tomls_of}
-use Rattle.desk_tree_gather.specs.Information.{counting, given}
+use Rattle.desk_tree_infos.specs.Tomls.{TomlText}
+use Rattle.desk_tree_gather.specs.Tomls.{tomls_of}
+use Rattle.desk_tree_infos.specs.Information.{counting, given}
 use Rattle.desk_base.specs.Results.{then_read}
 
 -- F.license if it exists, else F itself: the file whose tags are F's own information

@@ -1,13 +1,7 @@
-pub mod Readers
 pub mod Paths
 pub mod Trees
 pub mod Tomls
-pub mod Information
-pub mod Ways
 pub mod Gathering
-pub mod Sharing
-pub mod Folders
-pub mod Firsts
 pub mod Telling
 pub mod Digests
 pub mod Survey

@@ -5,14 +5,12 @@ use Rattle.std.specs.String.{string_bytes}
 use denote.Ref.{Bor}
 use Rattle.desk_tree_annotations.specs.Tags.{tag_text}
 use Rattle.desk_tree_annotations.specs.declared.info.Info.{Info}
-use Rattle.desk_tree_gather.specs.Readers.{Stated}
+use Rattle.desk_tree_infos.specs.Readers.{Stated}
 use Rattle.desk_tree_gather.specs.declared.fault.GatherFault.{GatherFault}
 use Rattle.desk_tree_gather.specs.declared.files.File.{File}
 use Rattle.desk_tree_gather.specs.declared.files.SourceFile.{SourceFile}
 use Rattle.desk_tree_gather.specs.declared.gathering.Held.{Held}
-use Rattle.desk_tree_gather.specs.declared.tomls.Toml.{Toml}
 use Rattle.desk_tree_gather.specs.Trees.{Read}
-use Rattle.desk_tree_gather.specs.Tomls.{TomlText}
 
 -- a result is what is read, as it is shown
 abbrev pub Gives : {A B : Type 0} → Read B → (A → B) → Result A GatherFault → Type 0
@@ -52,12 +50,6 @@ owned_at e = record { path = e.0; bytes = e.1 }
 
 abbrev pub left_in : OwnedTree → List SourceFile
 left_in m = map owned_at m.entries
-
-abbrev pub toml_in : Toml → TomlText
-toml_in t = record { folder = t.folder.now; annotations = t.annotations.list }
-
-abbrev pub tomls_in : List Toml → List TomlText
-tomls_in ts = map toml_in ts
 
 -- what a file states, apart from where it is in memory
 abbrev pub stated_of : Info → Stated

@@ -16,12 +16,12 @@ use Rattle.desk_tree_gather.specs.declared.flaw.Flaw.{Flaw}
 use Rattle.desk_tree_gather.specs.declared.flaw.Flaw.TheVariants.{TooManyFiles, BadPath, TwicePath}
 use Rattle.desk_tree_gather.specs.declared.flaw.Flaw.TheVariants.{BadToml, BadAnnotation}
 use Rattle.desk_tree_gather.specs.declared.flaw.Flaw.TheVariants.{BadExpression}
-use Rattle.desk_tree_gather.specs.declared.gathering.FileInfo.{FileInfo}
-use Rattle.desk_tree_gather.specs.Readers.{Reader}
+use Rattle.desk_tree_infos.specs.declared.infos.FileInfo.{FileInfo}
+use Rattle.desk_tree_infos.specs.Readers.{Reader}
 use Rattle.desk_tree_gather.specs.Paths.{is_path, is_toml, is_covered, folder_of}
 use Rattle.desk_tree_gather.specs.Trees.{Read, put_file, bytes_at}
-use Rattle.desk_tree_gather.specs.Tomls.{TomlText}
-use Rattle.desk_tree_gather.specs.Information.{counting}
+use Rattle.desk_tree_infos.specs.Tomls.{TomlText}
+use Rattle.desk_tree_infos.specs.Information.{counting}
 use Rattle.desk_tree_gather.specs.Gathering.{holder, info_with}
 
 -- ---- paths

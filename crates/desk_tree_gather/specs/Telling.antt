@@ -2,12 +2,12 @@
 use Rattle.std.specs.Prelude.{List, map, Ok}
 use Rattle.sha1.specs.Sha1.{sha1}
 use Rattle.desk_tree_gather.specs.declared.files.SourceFile.{SourceFile}
-use Rattle.desk_tree_gather.specs.declared.gathering.FileInfo.{FileInfo}
+use Rattle.desk_tree_infos.specs.declared.infos.FileInfo.{FileInfo}
 use Rattle.desk_tree_gather.specs.declared.telling.ToldFile.{ToldFile}
-use Rattle.desk_tree_gather.specs.Readers.{Reader}
+use Rattle.desk_tree_infos.specs.Readers.{Reader}
 use Rattle.desk_tree_gather.specs.Paths.{is_covered}
 use Rattle.desk_tree_gather.specs.Trees.{Read, each, bytes_of, tree_of}
-use Rattle.desk_tree_gather.specs.Tomls.{TomlText}
+use Rattle.desk_tree_infos.specs.Tomls.{TomlText}
 use Rattle.desk_tree_gather.specs.Gathering.{info_of, gathered}
 use Rattle.desk_base.specs.Results.{then_read}
 

@@ -1,6 +1,6 @@
 -- The REUSE.toml files of a tree (REUSE Specification 3.3, "REUSE.toml").
-use Rattle.std.specs.Prelude.{ℕ, List, [], ◌∷◌, Result, Ok, Err, if◌then◌else◌}
-use Rattle.std.specs.Str.{bytes_eq, is_utf8}
+use Rattle.std.specs.Prelude.{ℕ, List, Result, Ok, Err, if◌then◌else◌}
+use Rattle.std.specs.Str.{is_utf8}
 use Rattle.desk_tree_annotations.specs.declared.annotation.Annotation.{Annotation}
 use Rattle.desk_tree_annotations.specs.declared.fault.AnnotationsFault.{AnnotationsFault}
 use Rattle.desk_tree_annotations.specs.declared.fault.AnnotationsFault.TheVariants as why
@@ -8,14 +8,10 @@ use Rattle.desk_tree_annotations.specs.Reading.{annotations_of}
 use Rattle.desk_tree_gather.specs.declared.fault.GatherFault.{GatherFault}
 use Rattle.desk_tree_gather.specs.declared.fault.GatherFault.TheVariants.{BadToml, BadAnnotation}
 use Rattle.desk_tree_gather.specs.declared.files.SourceFile.{SourceFile}
-use Rattle.desk_tree_gather.specs.Readers.{Reader}
+use Rattle.desk_tree_infos.specs.Readers.{Reader}
+use Rattle.desk_tree_infos.specs.Tomls.{TomlText}
 use Rattle.desk_tree_gather.specs.Paths.{is_toml, folder_of}
 use Rattle.desk_tree_gather.specs.Trees.{Read, each}
-
--- a REUSE.toml: its folder and its annotations
-pub record TomlText : Type 0 where
-  pub folder : List ℕ
-  pub annotations : List Annotation
 
 -- a fault, with the path of the file
 abbrev pub told_of : List ℕ → AnnotationsFault → GatherFault
@@ -33,9 +29,3 @@ toml_of r file = if is_utf8 file.bytes
 
 abbrev pub tomls_of : Reader → List SourceFile → Read (List TomlText)
 tomls_of r tree = each is_toml (toml_of r) tree
-
--- the annotations of a folder
-abbrev pub annotations_in : List TomlText → List ℕ → List Annotation
-annotations_in [] folder = []
-annotations_in (t ∷ ts) folder = if bytes_eq t.folder folder then t.annotations
-    else annotations_in ts folder

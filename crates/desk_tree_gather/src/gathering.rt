@@ -2,41 +2,27 @@
 
 ghost use Rattle.std.specs.Prelude.{◌≡◌, ◌⊎◌, List, IfOk, IfErr, OnOk, Ok, Err, alloc_error, option_map, map};
 ghost use Rattle.desk_tree_annotations.specs.Tags.{tag_text};
-ghost use Rattle.desk_tree_gather.specs.Readers.{Reader, IsRightReader, Stated};
-ghost use Rattle.desk_tree_gather.specs.Tomls.{TomlText};
-ghost use Rattle.desk_tree_gather.specs.Folders.{Holds};
+ghost use Rattle.desk_tree_infos.specs.Readers.{Reader, IsRightReader, Stated};
+ghost use Rattle.desk_tree_infos.specs.Tomls.{TomlText};
+ghost use Rattle.desk_tree_infos.specs.Folders.{Holds};
 ghost use Rattle.desk_model.specs.Texts.{sorted_set};
-ghost use Rattle.desk_tree_gather.specs.Information.{given};
+ghost use Rattle.desk_tree_infos.specs.Information.{given};
 ghost use Rattle.desk_tree_gather.specs.Gathering.{holder, bad_line, stated_in, values, info_with, info_of, infos_of, gathered};
 ghost use Rattle.desk_tree_gather.specs.Trees.{each};
 ghost use Rattle.desk_tree_gather.specs.Paths.{is_covered};
-ghost use Rattle.desk_tree_gather.specs.Sharing.{annotations_at, all_texts, info_at, infos_at};
+ghost use Rattle.desk_tree_infos.specs.Sharing.{annotations_at, all_texts, info_at, infos_at};
 ghost use Rattle.desk_tree_gather.specs.Shown.{Gives, file_of, files_of, held_in, tree_in, stated_of};
 
-use crate::counting::counting;
 use crate::fault::GatherFault;
 use crate::files::{File, SourceFile, bytes_at, files_of, is_covered, tree_of};
-use crate::folders::{Folders, by_folder};
-use crate::information::{Sources, Subject, given};
-use crate::infos::{Covered, Infos};
-use crate::sets::set_in;
 use crate::tomls::tomls_of;
-use crate::trail::Trail;
-use desk_base::{Items, Text, TextList};
-use desk_tree_annotations::{Annotation, Info, SharedText, Tagged, header, is_expression_beside};
+use desk_base::{Text, TextList};
+use desk_tree_annotations::{Annotation, Info, Tagged, header, is_expression_beside};
+use desk_tree_infos::{
+    Covered, FileInfo, Folders, Infos, Sources, Subject, Trail, by_folder, counting, given, set_in,
+};
 use std::alloc::{AllocError, Global};
 use std::collections::BTreeMap;
-
-/// The information of a file: what it is under.
-#[derive(Drop)]
-pub struct FileInfo {
-    /// Its path.
-    pub path: Text,
-    /// Copyright notices, each once, in byte order.
-    pub notices: Items<SharedText>,
-    /// Licence expressions, each once, in byte order.
-    pub licences: Items<SharedText>,
-}
 
 /// The files by path, and the annotations by folder.
 #[derive(Drop)]

@@ -2,7 +2,7 @@
 
 ghost use Rattle.std.specs.Prelude.{◌≡◌, List, Ok};
 ghost use Rattle.desk_tree_gather.specs.declared.files.SourceFile.{SourceFile};
-ghost use Rattle.desk_tree_gather.specs.Readers.{Reader, IsRightReader};
+ghost use Rattle.desk_tree_infos.specs.Readers.{Reader, IsRightReader};
 ghost use Rattle.desk_tree_gather.specs.Trees.{tree_of};
 ghost use Rattle.desk_tree_gather.specs.Gathering.{gathered};
 ghost use Rattle.desk_tree_gather.specs.Survey.{kept, flaws_of, infos_sifted, Agrees};

@@ -5,19 +5,8 @@
 //! - `gathered` (`specs/Gathering.antt`) is a function of the files: the information of each
 //!   covered file by path, or the first fault. It sorts the files by path (`specs/Trees.antt`),
 //!   reads the REUSE.toml files (`specs/Tomls.antt`), and takes for each file the annotations that
-//!   count, at most one for each folder (`specs/Information.antt`).
-//! - A file's information is defined by cases: an override, or what the file states itself with the
-//!   aggregates and the nearest `closest` annotation. The code goes down the folders once.
-//! - What an annotation gives is kept once, however many files it counts for: each annotation has a
-//!   number (`folders.rt`), and a file has its own texts and the numbers of the annotations that
-//!   count (`specs/Sharing.antt`). Contracts see `Infos` as the list of the files' information; the
-//!   texts of a file are joined only when it is asked for (`ToldFiles::file`).
-//! - `Infos::firsts` gives each text at the first file that has it (`specs/Firsts.antt`). It goes
-//!   through each annotation once, so that what is asked about all files takes time and memory in
-//!   proportion to the tree: their distinct texts, which licences they use, and which file names
-//!   each first.
-//! - Files come by path, and what is looked up for one is used for the next: `Trail` keeps the
-//!   annotations of the folders on its way.
+//!   count, at most one for each folder (`desk_tree_infos`).
+//! - The texts of a file are joined only when it is asked for (`ToldFiles::file`).
 //! - `survey` goes on after faults: it returns all that is wrong in a tree, and the information of
 //!   the files from what can be read (`specs/Survey.antt`). `gathered` stops at the first of these
 //!   flaws (`gathered_is_surveyed`).
@@ -29,30 +18,21 @@
 //!   and there is only one right reader (`one_reader`).
 #![tactic(auto)]
 
-mod counting;
 mod fault;
 mod files;
-mod firsts;
 mod flaw;
-mod folders;
 mod gathering;
-mod information;
-mod infos;
 mod laws;
 mod paths;
-mod sets;
 mod surveying;
 mod telling;
 mod tomls;
-mod trail;
 
+pub use desk_tree_infos::{FileInfo, First, Infos, Outline, Subject};
 pub use fault::GatherFault;
 pub use files::{SourceFile, bytes_at, tree_of};
-pub use firsts::First;
 pub use flaw::Flaw;
-pub use gathering::{FileInfo, gather, gathered};
-pub use information::Subject;
-pub use infos::{Infos, Outline};
+pub use gathering::{gather, gathered};
 pub use laws::{gathered_is_surveyed, one_reader};
 pub use surveying::{Surveyed, survey};
 pub use telling::{ToldFile, ToldFiles, told};

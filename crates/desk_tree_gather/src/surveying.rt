@@ -4,28 +4,24 @@ ghost use Rattle.std.specs.Prelude.{◌≡◌, ◌++◌, [], true, IfOk, IfSome,
 ghost use Rattle.std.specs.List.{flat_map};
 ghost use Rattle.desk_tree_annotations.specs.Tags.{tag_text};
 ghost use Rattle.desk_tree_annotations.specs.Right.{Tells};
-ghost use Rattle.desk_tree_gather.specs.Readers.{Reader, IsRightReader};
+ghost use Rattle.desk_tree_infos.specs.Readers.{Reader, IsRightReader};
 ghost use Rattle.desk_tree_gather.specs.Paths.{is_toml, is_covered};
-ghost use Rattle.desk_tree_gather.specs.Tomls.{TomlText};
-ghost use Rattle.desk_tree_gather.specs.Folders.{Holds};
+ghost use Rattle.desk_tree_infos.specs.Tomls.{TomlText, toml_in, tomls_in};
+ghost use Rattle.desk_tree_infos.specs.Folders.{Holds};
 ghost use Rattle.desk_tree_gather.specs.Gathering.{holder};
 ghost use Rattle.desk_tree_gather.specs.Survey.{path_flaw, with_file, sifted, path_flaws, flaw_of, toml_flaws, toml_sifted, tag_flaws, stated_flaws, kept, tree_flaws, flaws_of, info_sifted, infos_sifted};
-ghost use Rattle.desk_tree_gather.specs.Sharing.{info_at, infos_at};
-ghost use Rattle.desk_tree_gather.specs.Shown.{file_of, files_of, tree_in, toml_in, tomls_in, stated_of};
+ghost use Rattle.desk_tree_infos.specs.Sharing.{info_at, infos_at};
+ghost use Rattle.desk_tree_gather.specs.Shown.{file_of, files_of, tree_in, stated_of};
 
-use crate::counting::counting;
 use crate::files::{File, SourceFile, bytes_at, files_of, is_covered, is_toml};
 use crate::flaw::Flaw;
-use crate::folders::by_folder;
 use crate::gathering::{Known, holder, info_with};
-use crate::infos::{Covered, Infos};
 use crate::paths::{folder_of, is_path};
-use crate::tomls::Toml;
-use crate::trail::Trail;
 use desk_base::{Items, Text, limits};
 use desk_tree_annotations::{
     Annotations, AnnotationsFault, Info, Sifted, Tagged, header, is_expression_beside,
 };
+use desk_tree_infos::{Covered, Infos, Toml, Trail, by_folder, counting};
 use std::alloc::{AllocError, Global};
 use std::collections::BTreeMap;
 

@@ -2,23 +2,18 @@
 
 ghost use Rattle.std.specs.Prelude.{◌≡◌, ◌≢◌, IfOk, OnOk, ℕ, alloc_error};
 ghost use Rattle.desk_tree_annotations.specs.declared.fault.AnnotationsFault.{AnnotationsFault};
-ghost use Rattle.desk_tree_gather.specs.Readers.{Reader, IsRightReader};
+ghost use Rattle.desk_tree_infos.specs.Readers.{Reader, IsRightReader};
 ghost use Rattle.desk_tree_gather.specs.Tomls.{told_of, toml_of, tomls_of};
-ghost use Rattle.desk_tree_gather.specs.Shown.{Gives, file_of, files_of, toml_in, tomls_in};
+ghost use Rattle.desk_tree_infos.specs.Tomls.{toml_in, tomls_in};
+ghost use Rattle.desk_tree_gather.specs.Shown.{Gives, file_of, files_of};
 
 use crate::fault::GatherFault;
 use crate::files::{File, is_toml};
 use crate::paths::folder_of;
 use desk_base::Text;
 use desk_tree_annotations::{Annotations, AnnotationsFault};
+use desk_tree_infos::Toml;
 use std::alloc::{AllocError, Global};
-
-/// A REUSE.toml.
-#[derive(Drop)]
-pub(crate) struct Toml<'a> {
-    pub(crate) folder: &'a [u8],
-    pub(crate) annotations: Annotations,
-}
 
 // A fault of a REUSE.toml, with its path.
 fn told_of(alloc: Global, path: &str, fault: AnnotationsFault) -> Result<GatherFault, AllocError>

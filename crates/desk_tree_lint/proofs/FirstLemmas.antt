@@ -18,13 +18,13 @@ use denote.Ref.{Bor}
 use Rattle.desk_base.specs.Borrowed.{texts}
 use Rattle.desk_tree_lint.specs.declared.naming.Asked.{Asked}
 use Rattle.desk_tree_lint.specs.declared.naming.Mention.{Mention}
-use Rattle.desk_tree_gather.specs.declared.gathering.FileInfo.{FileInfo}
+use Rattle.desk_tree_infos.specs.declared.infos.FileInfo.{FileInfo}
 use Rattle.desk_catalogue.specs.Values.{is_among}
-use Rattle.desk_tree_gather.specs.declared.firsts.First.{First}
-use Rattle.desk_tree_gather.specs.declared.information.Subject.TheVariants.{Licences}
-use Rattle.desk_tree_gather.specs.Firsts.{first_in, firsts_behind, firsts_of}
-use Rattle.desk_tree_gather.specs.Information.{or_else}
-use Rattle.desk_tree_gather.proofs.AmongLemmas.{among-append}
+use Rattle.desk_tree_infos.specs.declared.firsts.First.{First}
+use Rattle.desk_tree_infos.specs.declared.information.Subject.TheVariants.{Licences}
+use Rattle.desk_tree_infos.specs.Firsts.{first_in, firsts_behind, firsts_of}
+use Rattle.desk_tree_infos.specs.Information.{or_else}
+use Rattle.desk_tree_infos.proofs.AmongLemmas.{among-append}
 use Rattle.desk_tree_lint.specs.Firsts.{AskedText, asked_in, asked_of, keys_asked, mention_in}
 use Rattle.desk_tree_lint.specs.Firsts.{mentions_of, first_mentions, Holds}
 use Rattle.desk_tree_lint.specs.Naming.{MentionText, mention, ids, mentions_by, mentions, first_with}

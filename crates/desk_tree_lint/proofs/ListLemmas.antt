@@ -8,9 +8,9 @@ use Rattle.desk_base.specs.Borrowed.{texts}
 use Rattle.desk_catalogue.specs.Values.{is_among}
 use Rattle.desk_tree_lint.specs.declared.texts.LicenceText.{LicenceText}
 use Rattle.desk_tree_lint.specs.Texts.{TextFile}
-use Rattle.desk_tree_gather.specs.declared.gathering.FileInfo.{FileInfo}
-use Rattle.desk_tree_gather.specs.declared.infos.Outline.{Outline}
-use Rattle.desk_tree_gather.specs.Sharing.{OutlineText, outline_of, outline_in}
+use Rattle.desk_tree_infos.specs.declared.infos.FileInfo.{FileInfo}
+use Rattle.desk_tree_infos.specs.declared.infos.Outline.{Outline}
+use Rattle.desk_tree_infos.specs.Sharing.{OutlineText, outline_of, outline_in}
 use Rattle.desk_tree_lint.specs.Lists.{missing, unused, is_bare, bare, bare_in}
 use Rattle.desk_tree_lint.specs.Shown.{only, text_in, texts_in}
 

@@ -6,8 +6,8 @@ use Rattle.std.specs.BTreeSet.{BTreeSet, UpdatesBy}
 use Rattle.std.proofs.lemmas.List.{drop_more}
 use denote.Ref.{Bor}
 use Rattle.desk_catalogue.specs.Values.{is_among}
-use Rattle.desk_tree_gather.specs.Firsts.{has_text}
-use Rattle.desk_tree_gather.proofs.FirstsLemmas.{one_more}
+use Rattle.desk_tree_infos.specs.Firsts.{has_text}
+use Rattle.desk_tree_infos.proofs.FirstsLemmas.{one_more}
 use Rattle.desk_base.specs.Borrowed.{texts, borrowed_cmp}
 
 or_moves : (a b c : Bool) → (b || (a || c)) ≡ ((a || b) || c)

@@ -10,10 +10,10 @@ use Rattle.desk_expr.specs.declared.term.Term.{Term}
 use Rattle.desk_expr.specs.Tree.{Tree}
 use Rattle.desk_expr.specs.Occurring.{leaves, AreTermsOf}
 use Rattle.desk_expr.specs.Spelling.{Spells, SpellsWithin}
-use Rattle.desk_tree_gather.specs.declared.gathering.FileInfo.{FileInfo}
+use Rattle.desk_tree_infos.specs.declared.infos.FileInfo.{FileInfo}
 use Rattle.std.specs.Prelude.{OnOk, Ok, Err, Result}
 use Rattle.desk_tree_gather.specs.declared.files.SourceFile.{SourceFile}
-use Rattle.desk_tree_gather.specs.Readers.{Reader}
+use Rattle.desk_tree_infos.specs.Readers.{Reader}
 use Rattle.desk_tree_gather.specs.Trees.{Read, tree_of}
 use Rattle.desk_tree_gather.specs.Gathering.{gathered}
 use Rattle.desk_tree_lint.specs.declared.lists.Lint.{Lint}
@@ -21,8 +21,8 @@ use Rattle.desk_tree_lint.specs.Texts.{text_files}
 use Rattle.desk_tree_lint.specs.Lists.{lists_of, IsLint}
 use Rattle.desk_tree_lint.specs.Used.{term_keys, keys_in, Uses, IsUsed, IsUsedIn, IsFirstUsed, SomeOf, AreUsed}
 use Rattle.desk_catalogue.specs.Values.{is_among}
-use Rattle.desk_tree_gather.specs.declared.information.Subject.TheVariants.{Licences}
-use Rattle.desk_tree_gather.specs.Firsts.{firsts_behind, firsts_of}
+use Rattle.desk_tree_infos.specs.declared.information.Subject.TheVariants.{Licences}
+use Rattle.desk_tree_infos.specs.Firsts.{firsts_behind, firsts_of}
 use Rattle.std.specs.Str.{bytes_eq}
 use Rattle.std.proofs.lemmas.Slice.Eq.{bytes_eq-Decides}
 use Rattle.desk_base.proofs.SortedOnce.{same_sorted}

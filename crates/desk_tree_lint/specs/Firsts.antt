@@ -4,7 +4,7 @@ use Rattle.std.specs.List.{flat_map}
 use Rattle.std.specs.List.Sorted.{IsStrictlySortedBy}
 use Rattle.std.specs.Ordering.{nat_cmp}
 use Rattle.std.specs.Cmp.Lexicographic.{slice_cmp}
-use Rattle.desk_tree_gather.specs.Firsts.{FirstTexts}
+use Rattle.desk_tree_infos.specs.Firsts.{FirstTexts}
 use Rattle.desk_tree_lint.specs.declared.naming.Asked.{Asked}
 use Rattle.desk_tree_lint.specs.declared.naming.Mention.{Mention}
 use Rattle.desk_tree_lint.specs.Naming.{MentionText, mentions_by, first_with}

@@ -2,11 +2,11 @@
 use Rattle.std.specs.Prelude.{◌≡◌, ◌||◌, ℕ, Bool, not, List, map, filter, Ok}
 use Rattle.desk_catalogue.specs.Values.{is_among}
 use Rattle.desk_tree_gather.specs.declared.files.SourceFile.{SourceFile}
-use Rattle.desk_tree_gather.specs.declared.gathering.FileInfo.{FileInfo}
-use Rattle.desk_tree_gather.specs.Readers.{Reader}
+use Rattle.desk_tree_infos.specs.declared.infos.FileInfo.{FileInfo}
+use Rattle.desk_tree_infos.specs.Readers.{Reader}
 use Rattle.desk_tree_gather.specs.Trees.{tree_of}
 use Rattle.desk_tree_gather.specs.Gathering.{gathered}
-use Rattle.desk_tree_gather.specs.Sharing.{OutlineText, is_none}
+use Rattle.desk_tree_infos.specs.Sharing.{OutlineText, is_none}
 use Rattle.desk_tree_lint.specs.declared.lists.Lint.{Lint}
 use Rattle.desk_tree_lint.specs.Texts.{TextFile, text_files}
 use Rattle.desk_tree_lint.specs.Used.{AreUsed}

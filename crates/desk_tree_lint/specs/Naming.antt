@@ -5,7 +5,7 @@ use Rattle.std.specs.Prelude.{Option, Some, None, if◌then◌else◌}
 use Rattle.std.specs.List.{flat_map, slice_split, ends_with}
 use Rattle.std.specs.Str.{bytes_eq}
 use Rattle.desk_tokens.specs.Words.{without_last}
-use Rattle.desk_tree_gather.specs.declared.gathering.FileInfo.{FileInfo}
+use Rattle.desk_tree_infos.specs.declared.infos.FileInfo.{FileInfo}
 use Rattle.desk_tree_lint.specs.declared.naming.Name.{Name}
 use Rattle.desk_tree_lint.specs.Texts.{key_of}
 

@@ -3,7 +3,7 @@ use Rattle.std.specs.Prelude.{◌≡◌, ℕ, List}
 use Rattle.std.specs.BTreeSet.{BTreeSet}
 use denote.Ref.{Bor}
 use Rattle.desk_catalogue.specs.Values.{is_among}
-use Rattle.desk_tree_gather.specs.Firsts.{has_text}
+use Rattle.desk_tree_infos.specs.Firsts.{has_text}
 
 -- the set has these texts and no others
 abbrev pub IsSetOf : List (List ℕ) → BTreeSet (Bor (List ℕ)) → Type 0

@@ -8,8 +8,8 @@ use Rattle.desk_expr.specs.declared.term.Term.{Term}
 use Rattle.desk_expr.specs.Tree.{Tree}
 use Rattle.desk_expr.specs.Occurring.{leaves}
 use Rattle.desk_expr.specs.Spelling.{SpellsWithin}
-use Rattle.desk_tree_gather.specs.declared.gathering.FileInfo.{FileInfo}
-use Rattle.desk_tree_gather.specs.Firsts.{FirstTexts}
+use Rattle.desk_tree_infos.specs.declared.infos.FileInfo.{FileInfo}
+use Rattle.desk_tree_infos.specs.Firsts.{FirstTexts}
 
 -- the licence or reference of a term, and its exception
 abbrev pub term_keys : Term → List (List ℕ)

@@ -1,10 +1,10 @@
 //! What a tree lacks.
 
 ghost use Rattle.std.specs.Prelude.{◌≡◌, ◌⊎◌, ℕ, List, IfOk, IfErr, Ok, Err, alloc_error, map};
-ghost use Rattle.desk_tree_gather.specs.declared.gathering.FileInfo.{FileInfo};
-ghost use Rattle.desk_tree_gather.specs.Firsts.{first_in, firsts_of};
-ghost use Rattle.desk_tree_gather.specs.declared.information.Subject.TheVariants.{Licences};
-ghost use Rattle.desk_tree_gather.specs.Readers.{Reader, IsRightReader};
+ghost use Rattle.desk_tree_infos.specs.declared.infos.FileInfo.{FileInfo};
+ghost use Rattle.desk_tree_infos.specs.Firsts.{first_in, firsts_of};
+ghost use Rattle.desk_tree_infos.specs.declared.information.Subject.TheVariants.{Licences};
+ghost use Rattle.desk_tree_infos.specs.Readers.{Reader, IsRightReader};
 ghost use Rattle.desk_tree_gather.specs.Gathering.{gathered};
 ghost use Rattle.desk_tree_gather.specs.Shown.{tree_in};
 ghost use Rattle.desk_tree_lint.specs.Texts.{text_files};

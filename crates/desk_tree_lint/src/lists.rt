@@ -5,7 +5,7 @@ ghost use Rattle.std.specs.Cmp.Lexicographic.{slice_cmp};
 ghost use Rattle.std.specs.List.Sorted.{IsStrictlySortedBy};
 ghost use Rattle.std.specs.Ordering.{nat_cmp};
 ghost use Rattle.desk_catalogue.specs.Values.{is_among};
-ghost use Rattle.desk_tree_gather.specs.Sharing.{outline_in};
+ghost use Rattle.desk_tree_infos.specs.Sharing.{outline_in};
 ghost use Rattle.desk_tree_lint.specs.Sets.{IsSetOf};
 ghost use Rattle.desk_tree_lint.specs.Texts.{TextFile};
 ghost use Rattle.desk_tree_lint.specs.Lists.{missing, unused, bare, bare_in};

@@ -2,9 +2,9 @@
 
 ghost use Rattle.std.specs.Prelude.{◌≡◌, ◌⊎◌, ◌↔◌, ◌++◌, ℕ, List, OnOk, IfOk, Contains, map};
 ghost use Rattle.desk_model.specs.Texts.{sorted_set};
-ghost use Rattle.desk_tree_gather.specs.Firsts.{first_in, firsts_of};
-ghost use Rattle.desk_tree_gather.specs.declared.gathering.FileInfo.{FileInfo};
-ghost use Rattle.desk_tree_gather.specs.declared.information.Subject.TheVariants.{Licences};
+ghost use Rattle.desk_tree_infos.specs.Firsts.{first_in, firsts_of};
+ghost use Rattle.desk_tree_infos.specs.declared.infos.FileInfo.{FileInfo};
+ghost use Rattle.desk_tree_infos.specs.declared.information.Subject.TheVariants.{Licences};
 ghost use Rattle.desk_tree_lint.specs.Used.{keys_in, Uses, IsUsedIn, IsFirstUsed, AreUsed};
 
 use desk_base::TextList;

@@ -4,8 +4,8 @@ use Rattle.std.specs.Prelude.{◌||◌, Ok, Err}
 use Rattle.desk_tree_gather.specs.declared.fault.GatherFault.{GatherFault}
 use Rattle.desk_tree_gather.specs.declared.files.SourceFile.{SourceFile}
 use Rattle.desk_tree_gather.specs.declared.flaw.Flaw.{Flaw}
-use Rattle.desk_tree_gather.specs.declared.gathering.FileInfo.{FileInfo}
-use Rattle.desk_tree_gather.specs.Readers.{Reader}
+use Rattle.desk_tree_infos.specs.declared.infos.FileInfo.{FileInfo}
+use Rattle.desk_tree_infos.specs.Readers.{Reader}
 use Rattle.desk_tree_gather.specs.Trees.{Read}
 use Rattle.desk_tree_gather.specs.Gathering.{gathered}
 use Rattle.desk_tree_gather.specs.Survey.{kept, flaws_of, infos_sifted, Agrees}

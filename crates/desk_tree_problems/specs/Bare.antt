@@ -1,7 +1,7 @@
 -- What a bare file lacks.
 use Rattle.std.specs.Prelude.{Bool, true, false, ◌||◌, List, map, filter}
-use Rattle.desk_tree_gather.specs.declared.gathering.FileInfo.{FileInfo}
-use Rattle.desk_tree_gather.specs.Sharing.{OutlineText, is_none}
+use Rattle.desk_tree_infos.specs.declared.infos.FileInfo.{FileInfo}
+use Rattle.desk_tree_infos.specs.Sharing.{OutlineText, is_none}
 use Rattle.desk_tree_lint.specs.Lists.{is_bare}
 use Rattle.desk_tree_problems.specs.declared.bare.Bare.{Bare}
 use Rattle.desk_tree_problems.specs.declared.bare.Lacking.{Lacking}

@@ -8,7 +8,7 @@ use Rattle.serde_json.specs.Data.{Data, null, number, unsigned, string, array, o
 use Rattle.serde_json.specs.View.{items_of}
 use Rattle.serde_json.specs.Written.{compact_text}
 use Rattle.desk_tree_gather.specs.declared.files.SourceFile.{SourceFile}
-use Rattle.desk_tree_gather.specs.Readers.{Reader}
+use Rattle.desk_tree_infos.specs.Readers.{Reader}
 use Rattle.desk_tree_problems.specs.declared.problems.Problems.{Problems}
 use Rattle.desk_tree_problems.specs.declared.reports.Report.{Report}
 use Rattle.desk_tree_problems.specs.declared.row.Kind.{Kind}

@@ -1,7 +1,7 @@
 //! Files that have no copyright notice or no licence.
 
 ghost use Rattle.std.specs.Prelude.{◌≡◌, ◌||◌, IfOk, map};
-ghost use Rattle.desk_tree_gather.specs.Sharing.{outline_in};
+ghost use Rattle.desk_tree_infos.specs.Sharing.{outline_in};
 ghost use Rattle.desk_tree_problems.specs.Bare.{lacking, bare_outline, bare_in, bare_files};
 
 use desk_base::{Items, Text};

@@ -3,7 +3,7 @@
 ghost use Rattle.std.specs.Prelude.{◌≡◌, ◌⊎◌, [], Err, IfOk};
 ghost use Rattle.desk_tree_gather.specs.declared.fault.GatherFault.{GatherFault};
 ghost use Rattle.desk_tree_gather.specs.Gathering.{gathered};
-ghost use Rattle.desk_tree_gather.specs.Readers.{Reader, IsRightReader};
+ghost use Rattle.desk_tree_infos.specs.Readers.{Reader, IsRightReader};
 ghost use Rattle.desk_tree_lint.specs.declared.lists.Lint.{Lint};
 ghost use Rattle.desk_tree_lint.specs.Lists.{IsLint};
 ghost use Rattle.desk_tree_problems.specs.Problems.{has_dep5, are_some, unused_unless, AreProblems, lists_in, told_beside, BeginsWith};

@@ -1,7 +1,7 @@
 //! The report on a tree.
 
 ghost use Rattle.std.specs.Prelude.{◌≡◌, [], List, IfOk};
-ghost use Rattle.desk_tree_gather.specs.Readers.{Reader, IsRightReader};
+ghost use Rattle.desk_tree_infos.specs.Readers.{Reader, IsRightReader};
 ghost use Rattle.desk_tree_problems.specs.Reports.{text_of, AreBlankLines, IsReport};
 ghost use Rattle.desk_tree_problems.specs.Rows.{AreRows};
 ghost use Rattle.desk_tree_problems.specs.declared.row.Row.{Row};

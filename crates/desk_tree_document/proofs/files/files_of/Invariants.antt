@@ -1,5 +1,5 @@
 use Rattle.std.proofs.Common.{◌≡◌, drop}
-use Rattle.desk_tree_gather.specs.Readers.{Reader, IsRightReader}
+use Rattle.desk_tree_infos.specs.Readers.{Reader, IsRightReader}
 use Rattle.desk_tree_document.specs.Told.{files_told}
 use Rattle.desk_tree_document.proofs.files.files_of.Given as goal
 use Rattle.desk_base.proofs.Results.{onto}

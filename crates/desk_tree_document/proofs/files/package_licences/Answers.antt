@@ -2,8 +2,8 @@ use Rattle.std.proofs.Common.{◌≡◌, ◌∙◌, Bool, cond, List, ℕ, [], a
 use Rattle.std.specs.Prelude.{IfOk}
 use Rattle.std.specs.List.{flat_map, list_any}
 use Rattle.desk_model.specs.Texts.{sorted_set}
-use Rattle.desk_tree_gather.specs.declared.gathering.FileInfo.{FileInfo}
-use Rattle.desk_tree_gather.specs.Sharing.{OutlineText, outline_in}
+use Rattle.desk_tree_infos.specs.declared.infos.FileInfo.{FileInfo}
+use Rattle.desk_tree_infos.specs.Sharing.{OutlineText, outline_in}
 use Rattle.desk_tree_document.specs.Drafts.{is_bare}
 use Rattle.desk_tree_document.proofs.FileLemmas.{bare-outlined}
 use Rattle.desk_tree_document.proofs.files.package_licences.Goals as goal

@@ -2,7 +2,7 @@ use Rattle.std.proofs.Common.{◌≡◌, drop, map, true}
 use Rattle.std.specs.Prelude.{IfSome}
 use Rattle.desk_tree_annotations.specs.Right.{Tells}
 use Rattle.desk_tree_annotations.specs.Tags.{tag_text}
-use Rattle.desk_tree_gather.specs.Readers.{Reader, IsRightReader}
+use Rattle.desk_tree_infos.specs.Readers.{Reader, IsRightReader}
 use Rattle.desk_tree_gather.specs.Gathering.{bad_line}
 use Rattle.desk_tree_gather.proofs.gathering.bad_line.Given as goal
 

@@ -1,12 +1,12 @@
 use Rattle.std.proofs.Common.{sym, subst}
 use Rattle.std.specs.Prelude.{IfOk, Vec}
 use Rattle.std.specs.declared.alloc.Global.{Global}
-use Rattle.desk_tree_gather.specs.declared.folders.Folders.{Folders}
-use Rattle.desk_tree_gather.specs.declared.infos.Covered.{Covered}
-use Rattle.desk_tree_gather.specs.Folders.{Holds}
+use Rattle.desk_tree_infos.specs.declared.folders.Folders.{Folders}
+use Rattle.desk_tree_infos.specs.declared.infos.Covered.{Covered}
+use Rattle.desk_tree_infos.specs.Folders.{Holds}
 use Rattle.desk_tree_gather.specs.Gathering.{info_of}
 use Rattle.desk_tree_gather.specs.Paths.{is_covered}
-use Rattle.desk_tree_gather.specs.Sharing.{infos_at}
+use Rattle.desk_tree_infos.specs.Sharing.{infos_at}
 use Rattle.desk_tree_gather.specs.Shown.{Gives, files_of, tree_in}
 use Rattle.desk_tree_gather.specs.Trees.{each}
 use Rattle.desk_tree_gather.proofs.gathering.covered_of.Goals as goal

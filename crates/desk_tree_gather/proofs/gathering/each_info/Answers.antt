@@ -1,12 +1,12 @@
 use Rattle.std.proofs.Common.{◌∙◌, ◌+◌, ◌∷◌, [], sym, ap, subst, drop}
 use Rattle.std.specs.Prelude.{Ok}
 use Rattle.std.proofs.lemmas.List.{append-nil, drop_all, map-append}
-use Rattle.desk_tree_gather.specs.declared.folders.Folders.{Folders}
-use Rattle.desk_tree_gather.specs.Folders.{Holds}
+use Rattle.desk_tree_infos.specs.declared.folders.Folders.{Folders}
+use Rattle.desk_tree_infos.specs.Folders.{Holds}
 use Rattle.desk_tree_gather.specs.Paths.{is_covered}
 use Rattle.desk_tree_gather.specs.Trees.{each}
 use Rattle.desk_tree_gather.specs.Gathering.{info_of}
-use Rattle.desk_tree_gather.specs.Sharing.{info_at, infos_at}
+use Rattle.desk_tree_infos.specs.Sharing.{info_at, infos_at}
 use Rattle.desk_tree_gather.specs.Shown.{files_of, tree_in}
 use Rattle.desk_tree_gather.proofs.EachLemmas.{onto-item, onto-fault}
 use Rattle.desk_tree_gather.proofs.GatheredLemmas.{gives_at, gives_fault}

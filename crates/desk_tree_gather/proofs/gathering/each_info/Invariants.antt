@@ -1,11 +1,11 @@
 use Rattle.std.proofs.Common.{◌≡◌, drop, List}
-use Rattle.desk_tree_gather.specs.Readers.{Reader, IsRightReader}
+use Rattle.desk_tree_infos.specs.Readers.{Reader, IsRightReader}
 use Rattle.desk_tree_gather.specs.Paths.{is_covered}
 use Rattle.desk_tree_gather.specs.Trees.{each}
-use Rattle.desk_tree_gather.specs.Tomls.{TomlText}
-use Rattle.desk_tree_gather.specs.Folders.{Holds}
+use Rattle.desk_tree_infos.specs.Tomls.{TomlText}
+use Rattle.desk_tree_infos.specs.Folders.{Holds}
 use Rattle.desk_tree_gather.specs.Gathering.{info_of}
-use Rattle.desk_tree_gather.specs.Sharing.{infos_at}
+use Rattle.desk_tree_infos.specs.Sharing.{infos_at}
 use Rattle.desk_tree_gather.specs.Shown.{files_of, tree_in}
 use Rattle.desk_tree_gather.proofs.gathering.each_info.Given as goal
 use Rattle.desk_base.proofs.Results.{onto}

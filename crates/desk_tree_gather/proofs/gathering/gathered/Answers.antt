@@ -4,7 +4,8 @@ use Rattle.desk_tree_gather.specs.Paths.{is_covered}
 use Rattle.desk_tree_gather.specs.Trees.{each, tree_of}
 use Rattle.desk_tree_gather.specs.Tomls.{tomls_of}
 use Rattle.desk_tree_gather.specs.Gathering.{info_of}
-use Rattle.desk_tree_gather.specs.Shown.{Gives, files_of, tree_in, tomls_in}
+use Rattle.desk_tree_infos.specs.Tomls.{tomls_in}
+use Rattle.desk_tree_gather.specs.Shown.{Gives, files_of, tree_in}
 use Rattle.desk_tree_gather.proofs.GatheredLemmas.{gathered_found}
 use Rattle.desk_tree_gather.proofs.gathering.gathered.Goals as goal
 

@@ -3,9 +3,9 @@ use Rattle.std.proofs.lemmas.Result.{IfOk-weaker}
 use Rattle.desk_model.specs.Texts.{sorted_set}
 use Rattle.desk_tree_annotations.specs.Tags.{tag_text}
 use Rattle.desk_tree_gather.specs.Gathering.{values}
-use Rattle.desk_tree_gather.specs.Information.{given}
-use Rattle.desk_tree_gather.specs.Sharing.{annotations_at}
-use Rattle.desk_tree_gather.proofs.AmongLemmas.{given_set}
+use Rattle.desk_tree_infos.specs.Information.{given}
+use Rattle.desk_tree_infos.specs.Sharing.{annotations_at}
+use Rattle.desk_tree_infos.proofs.AmongLemmas.{given_set}
 use Rattle.desk_tree_gather.proofs.gathering.given_of.Goals as goal
 
 pub returns : goal.returns

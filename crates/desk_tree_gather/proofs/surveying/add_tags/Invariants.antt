@@ -3,7 +3,7 @@ use Rattle.std.specs.Prelude.{IfSome}
 use Rattle.std.specs.List.{flat_map}
 use Rattle.desk_tree_annotations.specs.Right.{Tells}
 use Rattle.desk_tree_annotations.specs.Tags.{tag_text}
-use Rattle.desk_tree_gather.specs.Readers.{Reader, IsRightReader}
+use Rattle.desk_tree_infos.specs.Readers.{Reader, IsRightReader}
 use Rattle.desk_tree_gather.specs.Survey.{tag_flaws}
 use Rattle.desk_tree_gather.proofs.surveying.add_tags.Given as goal
 

@@ -1,10 +1,10 @@
 use Rattle.std.proofs.Common.{◌≡◌, map, sym, subst}
 use Rattle.std.specs.Prelude.{IfOk, Vec}
 use Rattle.std.specs.declared.alloc.Global.{Global}
-use Rattle.desk_tree_gather.specs.declared.folders.Folders.{Folders}
-use Rattle.desk_tree_gather.specs.declared.infos.Covered.{Covered}
-use Rattle.desk_tree_gather.specs.Folders.{Holds}
-use Rattle.desk_tree_gather.specs.Sharing.{infos_at}
+use Rattle.desk_tree_infos.specs.declared.folders.Folders.{Folders}
+use Rattle.desk_tree_infos.specs.declared.infos.Covered.{Covered}
+use Rattle.desk_tree_infos.specs.Folders.{Holds}
+use Rattle.desk_tree_infos.specs.Sharing.{infos_at}
 use Rattle.desk_tree_gather.specs.Shown.{files_of, tree_in}
 use Rattle.desk_tree_gather.specs.Survey.{info_sifted}
 use Rattle.desk_tree_gather.proofs.surveying.all_sifted.Goals as goal

@@ -1,11 +1,11 @@
 use Rattle.std.proofs.Common.{◌∙◌, ◌++◌, ◌∷◌, [], map, ap, sym, subst}
 use Rattle.std.specs.List.{flat_map}
 use Rattle.std.proofs.lemmas.List.{map-append, take_all}
-use Rattle.desk_tree_gather.specs.declared.folders.Folders.{Folders}
-use Rattle.desk_tree_gather.specs.Folders.{Holds}
+use Rattle.desk_tree_infos.specs.declared.folders.Folders.{Folders}
+use Rattle.desk_tree_infos.specs.Folders.{Holds}
 use Rattle.desk_tree_gather.specs.Gathering.{holder}
 use Rattle.desk_tree_gather.specs.Survey.{info_sifted, stated_flaws}
-use Rattle.desk_tree_gather.specs.Sharing.{info_at, infos_at}
+use Rattle.desk_tree_infos.specs.Sharing.{info_at, infos_at}
 use Rattle.desk_tree_gather.specs.Shown.{files_of, tree_in}
 use Rattle.desk_tree_gather.proofs.SurveyLemmas.{infos_more, flaws_more}
 use Rattle.desk_tree_gather.proofs.surveying.each_sifted.Goals as goal

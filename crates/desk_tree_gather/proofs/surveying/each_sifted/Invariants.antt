@@ -1,11 +1,11 @@
 use Rattle.std.proofs.Common.{◌≡◌, ◌++◌, take, map, List}
 use Rattle.std.specs.List.{flat_map}
-use Rattle.desk_tree_gather.specs.Readers.{Reader, IsRightReader}
-use Rattle.desk_tree_gather.specs.Tomls.{TomlText}
-use Rattle.desk_tree_gather.specs.Folders.{Holds}
+use Rattle.desk_tree_infos.specs.Readers.{Reader, IsRightReader}
+use Rattle.desk_tree_infos.specs.Tomls.{TomlText}
+use Rattle.desk_tree_infos.specs.Folders.{Holds}
 use Rattle.desk_tree_gather.specs.Gathering.{holder}
 use Rattle.desk_tree_gather.specs.Survey.{info_sifted, stated_flaws}
-use Rattle.desk_tree_gather.specs.Sharing.{infos_at}
+use Rattle.desk_tree_infos.specs.Sharing.{infos_at}
 use Rattle.desk_tree_gather.specs.Shown.{files_of, tree_in}
 use Rattle.desk_tree_gather.proofs.surveying.each_sifted.Given as goal
 

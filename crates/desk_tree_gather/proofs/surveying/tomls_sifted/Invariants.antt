@@ -1,8 +1,9 @@
 use Rattle.std.proofs.Common.{◌≡◌, ◌++◌, take, map}
 use Rattle.std.specs.List.{flat_map}
-use Rattle.desk_tree_gather.specs.Readers.{Reader, IsRightReader}
+use Rattle.desk_tree_infos.specs.Readers.{Reader, IsRightReader}
 use Rattle.desk_tree_gather.specs.Survey.{toml_sifted, toml_flaws}
-use Rattle.desk_tree_gather.specs.Shown.{files_of, tomls_in}
+use Rattle.desk_tree_infos.specs.Tomls.{tomls_in}
+use Rattle.desk_tree_gather.specs.Shown.{files_of}
 use Rattle.desk_tree_gather.proofs.surveying.tomls_sifted.Given as goal
 
 abbrev pub invariant-loop-file : goal.invariant-loop-file

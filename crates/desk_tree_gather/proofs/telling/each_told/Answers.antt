@@ -3,9 +3,9 @@ use Rattle.desk_tree_gather.specs.declared.files.SourceFile.{SourceFile}
 use Rattle.std.specs.Prelude.{Ok}
 use Rattle.std.proofs.lemmas.Bool.{false≢true}
 use Rattle.std.proofs.lemmas.List.{append-nil, map-append}
-use Rattle.desk_tree_gather.specs.declared.folders.Folders.{Folders}
+use Rattle.desk_tree_infos.specs.declared.folders.Folders.{Folders}
 use Rattle.desk_tree_gather.specs.Digests.{told_at, all_told}
-use Rattle.desk_tree_gather.specs.Folders.{Holds}
+use Rattle.desk_tree_infos.specs.Folders.{Holds}
 use Rattle.desk_tree_gather.specs.Paths.{is_covered}
 use Rattle.desk_tree_gather.specs.Shown.{left_in}
 use Rattle.desk_tree_gather.specs.Telling.{told_in, told_beside}

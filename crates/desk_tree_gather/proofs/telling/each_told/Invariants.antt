@@ -1,8 +1,8 @@
 use Rattle.std.proofs.Common.{◌≡◌, List}
 use Rattle.std.specs.BTreeMap.{btree_map_len}
-use Rattle.desk_tree_gather.specs.Readers.{Reader, IsRightReader}
-use Rattle.desk_tree_gather.specs.Tomls.{TomlText}
-use Rattle.desk_tree_gather.specs.Folders.{Holds}
+use Rattle.desk_tree_infos.specs.Readers.{Reader, IsRightReader}
+use Rattle.desk_tree_infos.specs.Tomls.{TomlText}
+use Rattle.desk_tree_infos.specs.Folders.{Holds}
 use Rattle.desk_tree_gather.specs.Digests.{all_told}
 use Rattle.desk_tree_gather.specs.Telling.{told_in}
 use Rattle.desk_tree_gather.specs.Shown.{left_in}

@@ -1,10 +1,10 @@
 use Rattle.std.proofs.Common.{sym, subst}
 use Rattle.std.specs.Prelude.{IfOk, Vec}
 use Rattle.std.specs.declared.alloc.Global.{Global}
-use Rattle.desk_tree_gather.specs.declared.folders.Folders.{Folders}
+use Rattle.desk_tree_infos.specs.declared.folders.Folders.{Folders}
 use Rattle.desk_tree_gather.specs.declared.telling.Digested.{Digested}
 use Rattle.desk_tree_gather.specs.Digests.{all_told}
-use Rattle.desk_tree_gather.specs.Folders.{Holds}
+use Rattle.desk_tree_infos.specs.Folders.{Holds}
 use Rattle.desk_tree_gather.specs.Shown.{Gives, left_in}
 use Rattle.desk_tree_gather.specs.Telling.{told_in}
 use Rattle.desk_tree_gather.proofs.telling.files_told.Goals as goal

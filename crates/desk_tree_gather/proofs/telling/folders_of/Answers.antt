@@ -1,7 +1,8 @@
 use Rattle.std.proofs.Common.{◌∙◌, ap, sym, subst}
 use Rattle.desk_tree_gather.specs.Paths.{is_toml}
 use Rattle.desk_tree_gather.specs.Tomls.{toml_of, tomls_of}
-use Rattle.desk_tree_gather.specs.Shown.{Gives, files_of, left_in, tomls_in}
+use Rattle.desk_tree_infos.specs.Tomls.{tomls_in}
+use Rattle.desk_tree_gather.specs.Shown.{Gives, files_of, left_in}
 use Rattle.desk_tree_gather.proofs.TellingLemmas.{each-filter}
 use Rattle.desk_tree_gather.proofs.telling.folders_of.Goals as goal
 

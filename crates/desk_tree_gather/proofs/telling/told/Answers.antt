@@ -1,7 +1,8 @@
 use Rattle.std.proofs.Common.{◌≡◌, List, subst}
 use Rattle.std.specs.Prelude.{IfOk, Ok}
-use Rattle.desk_tree_gather.specs.Folders.{Holds}
-use Rattle.desk_tree_gather.specs.Tomls.{TomlText, tomls_of}
+use Rattle.desk_tree_infos.specs.Folders.{Holds}
+use Rattle.desk_tree_infos.specs.Tomls.{TomlText}
+use Rattle.desk_tree_gather.specs.Tomls.{tomls_of}
 use Rattle.desk_tree_gather.specs.Trees.{tree_of}
 use Rattle.desk_tree_gather.specs.Shown.{Gives, left_in}
 use Rattle.desk_tree_gather.proofs.TellingLemmas.{told_found}

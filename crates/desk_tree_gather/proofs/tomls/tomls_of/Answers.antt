@@ -3,7 +3,8 @@ use Rattle.std.proofs.lemmas.List.{map_push}
 use Rattle.desk_tree_gather.specs.Paths.{is_toml}
 use Rattle.desk_tree_gather.specs.Trees.{each}
 use Rattle.desk_tree_gather.specs.Tomls.{toml_of}
-use Rattle.desk_tree_gather.specs.Shown.{Gives, files_of, toml_in, tomls_in}
+use Rattle.desk_tree_infos.specs.Tomls.{toml_in, tomls_in}
+use Rattle.desk_tree_gather.specs.Shown.{Gives, files_of}
 use Rattle.desk_tree_gather.proofs.EachLemmas.{onto-item, onto-fault}
 use Rattle.desk_tree_gather.proofs.tomls.tomls_of.Goals as goal
 use Rattle.desk_base.proofs.Results.{onto}

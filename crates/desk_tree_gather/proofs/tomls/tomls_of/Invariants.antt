@@ -1,9 +1,10 @@
 use Rattle.std.proofs.Common.{◌≡◌, drop}
-use Rattle.desk_tree_gather.specs.Readers.{Reader, IsRightReader}
+use Rattle.desk_tree_infos.specs.Readers.{Reader, IsRightReader}
 use Rattle.desk_tree_gather.specs.Paths.{is_toml}
 use Rattle.desk_tree_gather.specs.Trees.{each}
 use Rattle.desk_tree_gather.specs.Tomls.{toml_of, tomls_of}
-use Rattle.desk_tree_gather.specs.Shown.{files_of, tomls_in}
+use Rattle.desk_tree_infos.specs.Tomls.{tomls_in}
+use Rattle.desk_tree_gather.specs.Shown.{files_of}
 use Rattle.desk_tree_gather.proofs.tomls.tomls_of.Given as goal
 use Rattle.desk_base.proofs.Results.{onto}
 

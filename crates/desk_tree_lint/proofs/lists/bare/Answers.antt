@@ -1,6 +1,6 @@
 use Rattle.std.proofs.Common.{◌≡◌, ◌∙◌, ap, map, subst}
 use Rattle.std.specs.Prelude.{IfOk}
-use Rattle.desk_tree_gather.specs.Sharing.{outline_in}
+use Rattle.desk_tree_infos.specs.Sharing.{outline_in}
 use Rattle.desk_tree_lint.specs.Lists.{bare_in}
 use Rattle.desk_tree_lint.proofs.ListLemmas.{bare-outlined}
 use Rattle.desk_tree_lint.proofs.lists.bare.Goals as goal

@@ -1,5 +1,5 @@
 use Rattle.std.proofs.Common.{◌∙◌, ◌++◌, ◌+◌, drop, ap, map, refl}
-use Rattle.desk_tree_gather.specs.Sharing.{outline_in}
+use Rattle.desk_tree_infos.specs.Sharing.{outline_in}
 use Rattle.desk_tree_lint.specs.Lists.{bare_in}
 use Rattle.desk_tree_lint.proofs.ListLemmas.{bare_more}
 use Rattle.desk_tree_lint.proofs.lists.bare_in.Goals as goal

@@ -1,7 +1,7 @@
 use Rattle.std.proofs.Common.{◌≡◌, ℕ, drop, List}
 use Rattle.std.specs.Prelude.{◌||◌}
 use Rattle.desk_catalogue.specs.Values.{is_among}
-use Rattle.desk_tree_gather.specs.Firsts.{has_text}
+use Rattle.desk_tree_infos.specs.Firsts.{has_text}
 use Rattle.desk_tree_lint.proofs.lists.set_of.Given as goal
 use Rattle.desk_base.specs.Borrowed.{texts}
 

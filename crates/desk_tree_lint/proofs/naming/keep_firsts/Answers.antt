@@ -1,8 +1,8 @@
 use Rattle.std.proofs.Common.{◌∙◌, ◌++◌, List, [], ap, map, subst, take}
 use Rattle.std.specs.List.{flat_map}
 use Rattle.std.proofs.lemmas.List.{take_all}
-use Rattle.desk_tree_gather.specs.declared.firsts.First.{First}
-use Rattle.desk_tree_gather.specs.Firsts.{first_in}
+use Rattle.desk_tree_infos.specs.declared.firsts.First.{First}
+use Rattle.desk_tree_infos.specs.Firsts.{first_in}
 use Rattle.desk_tree_lint.specs.Firsts.{Holds, first_mentions, mentions_of}
 use Rattle.desk_tree_lint.specs.Naming.{MentionText, mentions_by}
 use Rattle.desk_tree_lint.proofs.FirstLemmas.{mentions_more}

@@ -1,5 +1,5 @@
 use Rattle.std.proofs.Common.{[], ℕ, List, take, map}
-use Rattle.desk_tree_gather.specs.Firsts.{first_in}
+use Rattle.desk_tree_infos.specs.Firsts.{first_in}
 use Rattle.desk_tree_lint.specs.Firsts.{Holds, first_mentions}
 use Rattle.desk_tree_lint.proofs.naming.keep_firsts.Given as goal
 

@@ -2,9 +2,9 @@ use Rattle.std.proofs.Common.{◌≡◌, ◌∙◌, arith, [], ap, subst, sym, m
 use Rattle.std.specs.Prelude.{IfOk}
 use Rattle.std.proofs.lemmas.List.{take_at}
 use Rattle.desk_model.specs.Texts.{sorted_set}
-use Rattle.desk_tree_gather.specs.declared.information.Subject.TheVariants.{Licences}
-use Rattle.desk_tree_gather.specs.Firsts.{firsts_of}
-use Rattle.desk_tree_gather.proofs.AmongLemmas.{among-set, set_sorted}
+use Rattle.desk_tree_infos.specs.declared.information.Subject.TheVariants.{Licences}
+use Rattle.desk_tree_infos.specs.Firsts.{firsts_of}
+use Rattle.desk_tree_infos.proofs.AmongLemmas.{among-set, set_sorted}
 use Rattle.desk_tree_lint.specs.Firsts.{Holds, asked_in, first_mentions}
 use Rattle.desk_tree_lint.specs.Naming.{name_by}
 use Rattle.desk_tree_lint.proofs.FirstLemmas.{mentions_alike}

@@ -8,7 +8,7 @@ use Rattle.std.specs.Str.{bytes_eq}
 use denote.Ref.{Bor}
 use Rattle.desk_base.specs.Borrowed.{texts}
 use Rattle.desk_model.specs.Texts.{sorted_set}
-use Rattle.desk_tree_gather.proofs.AmongLemmas.{among-set, set_sorted, sorted_once}
+use Rattle.desk_tree_infos.proofs.AmongLemmas.{among-set, set_sorted, sorted_once}
 use Rattle.desk_tree_lint.proofs.OrderLemmas.{among_at, among_from, both_ways, sorted_texts}
 use Rattle.desk_tree_lint.proofs.ordering.ordered.Goals as goal
 

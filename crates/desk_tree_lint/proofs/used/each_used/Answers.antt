@@ -1,8 +1,8 @@
 use Rattle.std.proofs.Common.{◌↔◌, ◌⊎◌, ◌∙◌, ap, map, subst}
 use Rattle.std.specs.Prelude.{Contains}
 use Rattle.std.proofs.lemmas.List.{drop_all, drop_more}
-use Rattle.desk_tree_gather.specs.declared.firsts.First.{First}
-use Rattle.desk_tree_gather.specs.Firsts.{FirstTexts, first_in}
+use Rattle.desk_tree_infos.specs.declared.firsts.First.{First}
+use Rattle.desk_tree_infos.specs.Firsts.{FirstTexts, first_in}
 use Rattle.desk_tree_lint.specs.Used.{IsUsedIn}
 use Rattle.desk_tree_lint.proofs.UsedLemmas.{some_first, some_end, some_start, along}
 use Rattle.desk_tree_lint.proofs.used.each_used.Goals as goal

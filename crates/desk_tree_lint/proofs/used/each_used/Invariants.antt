@@ -1,6 +1,6 @@
 use Rattle.std.proofs.Common.{◌↔◌, ◌⊎◌, ℕ, List, drop, map}
 use Rattle.std.specs.Prelude.{Contains}
-use Rattle.desk_tree_gather.specs.Firsts.{first_in}
+use Rattle.desk_tree_infos.specs.Firsts.{first_in}
 use Rattle.desk_tree_lint.specs.Used.{IsFirstUsed}
 use Rattle.desk_tree_lint.proofs.used.each_used.Given as goal
 

@@ -1,7 +1,7 @@
 use Rattle.std.proofs.Common.{◌↔◌, subst}
 use Rattle.std.specs.Prelude.{Contains}
 use Rattle.std.proofs.lemmas.Result.{IfOk-weaker}
-use Rattle.desk_tree_gather.proofs.AmongLemmas.{from_set, set_sorted, to_set}
+use Rattle.desk_tree_infos.proofs.AmongLemmas.{from_set, set_sorted, to_set}
 use Rattle.desk_tree_lint.specs.Used.{IsFirstUsed}
 use Rattle.desk_tree_lint.proofs.UsedLemmas.{along, used_first}
 use Rattle.desk_tree_lint.proofs.used.used.Goals as goal

@@ -1,7 +1,7 @@
 use Rattle.std.proofs.Common.{◌≡◌, ◌∙◌, ◌∷◌, [], Bool, true, false, cond, List, ap, map, refl, subst}
 use Rattle.std.specs.Prelude.{IfOk, ◌||◌, filter}
-use Rattle.desk_tree_gather.specs.declared.gathering.FileInfo.{FileInfo}
-use Rattle.desk_tree_gather.specs.Sharing.{OutlineText, outline_of, outline_in}
+use Rattle.desk_tree_infos.specs.declared.infos.FileInfo.{FileInfo}
+use Rattle.desk_tree_infos.specs.Sharing.{OutlineText, outline_of, outline_in}
 use Rattle.desk_tree_lint.specs.Lists.{is_bare}
 use Rattle.desk_tree_problems.specs.Bare.{bare_file, bare_files, bare_outline, bare_in}
 use Rattle.desk_tree_problems.proofs.bare.bare_files.Goals as goal

@@ -1,5 +1,5 @@
 use Rattle.std.proofs.Common.{◌≡◌, take, map}
-use Rattle.desk_tree_gather.specs.Sharing.{outline_in}
+use Rattle.desk_tree_infos.specs.Sharing.{outline_in}
 use Rattle.desk_tree_problems.specs.Bare.{bare_in}
 use Rattle.desk_tree_problems.proofs.bare.bare_in.Given as goal
 

@@ -3,7 +3,7 @@ use Rattle.std.proofs.lemmas.Simd.{map-map}
 use Rattle.desk_tree_gather.specs.declared.telling.Digested.{Digested}
 use Rattle.desk_tree_gather.specs.declared.telling.ToldFile.{ToldFile}
 use Rattle.desk_tree_gather.specs.Digests.{told_at}
-use Rattle.desk_tree_gather.specs.Sharing.{info_at, infos_at}
+use Rattle.desk_tree_infos.specs.Sharing.{info_at, infos_at}
 use Rattle.desk_tree_gather.proofs.telling.ToldFiles.into_infos.Goals as goal
 
 pub returns : goal.returns

@@ -1,6 +1,0 @@
-use Rattle.std.proofs.Common.{◌≡◌, take}
-use Rattle.desk_tree_gather.specs.Sharing.{infos_at}
-use Rattle.desk_tree_gather.proofs.infos.all_infos.Given as goal
-
-abbrev pub invariant-loop-file : goal.invariant-loop-file
-invariant-loop-file l = l.infos.items ≡ infos_at l.all (take l.file-index l.files)

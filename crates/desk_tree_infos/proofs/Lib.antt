@@ -1,0 +1,7 @@
+pub mod SharingLemmas
+pub mod FolderLemmas
+pub mod Running
+pub mod RestLemmas
+pub mod WayLemmas
+pub mod AmongLemmas
+pub mod FirstsLemmas

@@ -1,0 +1,7 @@
+pub mod Readers
+pub mod Tomls
+pub mod Information
+pub mod Ways
+pub mod Sharing
+pub mod Folders
+pub mod Firsts

@@ -1,0 +1,36 @@
+//! The information of all files of a source tree (REUSE Specification 3.3): which annotations count
+//! for a file, and what these and the file itself give it, with the texts of annotations kept once.
+//!
+//! - At most one annotation counts for a file in each folder from the root to its own: the last that
+//!   covers its path (`specs/Information.antt`). The code goes down the folders once.
+//! - A file's information is defined by cases: an override, or what the file states itself with the
+//!   aggregates and the nearest `closest` annotation.
+//! - What an annotation gives is kept once, however many files it counts for: each annotation has a
+//!   number (`folders.rt`), and a file has its own texts and the numbers of the annotations that
+//!   count (`specs/Sharing.antt`). Contracts see `Infos` as the list of the files' information; the
+//!   texts of a file are joined only when it is asked for (`info_at`).
+//! - `Infos::firsts` gives each text at the first file that has it (`specs/Firsts.antt`). It goes
+//!   through each annotation once, so that what is asked about all files takes time and memory in
+//!   proportion to the tree: their distinct texts, which licences they use, and which file names
+//!   each first.
+//! - Files come by path, and what is looked up for one is used for the next: `Trail` keeps the
+//!   annotations of the folders on its way.
+//! - The definitions are over a `Reader`: the pieces of patterns, the licence expressions, the
+//!   matches of paths and what files state themselves (`specs/Readers.antt`).
+#![tactic(auto)]
+
+mod covering;
+mod firsts;
+mod folders;
+mod information;
+mod infos;
+mod sets;
+mod trail;
+
+pub use covering::counting;
+pub use firsts::First;
+pub use folders::{Folders, Toml, by_folder};
+pub use information::{Sources, Subject, given};
+pub use infos::{Covered, FileInfo, Infos, Outline, info_at};
+pub use sets::set_in;
+pub use trail::Trail;
