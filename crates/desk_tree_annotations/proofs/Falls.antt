@@ -53,12 +53,12 @@ still_left : (a b : ℕ) (o : Option Spot) → a ≤ b → b ≤ text_left b o �
 still_left a b None h k = omega arith
 still_left a b (Some s) h k = omega arith
 
-abbrev Falls : ℕ → ℕ → State → State → Type 0
+abbrev pub Falls : ℕ → ℕ → State → State → Type 0
 Falls pieces text s n = Within pieces text s
     → Within pieces text n × (work pieces text n < work pieces text s)
 
 module _ (pieces text : ℕ) where
-  byte_falls : (b : ℕ) (ps : List Piece) (ts : List ℕ) (n p : Option Spot)
+  pub byte_falls : (b : ℕ) (ps : List Piece) (ts : List ℕ) (n p : Option Spot)
       → Falls pieces text (st (at (Byte b ∷ ps) (b ∷ ts)) n p) (st (at ps ts) n p)
   byte_falls b ps ts n p w =
       let h0 = w.here_pieces in

@@ -118,7 +118,7 @@ split_path s m =
     inr (inr (at s.pieces (b.0 ++ m.1), (refl, (name, cut, b.1.2)), (b.0, m.1, refl, tt, m.4))) in
     ⊎_elim within beyond (bounded m.0)
 
-longer_out : (w : Piece) (qs : List Piece) (c : ℕ) (us : List ℕ) → Wild w → Passes w c
+pub longer_out : (w : Piece) (qs : List Piece) (c : ℕ) (us : List ℕ) → Wild w → Passes w c
     → IsMatch (w ∷ qs) us → IsMatch (w ∷ qs) (c ∷ us)
 longer_out w qs c us h k m = (
   c ∷ m.0,
@@ -128,7 +128,7 @@ longer_out w qs c us h k m = (
   m.4,
 )
 
-join_name : (s r : Spot) → Longer (Some s) r → IsMatch (InName ∷ r.pieces) r.text
+pub join_name : (s r : Spot) → Longer (Some s) r → IsMatch (InName ∷ r.pieces) r.text
     → IsMatch (InName ∷ s.pieces) s.text
 join_name s r l m =
     let same : s ≡ at r.pieces (l.0 ∷ r.text) = λ i. record { pieces = l.1 i; text = l.2 i } in
@@ -141,7 +141,7 @@ further_out ps ts us b m =
     let cut = b.1 ∙ ap (λ l. b.0 ++ (47 ∷ l)) m.2 ∙ sym (append_assoc b.0 (47 ∷ m.0) m.1) in
     (b.0 ++ (47 ∷ m.0), m.1, cut, tt, m.4)
 
-join_path : (s r : Spot) → Further (Some s) r → IsMatch (InPath ∷ r.pieces) r.text
+pub join_path : (s r : Spot) → Further (Some s) r → IsMatch (InPath ∷ r.pieces) r.text
     → IsMatch (InPath ∷ s.pieces) s.text
 join_path s r f m = further_out s.pieces s.text r.text f.1
     (subst (λ x. IsMatch (InPath ∷ x) r.text) (sym f.0) m)
@@ -240,7 +240,7 @@ byte_in b ps ts m =
 byte_out : (b : ℕ) (ps : List Piece) (ts : List ℕ) → IsMatch ps ts → IsMatch (Byte b ∷ ps) (b ∷ ts)
 byte_out b ps ts m = (b ∷ [], ts, refl, refl, m)
 
-empty_out : (w : Piece) (ps : List Piece) (ts : List ℕ) → Wild w → IsMatch ps ts
+pub empty_out : (w : Piece) (ps : List Piece) (ts : List ℕ) → Wild w → IsMatch ps ts
     → IsMatch (w ∷ ps) ts
 empty_out w ps ts h m = ([], ts, refl, none_covered w h, m)
 
@@ -262,7 +262,7 @@ some_more (Some s) P Q f h = f s h
 abbrev pub st : Spot → Option Spot → Option Spot → State
 st h n p = record { here = h; name = n; path = p }
 
-holds_byte : (all : List Piece) (whole : List ℕ) (b : ℕ) (ps : List Piece) (ts : List ℕ)
+pub holds_byte : (all : List Piece) (whole : List ℕ) (b : ℕ) (ps : List Piece) (ts : List ℕ)
     (n p : Option Spot) → Holds all whole (st (at (Byte b ∷ ps) (b ∷ ts)) n p)
     → Holds all whole (st (at ps ts) n p)
 holds_byte all whole b ps ts n p h = record {
@@ -318,7 +318,7 @@ path_again ps ts None l a = absurd a.1
 path_again ps ts (Some x) l a = reached_match InPath ps ts wild_path (l (later_reached x a))
 
 -- a search that begins after a `**`
-holds_new : (all : List Piece) (whole : List ℕ) (ps : List Piece) (ts : List ℕ)
+pub holds_new : (all : List Piece) (whole : List ℕ) (ps : List Piece) (ts : List ℕ)
     → (IsMatch (InPath ∷ ps) ts → IsMatch all whole)
     → (IsMatch all whole → IsMatch (InPath ∷ ps) ts)
     → Holds all whole (st (at ps ts) (Some (at ps ts)) (Some (at ps ts)))
@@ -360,7 +360,7 @@ later_in qs ts us b a =
     let spots : at qs us ≡ a.0 = λ i. record { pieces = pieces i; text = same i } in
     subst (λ x. IsMatch (InPath ∷ x.pieces) x.text) (sym spots) a.2
 
-holds_longer_name : (all : List Piece) (whole : List ℕ) (h : Spot) (qs : List Piece) (c : ℕ)
+pub holds_longer_name : (all : List Piece) (whole : List ℕ) (h : Spot) (qs : List Piece) (c : ℕ)
     (us : List ℕ) (p : Option Spot) → Passes InName c → (Fits h → ⊥)
     → Holds all whole (st h (Some (at qs (c ∷ us))) p)
     → Holds all whole (st (at qs us) (Some (at qs us)) p)

@@ -4,7 +4,10 @@ pub mod SiftLemmas
 pub mod Names
 pub mod Greedy
 pub mod Falls
+pub mod PlaceLemmas
+pub mod Jumps
 pub mod GlobOnce
+pub mod PartLemmas
 pub mod Needles
 pub mod RunLemmas
 pub mod TagLemmas

@@ -5,6 +5,7 @@ pub mod Reading
 pub mod Sifting
 pub mod Shown
 pub mod Glob
+pub mod Parts
 pub mod Steps
 pub mod Runs
 pub mod Tags

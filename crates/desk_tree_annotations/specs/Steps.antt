@@ -1,10 +1,12 @@
 -- The steps of a search for a match.
-use Rattle.std.specs.Prelude.{◌⊎◌, ◌≡◌, ◌≢◌, ℕ, List, [], ◌∷◌, ◌++◌, All, Option, Some, None}
+use Rattle.std.specs.Prelude.{◌⊎◌, ◌≡◌, ◌≢◌, ◌<◌, ◌≤◌, ℕ, List, [], ◌∷◌, ◌++◌, All, Option, Some}
+use Rattle.std.specs.Prelude.{None, length, take, drop}
 use Rattle.desk_tree_annotations.specs.declared.glob.Piece.{Piece}
 use Rattle.desk_tree_annotations.specs.declared.glob.Piece.TheVariants.{Byte, InName, InPath}
 use Rattle.desk_tree_annotations.specs.declared.matching.Place.{Place}
 use Rattle.desk_tree_annotations.specs.declared.matching.Search.{Search}
 use Rattle.desk_tree_annotations.specs.Glob.{IsMatch, Covers}
+use Rattle.desk_tree_annotations.specs.Parts.{literal, pieces}
 
 pub record Spot : Type 0 where
   pub pieces : List Piece
@@ -16,7 +18,7 @@ pub record State : Type 0 where
   pub path : Option Spot
 
 abbrev pub spot : Place → Spot
-spot p = record { pieces = p.pieces.now; text = p.text.now }
+spot p = record { pieces = pieces p.bytes.now p.parts.now; text = p.text.now }
 
 abbrev pub back : Option Place → Option Spot
 back None = None
@@ -95,3 +97,45 @@ Steps s n = Follows s n ⊎ (Stuck s.here × Returns s n)
 -- a search that has no step
 abbrev pub Ends : State → Type 0
 Ends s = Stuck s.here × NoLonger s.name × NoFurther s.path
+
+-- the last run of literal bytes is all that is left of the text
+abbrev pub IsFound : Place → Type 0
+IsFound p = (p.parts.now ≡ []) × (p.text.now ≡ p.bytes.now)
+
+-- a run of literal bytes found
+abbrev pub Passed : State → State → Type 0
+Passed s n = (run : List ℕ) × (s.here.pieces ≡ literal run ++ n.here.pieces)
+    × (s.here.text ≡ run ++ n.here.text) × (n.name ≡ s.name) × (n.path ≡ s.path)
+
+-- a place further on in the text, with no match from a place before it
+pub record Skips (s r : Spot) : Type 0 where
+  pub count : ℕ
+  pub within : count ≤ length s.text
+  pub pieces : r.pieces ≡ s.pieces
+  pub text : r.text ≡ drop count s.text
+  pub none : (k : ℕ) → k < count → IsMatch s.pieces (drop k s.text) → ⊥
+
+-- behind a `*`, further on in the same name
+abbrev pub SettlesInName : State → State → Type 0
+SettlesInName s n = (k : Skips s.here n.here) × All (λ b. b ≢ 47) (take k.count s.here.text)
+    × (s.name ≡ Some s.here) × (n.name ≡ Some n.here) × (n.path ≡ s.path)
+
+-- behind a `**`, further on in the whole text
+abbrev pub SettlesInPath : State → State → Type 0
+SettlesInPath s n = Skips s.here n.here × (s.name ≡ Some s.here) × (s.path ≡ Some s.here)
+    × (n.name ≡ Some n.here) × (n.path ≡ Some n.here)
+
+abbrev pub Settles : State → State → Type 0
+Settles s n = SettlesInName s n ⊎ SettlesInPath s n
+
+-- past a run and a star
+abbrev pub GoesOn : State → State → Type 0
+GoesOn s n = (m : State) × Passed s m × ((k : State) × Follows m k × Settles k n)
+
+-- back to a star
+abbrev pub GoesBack : State → State → Type 0
+GoesBack s n = (k : State) × Returns s k × Settles k n
+
+-- some steps at once
+abbrev pub Goes : State → State → Type 0
+Goes s n = GoesOn s n ⊎ (Stuck s.here × GoesBack s n)

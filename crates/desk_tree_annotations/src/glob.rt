@@ -19,6 +19,20 @@ pub enum Piece {
     InPath,
 }
 
+// One asterisk or two.
+#[derive(Clone, Copy)]
+pub(crate) enum Star {
+    Single,
+    Double,
+}
+
+// A star, and how many literal bytes stand between the star before it and this one.
+#[derive(Clone, Copy)]
+pub(crate) struct Part {
+    pub before: u32,
+    pub star: Star,
+}
+
 // The first piece of a pattern, and what follows it.
 fn first_piece(pattern: &[u8]) -> Option<(Piece, &[u8])>
     ensures some { IfSome result (λ r. Begins pattern.now r.0 r.1.now) }
@@ -38,33 +52,60 @@ fn first_piece(pattern: &[u8]) -> Option<(Piece, &[u8])>
 ///
 /// `*` is any bytes except `/`, `**` any bytes, `\*` an asterisk and `\\` a backslash. A pattern is
 /// read from the left: two asterisks are `**`, and a backslash stands for the byte after it, or at
-/// the end for itself. So each text is a pattern.
+/// the end for itself. So each text is a pattern. It takes one byte for each byte that stands for
+/// itself, and eight for each star.
 #[derive(Drop)]
 pub struct Glob {
-    pieces: Vec<Piece>,
+    // The bytes that stand for themselves, one after another.
+    bytes: Vec<u8>,
+    // The stars in order.
+    parts: Vec<Part>,
 }
 
 impl Model for Glob {
     ghost use Rattle.std.specs.Prelude.{List};
     ghost use Rattle.desk_tree_annotations.specs.declared.glob.Piece.{Piece};
+    ghost use Rattle.desk_tree_annotations.specs.Parts.{pieces};
 
     ghost Value = { List Piece };
 
-    ghost view = { λ g. g.pieces.items };
+    ghost view = { λ g. pieces g.bytes.items g.parts.items };
 }
 
 impl Glob {
-    /// The pieces of a pattern. The only error is lack of memory.
+    /// The pieces of a pattern. The only error is lack of memory: it also comes if 2 ^ 32 bytes or
+    /// more stand for themselves with no star between them.
     pub fn parse(alloc: Global, pattern: &str) -> Result<Glob, AllocError>
         ensures { IfOk result (λ g. Spells pattern.now g) }
     {
-        let mut pieces = Vec::new(alloc);
+        let mut bytes = Vec::new(alloc);
+        let mut parts = Vec::new(alloc);
+        // The bytes since the last star.
+        let mut before: u32 = 0;
         let mut rest = pattern.as_bytes();
         while let Some((piece, more)) = first_piece(rest) {
-            pieces.push(piece)?;
+            match piece {
+                Piece::Byte(byte) => {
+                    let Some(longer) = before.checked_add(1) else {
+                        return Err(AllocError);
+                    };
+                    bytes.push(byte)?;
+                    before = longer;
+                }
+                Piece::InName => {
+                    let star = Star::Single;
+                    parts.push(Part { before, star })?;
+                    before = 0;
+                }
+                Piece::InPath => {
+                    let star = Star::Double;
+                    parts.push(Part { before, star })?;
+                    before = 0;
+                }
+            }
             rest = more;
         }
-        Ok(Glob { pieces })
+        Ok(Glob { bytes, parts })
     }
 
     /// Whether the pattern matches the whole path: whether the path divides into stretches, one for
@@ -72,7 +113,11 @@ impl Glob {
     pub fn matches(&self, path: &str) -> bool
         ensures { IsTrue result ↔ IsMatch self.now path.now }
     {
-        matches(self.pieces.as_slice(), path.as_bytes())
+        matches(
+            self.parts.as_slice(),
+            self.bytes.as_slice(),
+            path.as_bytes(),
+        )
     }
 }
 

@@ -1,4 +1,5 @@
 use Rattle.std.proofs.Common.{length}
+use Rattle.desk_tree_annotations.specs.Parts.{pieces}
 use Rattle.desk_tree_annotations.specs.Steps.{state}
 use Rattle.desk_tree_annotations.proofs.Greedy.{Holds}
 use Rattle.desk_tree_annotations.proofs.Falls.{Within, work}
@@ -6,9 +7,10 @@ use Rattle.desk_tree_annotations.proofs.matching.matches.Given as goal
 
 abbrev pub invariant-loop-search : goal.invariant-loop-search
 invariant-loop-search l = record {
-  holds : Holds l.fn.pieces l.fn.path (state l.search);
-  within : Within (length l.fn.pieces) (length l.fn.path) (state l.search);
+  holds : Holds (pieces l.fn.bytes l.fn.parts) l.fn.path (state l.search);
+  within : Within (length (pieces l.fn.bytes l.fn.parts)) (length l.fn.path) (state l.search);
 }
 
 abbrev pub decreases-loop-search : goal.decreases-loop-search
-decreases-loop-search l = work (length l.fn.pieces) (length l.fn.path) (state l.search)
+decreases-loop-search l = work (length (pieces l.fn.bytes l.fn.parts)) (length l.fn.path)
+    (state l.search)

@@ -1,12 +1,13 @@
-use Rattle.std.proofs.Common.{List, ◌++◌, length}
-use Rattle.desk_tree_annotations.specs.declared.glob.Piece.{Piece}
-use Rattle.desk_tree_annotations.specs.Glob.{Spells}
+use Rattle.std.proofs.Common.{◌≡◌, ◌+◌, length}
+use Rattle.desk_tree_annotations.specs.Parts.{pieces}
+use Rattle.desk_tree_annotations.proofs.PartLemmas.{placed, Completes}
 use Rattle.desk_tree_annotations.proofs.glob.Glob.parse.Given as goal
 
--- whatever pieces the rest is, they complete the list
 abbrev pub invariant-loop-piece : goal.invariant-loop-piece
-invariant-loop-piece l = (ps : List Piece) → Spells l.rest ps
-    → Spells l.pattern (l.pieces.items ++ ps)
+invariant-loop-piece l = record {
+  all : placed l.parts.items + l.before ≡ length l.bytes.items;
+  read : Completes l.pattern (pieces l.bytes.items l.parts.items) l.rest;
+}
 
 abbrev pub decreases-loop-piece : goal.decreases-loop-piece
 decreases-loop-piece l = length l.rest
