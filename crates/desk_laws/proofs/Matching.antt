@@ -3,9 +3,9 @@ use Rattle.std.proofs.Common.{◌≡◌, ◌≢◌, ◌∙◌, ◌⊎◌, inl, i
 use Rattle.std.specs.Prelude.{All}
 use Rattle.std.proofs.lemmas.Bool.{cases_eq}
 use Rattle.std.proofs.lemmas.List.Elements.{All-nil, All-cons, All-tail, All-get_or}
-use Rattle.desk_tree_annotations.specs.declared.glob.Piece.{Piece}
-use Rattle.desk_tree_annotations.specs.declared.glob.Piece.TheVariants.{Byte, InName, InPath}
-use Rattle.desk_tree_annotations.specs.Glob.{IsMatch}
+use Rattle.desk_tree_patterns.specs.declared.glob.Piece.{Piece}
+use Rattle.desk_tree_patterns.specs.declared.glob.Piece.TheVariants.{Byte, InName, InPath}
+use Rattle.desk_tree_patterns.specs.Glob.{IsMatch}
 
 abbrev pub Decided : List Piece → List ℕ → Type 0
 Decided ps path = IsMatch ps path ⊎ (IsMatch ps path → ⊥)

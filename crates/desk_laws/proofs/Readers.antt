@@ -5,7 +5,7 @@ use Rattle.desk_base.specs.declared.profile.Profile.TheVariants.{Capitals}
 use Rattle.desk_expr.specs.Tree.{Tree}
 use Rattle.desk_expr.specs.Spelling.{SpellsWithin}
 use Rattle.desk_alts.proofs.Texts.{tree_of_text}
-use Rattle.desk_tree_annotations.proofs.GlobOnce.{each_spelled}
+use Rattle.desk_tree_patterns.proofs.GlobOnce.{each_spelled}
 use Rattle.desk_tree_annotations.specs.Right.{Reading, IsRight, Tells}
 use Rattle.desk_tree_infos.specs.Readers.{Reader, IsRightReader}
 use Rattle.desk_laws.proofs.Matching.{decided}

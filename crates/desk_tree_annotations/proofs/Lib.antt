@@ -1,13 +1,6 @@
 pub mod RightLemmas
 pub mod EntryLemmas
 pub mod SiftLemmas
-pub mod Names
-pub mod Greedy
-pub mod Falls
-pub mod PlaceLemmas
-pub mod Jumps
-pub mod GlobOnce
-pub mod PartLemmas
 pub mod Needles
 pub mod RunLemmas
 pub mod TagLemmas

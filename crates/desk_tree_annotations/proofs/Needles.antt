@@ -3,39 +3,10 @@ use Rattle.std.proofs.Common.{◌≡◌, ◌∙◌, ℕ, zero, suc, ◌+◌, ◌
 use Rattle.std.proofs.Common.{take, drop, sym, ap, refl, arith, append_assoc, length-append}
 use Rattle.std.proofs.Common.{length-drop, take-append-drop}
 use Rattle.std.specs.Prelude.{Some}
-use Rattle.std.proofs.Math.ListN.{get_or-append}
-use Rattle.std.proofs.Math.Seq.{get_or-append_right}
 use Rattle.std.proofs.lemmas.Grind.{same_number_lists, common_steps}
 use Rattle.memchr.specs.Find.{OccursAt, FindsNeedle, Nowhere}
 use Rattle.desk_tree_annotations.specs.Runs.{Lacks, IsUpTo}
-
--- a needle between two lists occurs
-pub occurs : (hay xs needle ys : List ℕ) → hay ≡ xs ++ (needle ++ ys)
-    → OccursAt hay needle (length xs)
-occurs hay xs needle ys e = record {
-  fits = let a = ap length e ∙ length-append xs (needle ++ ys) in let b = length-append needle ys in
-      omega arith;
-  reads = λ j lt.
-      let here : length xs + j - length xs ≡ j = omega arith in
-      ap (λ l. get_or l (length xs + j) 0) e
-      ∙ get_or-append_right xs (needle ++ ys) (length xs + j) 0 (omega arith)
-      ∙ ap (λ i. get_or (needle ++ ys) i 0) here ∙ get_or-append needle ys 0 j lt;
-}
-
-pub cut_at : (hay needle : List ℕ) (k : ℕ) → OccursAt hay needle k
-    → hay ≡ take k hay ++ (needle ++ drop (k + length needle) hay)
-cut_at hay needle k o =
-    let fits = o.fits in
-    let reads = o.reads in
-    let n = length needle in
-    let core = drop k hay in
-    let len : length core ≡ length hay - k = length-drop k hay in
-    let front : take n core ≡ needle =
-    same_number_lists (take n core) needle (grind (arith, common_steps))
-    (λ j lt. grind (arith, common_steps, reads j)) in
-    let back : drop n core ≡ drop (k + n) hay = grind (arith, common_steps) in
-    sym (take-append-drop k hay) ∙ ap (λ l. take k hay ++ l)
-    (sym (take-append-drop n core) ∙ ap (λ l. l ++ drop n core) front ∙ ap (λ l. needle ++ l) back)
+use Rattle.desk_tree_patterns.proofs.Needles.{occurs, cut_at}
 
 pub none_lacks : (hay needle : List ℕ) → Nowhere (OccursAt hay needle) 0 (length hay + 1)
     → Lacks needle hay

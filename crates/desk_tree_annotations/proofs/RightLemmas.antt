@@ -7,9 +7,9 @@ use Rattle.std.proofs.lemmas.List.{drop_more, take_more, map_push}
 use Rattle.desk_expr.specs.Faults.{fault_number}
 use Rattle.desk_expr.specs.declared.fault.ParseFault.{ParseFault}
 use Rattle.desk_expr.specs.declared.fault.ParseFault.TheVariants.{Memory}
-use Rattle.desk_tree_annotations.specs.declared.glob.Piece.{Piece}
-use Rattle.desk_tree_annotations.specs.Glob.{Spells}
-use Rattle.desk_tree_annotations.proofs.GlobOnce.{spells_once}
+use Rattle.desk_tree_patterns.specs.declared.glob.Piece.{Piece}
+use Rattle.desk_tree_patterns.specs.Glob.{Spells}
+use Rattle.desk_tree_patterns.proofs.GlobOnce.{spells_once}
 use Rattle.desk_tree_annotations.specs.Right.{Tells, Reading, IsRight}
 
 pub tells_once : (text : List ℕ) (a b : Bool) → Tells text a → Tells text b → a ≡ b

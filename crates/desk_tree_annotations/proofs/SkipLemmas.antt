@@ -20,13 +20,9 @@ use Rattle.desk_tree_annotations.proofs.RunLemmas.{run_line}
 use Rattle.desk_tree_annotations.proofs.RunOnce.{shorter}
 use Rattle.desk_tree_annotations.proofs.TagLemmas.{Completes}
 use Rattle.desk_tree_annotations.proofs.EachRun.{lacks_more, lacks_front, lacks_back}
+use Rattle.desk_tree_patterns.proofs.Needles.{order}
 
 -- ---- where no needle begins
-
-pub order : (m n : ℕ) → (m ≤ n) ⊎ (n < m)
-order zero n = inl (omega arith)
-order (suc m) zero = inr (omega arith)
-order (suc m) (suc n) = elim (order m n) [ inl le ↦ inl (omega arith) | inr lt ↦ inr (omega arith) ]
 
 -- none begins before the first
 pub clear_before : (needle bytes before after : List ℕ) → bytes ≡ before ++ (needle ++ after)

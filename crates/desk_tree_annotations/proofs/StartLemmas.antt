@@ -10,7 +10,8 @@ use Rattle.std.proofs.lemmas.List.{get_or-drop, get_or-take, get_or_default}
 use Rattle.memchr.specs.Find.{Nowhere, Passes, is_byte2}
 use Rattle.desk_tree_annotations.specs.Runs.{Lacks, IsUpTo, start}
 use Rattle.desk_tree_annotations.specs.Skipping.{IsClear}
-use Rattle.desk_tree_annotations.proofs.SkipLemmas.{order, clear_lacks}
+use Rattle.desk_tree_annotations.proofs.SkipLemmas.{clear_lacks}
+use Rattle.desk_tree_patterns.proofs.Needles.{order}
 
 -- neither a line feed nor the first letter of a start is from one place up to another
 abbrev pub Plain : List ℕ → ℕ → ℕ → Type 0

@@ -4,9 +4,6 @@ pub mod Values
 pub mod Reading
 pub mod Sifting
 pub mod Shown
-pub mod Glob
-pub mod Parts
-pub mod Steps
 pub mod Runs
 pub mod Tags
 pub mod Found

@@ -2,8 +2,8 @@
 use Rattle.std.specs.Prelude.{ℕ, Bool, true, false, List}
 use Rattle.desk_expr.specs.Tree.{Tree}
 use Rattle.desk_expr.specs.Spelling.{SpellsWithin}
-use Rattle.desk_tree_annotations.specs.declared.glob.Piece.{Piece}
-use Rattle.desk_tree_annotations.specs.Glob.{Spells}
+use Rattle.desk_tree_patterns.specs.declared.glob.Piece.{Piece}
+use Rattle.desk_tree_patterns.specs.Glob.{Spells}
 
 -- the text is a licence expression (SPDX 2.3, Annex D), or isn't one
 abbrev pub Tells : List ℕ → Bool → Type 0

@@ -1,8 +1,8 @@
 //! Annotations.
 
-use crate::glob::Glob;
 use crate::shared::SharedTexts;
 use desk_base::Items;
+use desk_tree_patterns::Glob;
 
 /// How an annotation relates to what a file states itself.
 #[derive(Clone, Copy, PartialEq, Eq)]

@@ -1,6 +1,6 @@
 //! What files and REUSE.toml files state about licences and notices (REUSE Specification 3.3): the
-//! tags of a file, the patterns of paths, and the annotations that a REUSE.toml gives to the files
-//! below its folder.
+//! tags of a file, and the annotations that a REUSE.toml gives to the files below its folder whose
+//! paths match its patterns (`desk_tree_patterns`).
 //!
 //! ```toml
 //! version = 1
@@ -14,9 +14,6 @@
 //!
 //! - `header` returns the notices and licences of a file's bytes, each with its line
 //!   (`specs/Runs.antt`, `specs/Tags.antt`).
-//! - `Glob::parse` reads a pattern, and `Glob::matches` says whether a path divides into stretches,
-//!   one for each of its pieces in order (`specs/Glob.antt`). Contracts see a `Glob` as the list of
-//!   its pieces.
 //! - `Annotations::read` reads a REUSE.toml. `annotations_of` (`specs/Reading.antt`) is a function
 //!   of the text: the annotations in order, or the first fault. It takes the table that `toml`
 //!   reads in the text and, from a `Reading`, the pieces of patterns and which texts are licence
@@ -33,10 +30,8 @@ mod annotation;
 mod entries;
 mod expressions;
 mod fault;
-mod glob;
 mod info;
 mod laws;
-mod matching;
 mod reading;
 mod runs;
 mod shared;
@@ -48,7 +43,6 @@ mod values;
 pub use annotation::{Annotation, Annotations, Precedence};
 pub use expressions::{is_expression, is_expression_beside};
 pub use fault::{AnnotationFault, AnnotationsFault};
-pub use glob::{Glob, Piece, each_text_is_a_glob, one_glob};
 pub use info::{Info, header, one_header};
 pub use laws::{one_reading, reading_is_sifting};
 pub use shared::{SharedText, SharedTexts};

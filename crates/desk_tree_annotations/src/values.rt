@@ -7,8 +7,8 @@ ghost use Rattle.desk_tree_annotations.specs.Right.{Reading, IsRight};
 ghost use Rattle.desk_tree_annotations.specs.Values.{strings, texts_of, texts_at, precedence_text, precedence_of, is_version};
 
 use crate::annotation::Precedence;
-use crate::glob::Glob;
 use desk_base::{Items, TextList};
+use desk_tree_patterns::Glob;
 use std::alloc::{AllocError, Global};
 use toml::{Table, Value};
 

@@ -2,8 +2,8 @@
 use Rattle.std.proofs.Common.{◌≡◌, ℕ, Bool, List}
 use Rattle.std.specs.Bool.{Decides}
 use Rattle.std.proofs.lemmas.Bool.Decides.{same_from_decides}
-use Rattle.desk_tree_annotations.specs.declared.glob.Piece.{Piece}
-use Rattle.desk_tree_annotations.specs.Glob.{IsMatch}
+use Rattle.desk_tree_patterns.specs.declared.glob.Piece.{Piece}
+use Rattle.desk_tree_patterns.specs.Glob.{IsMatch}
 use Rattle.desk_tree_annotations.specs.Tags.{IsInfo}
 use Rattle.desk_tree_annotations.proofs.TagOnce.{info_once}
 use Rattle.desk_tree_annotations.proofs.RightLemmas.{same_reading, same_test}

@@ -1,8 +1,8 @@
 -- Which readings of patterns, licence expressions, paths and files are right.
 use Rattle.std.specs.Prelude.{ℕ, Bool, List}
 use Rattle.std.specs.Bool.{Decides}
-use Rattle.desk_tree_annotations.specs.declared.glob.Piece.{Piece}
-use Rattle.desk_tree_annotations.specs.Glob.{IsMatch}
+use Rattle.desk_tree_patterns.specs.declared.glob.Piece.{Piece}
+use Rattle.desk_tree_patterns.specs.Glob.{IsMatch}
 use Rattle.desk_tree_annotations.specs.Tags.{TagText, IsInfo}
 use Rattle.desk_tree_annotations.specs.Right.{Reading, IsRight}
 

@@ -1,5 +1,0 @@
-use Rattle.desk_tree_annotations.proofs.GlobOnce.{each_spelled}
-use Rattle.desk_tree_annotations.proofs.glob.each_text_is_a_glob.Goals as goal
-
-pub returns : goal.returns
-returns c = each_spelled

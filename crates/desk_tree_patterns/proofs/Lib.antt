@@ -1,0 +1,8 @@
+pub mod Needles
+pub mod Names
+pub mod Greedy
+pub mod Falls
+pub mod PlaceLemmas
+pub mod Jumps
+pub mod GlobOnce
+pub mod PartLemmas

@@ -1,0 +1,14 @@
+//! Patterns of paths, as a REUSE.toml has them (REUSE Specification 3.3, "REUSE.toml", `path`).
+//!
+//! - `Glob::parse` reads a pattern, and `Glob::matches` says whether a path divides into stretches,
+//!   one for each of its pieces in order (`specs/Glob.antt`). Contracts see a `Glob` as the list of
+//!   its pieces; it is kept as its stars and the bytes between them (`specs/Parts.antt`).
+//! - A pattern can be read in only one way (`one_glob`), and each text is one
+//!   (`each_text_is_a_glob`).
+//! - A search goes from star to star (`specs/Steps.antt`).
+#![tactic(auto)]
+
+mod glob;
+mod matching;
+
+pub use glob::{Glob, Piece, each_text_is_a_glob, one_glob};
