@@ -1,19 +1,15 @@
-//! The value in a column of a row. No desk's table has a value of another kind.
+//! The numbers and bytes in a column of a row, whoever wrote them.
 
-ghost use Rattle.std.specs.Prelude.{◌≡◌, ◌<◌, ℕ, ℤ, IfErr, IfOk, List, Option, length};
+ghost use Rattle.std.specs.Prelude.{◌≡◌, ℕ, ℤ, IfErr, IfOk, List};
 ghost use Rattle.sqlite_value.specs.Order.{column};
-ghost use Rattle.sqlite_value.specs.declared.value.Value.TheVariants.{Int as Whole, Text as Words, Blob};
-ghost use Rattle.desk_sql_layout.specs.Cells.{text_or_null};
-ghost use Rattle.desk_sql_layout.specs.Causes.{IsWritten};
+ghost use Rattle.sqlite_value.specs.declared.value.Value.TheVariants.{Int as Whole, Blob};
 
-use desk_base::{Items, Text};
-use desk_model::{Fault, StoreFault};
+use desk_base::Items;
+use desk_model::Fault;
+use desk_sql_layout::columns::ROWS;
 use sqlite::Row;
 use sqlite_value::value::ValueRef;
 use std::alloc::Global;
-
-/// The fault of rows that no desk's table has.
-const ROWS: Fault = Fault::Store(StoreFault::Rows);
 
 /// A number.
 pub(crate) fn number_at(row: &Row, at: usize) -> Result<i64, Fault>
@@ -24,35 +20,6 @@ pub(crate) fn number_at(row: &Row, at: usize) -> Result<i64, Fault>
     match row.get_ref(at) {
         Ok(ValueRef::Int(number)) => Ok(number),
         _ => Err(ROWS),
-    }
-}
-
-/// A text.
-pub(crate) fn text_at(alloc: Global, row: &Row, at: usize) -> Result<Text, Fault>
-    ensures value { IfOk result (λ text. column row.now at ≡ Words text) }
-    ensures cause { IfErr result (λ fault. (text : List ℕ)
-        → column row.now at ≡ Words text
-        → IsWritten (column row.now at) → fault ≡ Fault.Memory) }
-{
-    match row.get_ref(at) {
-        Ok(ValueRef::Text(bytes)) => match std::str::from_utf8(bytes) {
-            Ok(text) => Ok(Text::of(alloc, text)?),
-            Err(_) => Err(ROWS),
-        },
-        _ => Err(ROWS),
-    }
-}
-
-/// A text, or none if the column is NULL.
-pub(crate) fn text_or_null_at(alloc: Global, row: &Row, at: usize) -> Result<Option<Text>, Fault>
-    ensures value { IfOk result (λ text. column row.now at ≡ text_or_null text) }
-    ensures cause { IfErr result (λ fault. (text : Option (List ℕ)) → at < length row.now
-        → column row.now at ≡ text_or_null text
-        → IsWritten (column row.now at) → fault ≡ Fault.Memory) }
-{
-    match row.get_ref(at) {
-        Ok(ValueRef::Null) => Ok(None),
-        _ => Ok(Some(text_at(alloc, row, at)?)),
     }
 }
 

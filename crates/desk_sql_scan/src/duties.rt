@@ -10,12 +10,13 @@ ghost use Rattle.desk_sql_scan.specs.Parts.{HasDuties, OfDuties};
 ghost use Rattle.desk_sql_scan.specs.Scanning.{Scans};
 ghost use Rattle.desk_sql_scan.specs.Scans.{IsScan};
 
-use crate::columns::{number_at, text_at};
+use crate::columns::number_at;
 use crate::scan::{Stored, items, listed};
 use crate::source::Source;
 use desk_base::Items;
 use desk_model::Fault;
 use desk_snapshot::{Listed, StoredChange, StoredDuty, StoredWaiver};
+use desk_sql_layout::columns::text_at;
 use sqlite::Row;
 use std::alloc::Global;
 

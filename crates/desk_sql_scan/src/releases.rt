@@ -9,11 +9,12 @@ ghost use Rattle.desk_sql_scan.specs.Parts.{HasReleases, OfReleases};
 ghost use Rattle.desk_sql_scan.specs.Scanning.{Scans};
 ghost use Rattle.desk_sql_scan.specs.Scans.{IsScan};
 
-use crate::columns::{number_at, text_at};
+use crate::columns::number_at;
 use crate::scan::{Stored, listed};
 use crate::source::Source;
 use desk_model::Fault;
 use desk_snapshot::{Listed, StoredAttached, StoredChoice, StoredFrozen, StoredRelease};
+use desk_sql_layout::columns::text_at;
 use sqlite::Row;
 use std::alloc::Global;
 
