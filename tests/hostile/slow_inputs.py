@@ -169,12 +169,35 @@ def long_path(room, files=1):
     os.close(here)
 
 
-def pattern(text, files):
+def deep_path(room, files):
+    """Files below 1,900 folders in one another, with names of one byte."""
+    os.makedirs(os.path.join(room, "tree"))
+    here = os.open(os.path.join(room, "tree"), os.O_RDONLY)
+    for _ in range(1_900):
+        os.mkdir("a", dir_fd=here)
+        here, before = os.open("a", os.O_RDONLY, dir_fd=here), here
+        os.close(before)
+    for number in range(files):
+        with open(os.open(f"{number:04}", os.O_CREAT | os.O_WRONLY, dir_fd=here), "wb") as file:
+            file.write(b"x")
+    os.close(here)
+
+
+def pattern(text, files, paths=long_path, each=3_750):
     def made(room):
-        long_path(room, files)
+        paths(room, files)
         size = write(room, "tree/REUSE.toml", f'version = 1\n[[annotations]]\npath = "{text}"\n{LICENCE} = "MIT"\n')
-        return ["lint", "tree"], None, size + files * 3_750
+        return ["lint", "tree"], None, size + files * each
     return made
+
+
+def runs_that_fail(room):
+    """A pattern whose bytes nearly stand at each place of many long names."""
+    size = write(room, "tree/REUSE.toml", f'version = 1\n[[annotations]]\npath = "*{"a" * 120}b*"\n{LICENCE} = "MIT"\n')
+    for n in range(MOST - 1):
+        name = f"{n:04}" + "a" * 246
+        size += write(room, f"tree/{name}", "x") + len(name)
+    return ["lint", "tree"], None, size
 
 
 def many_annotations(room):
@@ -382,6 +405,8 @@ SLOW = {
     "pattern: `**a*` before 996 bytes, 100 long paths": pattern("**a*" + "a" * 995 + "b", 100),
     "pattern: `*a` 499 times and `*b`, 1,000 long paths": pattern("*a" * 499 + "*b", 1_000),
     "pattern: `**a` 333 times, 1,000 long paths": pattern("**a" * 332 + "**b", 1_000),
+    "pattern: `**` and `/*` 498 times, 1,000 paths of 1,900 names": pattern("**" + "/*" * 498 + "b", 1_000, deep_path, 3_804),
+    "pattern: a star before 121 bytes, 9,999 names of 250 bytes": runs_that_fail,
     "tree: 10,000 files with tags": many_files,
     "tree: 200 folders in one another, 9,000 files": nested_files(200, 45),
     "tree: 1,900 folders in one another, 7,600 files": nested_files(1_900, 4),
