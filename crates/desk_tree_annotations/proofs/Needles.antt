@@ -1,9 +1,8 @@
 -- Where a needle first occurs.
-use Rattle.std.proofs.Common.{◌≡◌, ◌∙◌, ℕ, zero, suc, ◌+◌, ◌-◌, ◌<◌, List, ◌++◌, length, get_or}
+use Rattle.std.proofs.Common.{◌≡◌, ◌∙◌, ℕ, zero, suc, ◌+◌, ◌-◌, ◌<◌, List, ◌++◌, length}
 use Rattle.std.proofs.Common.{take, drop, sym, ap, refl, arith, append_assoc, length-append}
-use Rattle.std.proofs.Common.{length-drop, take-append-drop}
 use Rattle.std.specs.Prelude.{Some}
-use Rattle.std.proofs.lemmas.Grind.{same_number_lists, common_steps}
+use Rattle.std.proofs.lemmas.Grind.{common_steps}
 use Rattle.memchr.specs.Find.{OccursAt, FindsNeedle, Nowhere}
 use Rattle.desk_tree_annotations.specs.Runs.{Lacks, IsUpTo}
 use Rattle.desk_tree_patterns.proofs.Needles.{occurs, cut_at}

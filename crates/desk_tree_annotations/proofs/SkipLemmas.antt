@@ -1,5 +1,5 @@
 -- What is skipped gives nothing.
-use Rattle.std.proofs.Common.{◌≡◌, ◌≢◌, ◌∙◌, ◌⊎◌, inl, inr, ℕ, zero, suc, ◌+◌, ◌-◌, ◌<◌, ◌≤◌, false}
+use Rattle.std.proofs.Common.{◌≡◌, ◌≢◌, ◌∙◌, inl, inr, ℕ, zero, suc, ◌+◌, ◌-◌, ◌<◌, ◌≤◌, false}
 use Rattle.std.proofs.Common.{cond, List, [], ◌∷◌, ◌++◌, length, get_or, take, drop, sym, subst, ap}
 use Rattle.std.proofs.Common.{refl, arith, append_assoc, append-nil, length-append}
 use Rattle.std.proofs.Common.{take-append-drop, length-take-le, add-zero, zero-add}

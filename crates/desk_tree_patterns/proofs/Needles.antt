@@ -1,6 +1,6 @@
 -- Where a needle occurs.
 use Rattle.std.proofs.Common.{◌≡◌, ◌∙◌, ◌⊎◌, inl, inr, ℕ, zero, suc, ◌+◌, ◌-◌, ◌<◌, ◌≤◌, List, ◌++◌}
-use Rattle.std.proofs.Common.{length, get_or, take, drop, sym, ap, refl, arith, length-append}
+use Rattle.std.proofs.Common.{length, get_or, take, drop, sym, ap, arith, length-append}
 use Rattle.std.proofs.Common.{length-drop, take-append-drop}
 use Rattle.std.proofs.Math.ListN.{get_or-append}
 use Rattle.std.proofs.Math.Seq.{get_or-append_right}

@@ -11,8 +11,7 @@
 //! on at once where its run first occurs, or, for the last run, where it would end the text. So a
 //! pattern with no `**` costs about its bytes and those of the path. What stands behind a `**`, up
 //! to the next, is tried at most once from each name, at about the cost of its bytes and of the
-//! names that it reaches. A star whose run isn't near also looks for the end of its name, many
-//! bytes at a time.
+//! names that it reaches. Each `*` also looks for the end of its name, many bytes at a time.
 
 ghost use Rattle.std.specs.Prelude.{◌≡◌, ◌≢◌, ◌↔◌, ◌<◌, ◌≤◌, ◌+◌, ℕ, List, length, take, drop, slice_index, All, Some, IsTrue, IfSome, IfNone};
 ghost use Rattle.memchr.specs.Find.{OccursAt};

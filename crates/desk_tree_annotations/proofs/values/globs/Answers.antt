@@ -1,4 +1,4 @@
-use Rattle.std.proofs.Common.{◌∙◌, ◌<◌, ap, arith, length, sym}
+use Rattle.std.proofs.Common.{◌∙◌, ◌<◌, ap, arith, length}
 use Rattle.desk_tree_annotations.proofs.RightLemmas.{same_pieces, pieces_more}
 use Rattle.desk_tree_annotations.proofs.values.globs.Goals as goal
 
