@@ -26,6 +26,7 @@ def cases():
     yield f"`**a*` before {PATTERN - 4} bytes on a name", "**a*" + tail(PATTERN - 4), "a" * PATH
     yield f"`**a*` before {PATTERN - 4} bytes on names of 64 bytes", "**a*" + tail(PATTERN - 4), ("a" * 63 + "/") * (PATH // 64)
     yield "`**` and `/*` 498 times and `b` on names of one byte", "**" + "/*" * 498 + "b", "a/" * (PATH // 2)
+    yield "`**ab/` and `*ab/` 248 times on names of two bytes", "**ab/" + "*ab/" * 248 + "c", "ab/" * (PATH // 3)
     yield "`**aa` 249 times and `b` on a name", "**aa" * 249 + "b", "a" * PATH
     yield "`**a*b` 199 times and `c` on names of three bytes", "**a*b" * 199 + "c", "aab/" * (PATH // 4)
 

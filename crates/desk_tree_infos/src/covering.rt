@@ -15,40 +15,52 @@ use desk_tree_annotations::Annotation;
 use std::alloc::{AllocError, Global};
 
 // Whether some pattern of an annotation matches a path.
-fn covers(annotation: &Annotation, path: &str) -> bool
-    ensures { (r : Reader) → IsRightReader r → result ≡ covers r annotation.now path.now }
+fn covers(alloc: Global, annotation: &Annotation, path: &str) -> Result<bool, AllocError>
+    ensures { (r : Reader) → IsRightReader r
+        → IfOk result (λ found. found ≡ covers r annotation.now path.now) }
 {
     for glob in annotation.paths.as_slice() {
-        if glob.matches(path) {
-            return true;
+        if glob.matches(alloc, path)? {
+            return Ok(true);
         }
     }
-    false
+    Ok(false)
 }
 
 // Whether the annotation with a number covers a path.
-fn covers_at(all: &[Annotation], number: usize, path: &str) -> bool
-    ensures { (r : Reader) → IsRightReader r
-        → result ≡ list_any (λ a. covers r a path.now) (annotations_at all.now (number ∷ [])) }
+fn covers_at(
+    alloc: Global,
+    all: &[Annotation],
+    number: usize,
+    path: &str,
+) -> Result<bool, AllocError>
+    ensures { (r : Reader) → IsRightReader r → IfOk result (λ found. found
+        ≡ list_any (λ a. covers r a path.now) (annotations_at all.now (number ∷ []))) }
 {
     match annotation_at(all, number) {
-        Some(annotation) => covers(annotation, path),
-        None => false,
+        Some(annotation) => covers(alloc, annotation, path),
+        None => Ok(false),
     }
 }
 
 // The number of the last annotation that covers a path.
-fn last_covering(all: &[Annotation], numbers: &[usize], path: &str) -> Option<usize>
-    ensures { (r : Reader) → IsRightReader r → option_and_then (slice_get all.now) result
-        ≡ last_covering r path.now (annotations_at all.now numbers.now) }
+fn last_covering(
+    alloc: Global,
+    all: &[Annotation],
+    numbers: &[usize],
+    path: &str,
+) -> Result<Option<usize>, AllocError>
+    ensures { (r : Reader) → IsRightReader r
+        → IfOk result (λ found. option_and_then (slice_get all.now) found
+        ≡ last_covering r path.now (annotations_at all.now numbers.now)) }
 {
     let mut last = None;
     for number in numbers {
-        if covers_at(all, *number, path) {
+        if covers_at(alloc, all, *number, path)? {
             last = Some(*number);
         }
     }
-    last
+    Ok(last)
 }
 
 // What follows the first slash, or all if there is none.
@@ -78,7 +90,7 @@ fn counting_along(
     let mut list = Vec::new(alloc);
     let mut rest = path;
     for numbers in lists {
-        add_some(&mut list, last_covering(all, numbers, rest))?;
+        add_some(&mut list, last_covering(alloc, all, numbers, rest)?)?;
         rest = behind_slash(rest);
     }
     Ok(list)

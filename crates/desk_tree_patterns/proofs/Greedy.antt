@@ -26,22 +26,22 @@ pub record Later (w : Piece) (text rest : List ℕ) : Type 0 where
   pub cut : text ≡ stretch ++ rest
   pub covers : Covers w stretch
 
-none_covered : (w : Piece) → Wild w → Covers w []
+pub none_covered : (w : Piece) → Wild w → Covers w []
 none_covered (Byte _) x = elim x [ ]
 none_covered InName wild_name = λ k d lt. absurd (omega arith)
 none_covered InPath wild_path = tt
 
-both_covered : (w : Piece) (a b : List ℕ) → Wild w → Covers w a → Covers w b → Covers w (a ++ b)
+pub both_covered : (w : Piece) (a b : List ℕ) → Wild w → Covers w a → Covers w b → Covers w (a ++ b)
 both_covered (Byte _) a b x h k = elim x [ ]
 both_covered InName a b wild_name h k = All-append (λ c. c ≢ 47) a b h k
 both_covered InPath a b wild_path h k = tt
 
-tail_covered : (w : Piece) (c : ℕ) (a : List ℕ) → Wild w → Covers w (c ∷ a) → Covers w a
+pub tail_covered : (w : Piece) (c : ℕ) (a : List ℕ) → Wild w → Covers w (c ∷ a) → Covers w a
 tail_covered (Byte _) c a x h = elim x [ ]
 tail_covered InName c a wild_name h = All-tail (λ c. c ≢ 47) c a h
 tail_covered InPath c a wild_path h = tt
 
-one_covered : (w : Piece) (c : ℕ) (a : List ℕ) → Wild w → Covers w (c ∷ a) → Passes w c
+pub one_covered : (w : Piece) (c : ℕ) (a : List ℕ) → Wild w → Covers w (c ∷ a) → Passes w c
 one_covered (Byte _) c a x h = elim x [ ]
 one_covered InName c a wild_name h = All-cons (λ c. c ≢ 47) c []
     (All-get_or (λ c. c ≢ 47) (c ∷ a) 0 0 (omega arith) h) (λ k d lt. absurd (omega arith))

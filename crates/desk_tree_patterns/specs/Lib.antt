@@ -1,3 +1,4 @@
 pub mod Glob
 pub mod Parts
+pub mod Rows
 pub mod Steps

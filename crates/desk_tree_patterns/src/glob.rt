@@ -109,11 +109,13 @@ impl Glob {
     }
 
     /// Whether the pattern matches the whole path: whether the path divides into stretches, one for
-    /// each piece in order. Takes no memory.
-    pub fn matches(&self, path: &str) -> bool
-        ensures { IsTrue result ↔ IsMatch self.now path.now }
+    /// each piece in order. Lack of memory is the only error. A search that goes back seldom
+    /// takes none.
+    pub fn matches(&self, alloc: Global, path: &str) -> Result<bool, AllocError>
+        ensures { IfOk result (λ found. IsTrue found ↔ IsMatch self.now path.now) }
     {
         matches(
+            alloc,
             self.parts.as_slice(),
             self.bytes.as_slice(),
             path.as_bytes(),

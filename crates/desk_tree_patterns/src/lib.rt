@@ -5,10 +5,13 @@
 //!   its pieces; it is kept as its stars and the bytes between them (`specs/Parts.antt`).
 //! - A pattern can be read in only one way (`one_glob`), and each text is one
 //!   (`each_text_is_a_glob`).
-//! - A search goes from star to star (`specs/Steps.antt`).
+//! - A search goes from star to star (`specs/Steps.antt`). One that goes back too often is given
+//!   up for a row of all places of the pattern (`specs/Rows.antt`), which takes a step for each
+//!   byte of the path and each literal byte of the pattern.
 #![tactic(auto)]
 
 mod glob;
 mod matching;
+mod rows;
 
 pub use glob::{Glob, Piece, each_text_is_a_glob, one_glob};

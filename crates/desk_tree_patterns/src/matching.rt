@@ -8,19 +8,23 @@
 //! match begins in this one.
 //!
 //! The bytes between two stars are a run, which is found as a whole: behind a star the search goes
-//! on at once where its run first occurs, or, for the last run, where it would end the text. So a
-//! pattern with no `**` costs about its bytes and those of the path. What stands behind a `**`, up
-//! to the next, is tried at most once from each name, at about the cost of its bytes and of the
-//! names that it reaches. Each `*` also looks for the end of its name, many bytes at a time.
+//! on at once where its run first occurs, or, for the last run, where it would end the text. Each
+//! `*` also looks for the end of its name, many bytes at a time.
+//!
+//! So a pattern with no `**` costs about its bytes and those of the path. What is behind a `**`, up
+//! to the next, may be tried from each name; a search that goes back so often is given up, and
+//! `rows.rt` finds the answer.
 
-ghost use Rattle.std.specs.Prelude.{◌≡◌, ◌≢◌, ◌↔◌, ◌<◌, ◌≤◌, ◌+◌, ℕ, List, length, take, drop, slice_index, All, Some, IsTrue, IfSome, IfNone};
+ghost use Rattle.std.specs.Prelude.{◌≡◌, ◌≢◌, ◌↔◌, ◌<◌, ◌≤◌, ◌+◌, ℕ, List, length, take, drop, slice_index, All, Some, IsTrue, IfSome, IfNone, IfOk};
 ghost use Rattle.memchr.specs.Find.{OccursAt};
 ghost use Rattle.desk_tree_patterns.specs.Glob.{IsMatch};
 ghost use Rattle.desk_tree_patterns.specs.Parts.{pieces, first_run, later_bytes};
 ghost use Rattle.desk_tree_patterns.specs.Steps.{spot, back, state, Longer, NoLonger, IsBehindName, Further, NoFurther, Stuck, Spent, Ends, IsFound, SettlesInName, SettlesInPath, GoesOn, GoesBack, Goes};
 
 use crate::glob::{Part, Star};
+use crate::rows::matches_by_rows;
 use memchr::{memchr, memmem};
+use std::alloc::{AllocError, Global};
 
 // How many places are tried one by one, before a search of many at once is worth its beginning.
 const NEAR: usize = 16;
@@ -274,9 +278,9 @@ fn is_found<'a>(place: Place<'a>) -> bool
     place.parts.is_empty() && place.text == place.bytes
 }
 
-/// Whether the path divides into stretches, one for each piece in order.
-pub(crate) fn matches(parts: &[Part], bytes: &[u8], path: &[u8]) -> bool
-    ensures { IsTrue result ↔ IsMatch (pieces bytes.now parts.now) path.now }
+// What a search of so many steps finds, if it ends by then.
+fn found_within(parts: &[Part], bytes: &[u8], path: &[u8], steps: usize) -> Option<bool>
+    ensures { IfSome result (λ found. IsTrue found ↔ IsMatch (pieces bytes.now parts.now) path.now) }
 {
     let mut search = Search {
         here: Place {
@@ -287,11 +291,33 @@ pub(crate) fn matches(parts: &[Part], bytes: &[u8], path: &[u8]) -> bool
         name: None,
         path: None,
     };
-    while !is_found(search.here) {
+    for _ in 0..steps {
+        if is_found(search.here) {
+            return Some(true);
+        }
         let Some(next) = step(search) else {
-            return false;
+            return Some(false);
         };
         search = next;
     }
-    true
+    None
+}
+
+/// Whether the path divides into stretches, one for each piece in order.
+///
+/// It takes memory only if a search of as many steps as the path has bytes and the pattern stars
+/// hasn't ended.
+pub(crate) fn matches(
+    alloc: Global,
+    parts: &[Part],
+    bytes: &[u8],
+    path: &[u8],
+) -> Result<bool, AllocError>
+    ensures { IfOk result (λ found. IsTrue found ↔ IsMatch (pieces bytes.now parts.now) path.now) }
+{
+    let steps = path.len().saturating_add(parts.len());
+    match found_within(parts, bytes, path, steps) {
+        Some(found) => Ok(found),
+        None => matches_by_rows(alloc, parts, bytes, path),
+    }
 }

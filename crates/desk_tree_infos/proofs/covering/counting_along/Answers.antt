@@ -16,11 +16,11 @@ loop-numbers-preserved c = record {
       ap (λ l. annotations_at all l ++ along r others c.behind_slash-rest.result.now)
       c.in_ok-add_some.ensures
       ∙ ap (λ rest. annotations_at all
-      (c.loop-numbers.list.items ++ option_to_list c.last_covering.result) ++ along r others rest)
+      (c.loop-numbers.list.items ++ option_to_list c.in_ok-last_covering.field-0) ++ along r others rest)
       c.behind_slash-rest.ensures.value
-      ∙ along-more r all c.loop-numbers.list.items c.last_covering.result c.args.lists.now
+      ∙ along-more r all c.loop-numbers.list.items c.in_ok-last_covering.field-0 c.args.lists.now
       c.loop-numbers.numbers-index _ c.loop-numbers.rest.now c.loop-numbers-test.true
-      (c.last_covering.ensures r right)
+      (c.in_ok-last_covering.ensures r right)
       ∙ c.loop-numbers.invariant.so_far r right;
 }
 
