@@ -112,7 +112,7 @@ fn script(
 /// it is now.
 fn tell_blanks_in(rt: &HostRuntime, folder: &str) -> Result<(), Failure> {
     let files = files_of(rt, folder, false)?;
-    tell_blanks(rt.alloc(), files.as_slice(), &mut rt.stderr())
+    tell_blanks(rt.alloc(), files, &mut rt.stderr())
 }
 
 /// Writes the document of a source tree.
@@ -150,7 +150,7 @@ fn lint(
     is_watched: bool,
 ) -> Result<u8, Failure> {
     let files = files_of(rt, folder, is_watched)?;
-    desk_subcommands::lint(alloc, files.as_slice(), json, &mut io::writer(rt))
+    desk_subcommands::lint(alloc, files, json, &mut io::writer(rt))
 }
 
 /// Writes the tag-value document that says the same as an SPDX document in JSON.

@@ -12,4 +12,4 @@ lint_status report = if report.is_clean then 0 else 1
 -- the text and the status for the problems of a tree
 abbrev pub Lints : Reader → List SourceFile → Bool → List ℕ → ℕ → Type 0
 Lints r files json text status = (report : Report) × IsReport r files json report
-    × (text ≡ report.text.items) × (status ≡ lint_status report)
+    × (text ≡ report.text) × (status ≡ lint_status report)

@@ -23,19 +23,19 @@ fn status_of(report: &Report) -> u8
 /// program's status. If no memory is left, nothing is written.
 pub fn lint<W: Write>(
     alloc: Global,
-    files: &[SourceFile],
+    files: Vec<SourceFile>,
     json: bool,
     writer: &mut W,
 ) -> Result<u8, Failure>
     ensures told { (r : Reader) → IsRightReader r → IfOk result (λ status. (text : List ℕ)
-        × Lints r files.now json text status
+        × Lints r files.items json text status
         × Appends (W.contents writer.old) (W.contents writer.new) text) }
     ensures fails { IfErr result IsOfOutput }
     ensures memory { IfErr result
         (IfMemory (Keeps (W.contents writer.old) (W.contents writer.new))) }
 {
     let report = report_on(alloc, files, json)?;
-    writer.write_all(report.text.as_slice())?;
+    report.text.write_to(writer)?;
     writer.flush()?;
     Ok(status_of(&report))
 }
@@ -44,16 +44,16 @@ pub fn lint<W: Write>(
 /// the document of a tree can't hold.
 pub fn tell_blanks<T: Write>(
     alloc: Global,
-    files: &[SourceFile],
+    files: Vec<SourceFile>,
     teller: &mut T,
 ) -> Result<(), Failure>
     ensures told { (r : Reader) → IsRightReader r → OnOk result ((text : List ℕ)
-        × AreBlankLines r files.now text
+        × AreBlankLines r files.items text
         × Appends (T.contents teller.old) (T.contents teller.new) text) }
     ensures fails { IfErr result IsOfOutput }
 {
     let text = blank_lines(alloc, files)?;
-    teller.write_all(text.as_slice())?;
+    text.write_to(teller)?;
     teller.flush()?;
     Ok(())
 }

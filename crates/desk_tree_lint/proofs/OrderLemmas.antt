@@ -1,7 +1,7 @@
 -- Texts in order, found by halving.
 use Rattle.std.proofs.Common.{◌≡◌, ◌∙◌, ⊎_elim, inl, inr, ℕ, zero, suc, ◌+◌, ◌<◌, Bool, true, false}
 use Rattle.std.proofs.Common.{List, [], ◌∷◌, length, get_or, map, sym, ap, refl, subst, arith}
-use Rattle.std.proofs.Common.{Result, Ok, Err, Less, nat_cmp, is_eq}
+use Rattle.std.proofs.Common.{Result, Ok, Err, Ordering, Less, Equal, Greater, nat_cmp, is_eq, ◌-◌}
 use Rattle.std.specs.Prelude.{◌||◌, Contains}
 use Rattle.std.specs.Result.{is_ok}
 use Rattle.std.specs.List.{AllByRecursion}
@@ -115,3 +115,42 @@ pub sorted_texts : {A : Type 0} (text_of : A → List ℕ) (xs : List A)
 unfolding IsStrictlySortedBy
 sorted_texts text_of [] up = tt
 sorted_texts text_of (x ∷ xs) up = (less_texts text_of x xs up.0, sorted_texts text_of xs up.1)
+
+-- ---- texts each below the next
+
+less_than_more : (x y : List ℕ) (zs : List (List ℕ)) → slice_cmp nat_cmp x y ≡ Less
+    → AllByRecursion (λ z. slice_cmp nat_cmp y z ≡ Less) zs
+    → AllByRecursion (λ z. slice_cmp nat_cmp x z ≡ Less) zs
+less_than_more x y [] less all = tt
+less_than_more x y (z ∷ zs) less all = (
+  nat_list_cmp_total.trans x y z less all.0,
+  less_than_more x y zs less all.1,
+)
+
+-- each of the first so many texts is below the next of them
+abbrev pub Climbs : List (List ℕ) → ℕ → Type 0
+Climbs xs count = (k : ℕ) → suc k < count
+    → slice_cmp nat_cmp (get_or xs k []) (get_or xs (suc k) []) ≡ Less
+
+pub climbed : (xs : List (List ℕ)) → Climbs xs (length xs)
+    → IsStrictlySortedBy (slice_cmp nat_cmp) xs
+unfolding IsStrictlySortedBy
+climbed [] up = tt
+climbed (x ∷ []) up = (tt, tt)
+climbed (x ∷ y ∷ ys) up =
+    let rest = climbed (y ∷ ys) (λ k within. up (suc k) (omega (arith, within))) in
+    let less = up zero (omega arith) in ((less, less_than_more x y ys less rest.0), rest)
+
+pub climbs_more : (xs : List (List ℕ)) (i : ℕ) → Climbs xs i
+    → slice_cmp nat_cmp (get_or xs (i - 1) []) (get_or xs i []) ≡ Less → Climbs xs (i + 1)
+climbs_more xs i up less k within =
+    ⊎_elim (λ before. up k before)
+    (λ last. let here : suc k ≡ i = omega (arith, within, last) in
+    let below : k ≡ i - 1 = omega (arith, within, last) in
+    (λ j. slice_cmp nat_cmp (get_or xs (below j) []) (get_or xs (here j) [])) ∙ less)
+    (order (suc k) i)
+
+pub is_less : (o : Ordering) → is_lt o ≡ true → o ≡ Less
+is_less Less is = refl
+is_less Equal is = absurd (false≢true is)
+is_less Greater is = absurd (false≢true is)

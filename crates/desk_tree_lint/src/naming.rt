@@ -16,13 +16,17 @@ ghost use Rattle.desk_tree_lint.specs.declared.naming.Asked.{Asked};
 ghost use Rattle.desk_tree_lint.specs.Firsts.{mention_in, asked_in, asked_of, keys_asked, Holds, first_mentions};
 
 use crate::names::Names;
-use crate::ordering::ordered;
+use crate::ordering::{are_in_order, ordered};
 use crate::path::SharedPath;
 use crate::texts::key_of;
 use desk_base::{Text, TextList};
 use desk_tree_annotations::SharedText;
 use desk_tree_gather::First;
 use std::alloc::{AllocError, Global};
+
+// For how many keys at once the first mentions are kept, because they take much memory: for more
+// keys the licences are gone through again.
+const ASKED_MOST: usize = 524_288;
 
 /// How a licence, an exception or a reference is shown.
 #[derive(Drop)]
@@ -131,10 +135,31 @@ fn unmentioned<'k, 'a>(alloc: Global, keys: &[&'k str]) -> Result<Vec<Asked<'k, 
     Ok(asked)
 }
 
-// The keys in byte order, each once, with no mentions.
+// The keys in their order, with no mentions.
+fn unmentioned_of<'k, 'a>(
+    alloc: Global,
+    keys: &'k TextList,
+) -> Result<Vec<Asked<'k, 'a>>, AllocError>
+    ensures { IfOk result (λ v. map asked_in v.items ≡ asked_of keys.now []) }
+{
+    let mut asked = Vec::with_capacity(alloc, keys.len())?;
+    for place in 0..keys.len() {
+        asked.push(Asked {
+            key: keys.at(place),
+            first: None,
+        })?;
+    }
+    Ok(asked)
+}
+
+// The keys in byte order, each once, with no mentions. Keys that are in this order, of which a tree
+// may have very many, aren't listed once more.
 fn asked_for<'k, 'a>(alloc: Global, keys: &'k TextList) -> Result<Vec<Asked<'k, 'a>>, AllocError>
     ensures { IfOk result (λ v. map asked_in v.items ≡ asked_of (sorted_set keys.now) []) }
 {
+    if are_in_order(keys) {
+        return unmentioned_of(alloc, keys);
+    }
     let ordered = ordered(alloc, keys)?;
     unmentioned(alloc, ordered.as_slice())
 }
@@ -263,18 +288,70 @@ fn add_name(names: &mut Names, key: &str, first: Option<&Mention<'_>>) -> Result
     }
 }
 
-// What keys are shown by, where the first of each is known.
-fn each_name(alloc: Global, asked: &[Asked<'_, '_>], keys: &TextList) -> Result<Names, AllocError>
+// Adds what keys are shown by, where the first of each is known.
+fn add_names(asked: &[Asked<'_, '_>], keys: &TextList, names: &mut Names) -> Result<(), AllocError>
     ensures { (all : List (List ℕ)) (ms : List MentionText) → Holds all ms asked.now
         → ((key : List ℕ) → is_among keys.now key ≡ true → is_among all key ≡ true)
-        → IfOk result (λ names. names ≡ map (λ key. name_by key (first_with key ms)) keys.now) }
+        → OnOk result (names.new
+        ≡ names.old ++ map (λ key. name_by key (first_with key ms)) keys.now) }
 {
-    let mut names = Names::new(alloc);
     for place in 0..keys.len() {
         let key = keys.at(place);
-        add_name(&mut names, key, first_of(asked, key))?;
+        add_name(names, key, first_of(asked, key))?;
     }
-    Ok(names)
+    Ok(())
+}
+
+// Adds how keys are written where files first name them.
+fn add_named(
+    alloc: Global,
+    firsts: &[First<'_>],
+    keys: &TextList,
+    names: &mut Names,
+) -> Result<(), AllocError>
+    ensures { (infos : List FileInfo) → map first_in firsts.now ≡ firsts_of Licences infos
+        → OnOk result (names.new ≡ names.old ++ map (name_of infos) keys.now) }
+{
+    let mut asked = asked_for(alloc, keys)?;
+    keep_firsts(alloc, asked.as_mut_slice(), firsts)?;
+    add_names(asked.as_slice(), keys, names)
+}
+
+// Names the keys of a part and begins another, if the part has as many as are asked for at once.
+fn end_part(
+    alloc: Global,
+    firsts: &[First<'_>],
+    part: &mut TextList,
+    names: &mut Names,
+) -> Result<(), AllocError>
+    ensures { (infos : List FileInfo) → map first_in firsts.now ≡ firsts_of Licences infos
+        → OnOk result (names.new ++ map (name_of infos) part.new
+        ≡ names.old ++ map (name_of infos) part.old) }
+{
+    if part.len() < ASKED_MOST {
+        return Ok(());
+    }
+    add_named(alloc, firsts, part, names)?;
+    *part = TextList::new(alloc);
+    Ok(())
+}
+
+// Adds how keys are written, part by part.
+fn add_parts(
+    alloc: Global,
+    firsts: &[First<'_>],
+    keys: &TextList,
+    names: &mut Names,
+) -> Result<(), AllocError>
+    ensures { (infos : List FileInfo) → map first_in firsts.now ≡ firsts_of Licences infos
+        → OnOk result (names.new ≡ names.old ++ map (name_of infos) keys.now) }
+{
+    let mut part = TextList::new(alloc);
+    for place in 0..keys.len() {
+        end_part(alloc, firsts, &mut part, names)?;
+        part.push(keys.at(place))?;
+    }
+    add_named(alloc, firsts, &part, names)
 }
 
 /// How keys are written where files first name them, each with the first file, from the licences
@@ -283,7 +360,11 @@ pub fn names_of(alloc: Global, firsts: &[First<'_>], keys: &TextList) -> Result<
     ensures { (infos : List FileInfo) → map first_in firsts.now ≡ firsts_of Licences infos
         → IfOk result (λ names. names ≡ map (name_of infos) keys.now) }
 {
-    let mut asked = asked_for(alloc, keys)?;
-    keep_firsts(alloc, asked.as_mut_slice(), firsts)?;
-    each_name(alloc, asked.as_slice(), keys)
+    let mut names = Names::new(alloc);
+    if keys.len() <= ASKED_MOST {
+        add_named(alloc, firsts, keys, &mut names)?;
+    } else {
+        add_parts(alloc, firsts, keys, &mut names)?;
+    }
+    Ok(names)
 }

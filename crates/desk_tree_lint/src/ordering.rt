@@ -1,11 +1,15 @@
 //! Texts in their order.
 
-ghost use Rattle.std.specs.Prelude.{◌≡◌, IfOk};
+ghost use Rattle.std.specs.Prelude.{◌≡◌, true, IfOk};
+ghost use Rattle.std.specs.Cmp.Lexicographic.{slice_cmp};
+ghost use Rattle.std.specs.List.Sorted.{IsStrictlySortedBy};
+ghost use Rattle.std.specs.Ordering.{is_lt, nat_cmp};
 ghost use Rattle.desk_base.specs.Borrowed.{texts_in};
 ghost use Rattle.desk_model.specs.Texts.{sorted_set};
 
 use desk_base::TextList;
 use std::alloc::{AllocError, Global};
+use std::cmp::Ordering;
 
 // The texts themselves.
 fn borrowed(alloc: Global, keys: &TextList) -> Result<Vec<&str>, AllocError>
@@ -26,4 +30,25 @@ pub(crate) fn ordered(alloc: Global, keys: &TextList) -> Result<Vec<&str>, Alloc
     keys.sort_unstable();
     keys.dedup();
     Ok(keys)
+}
+
+// Whether a key is below another.
+fn is_below(one: &str, other: &str) -> bool
+    ensures { result ≡ is_lt (slice_cmp nat_cmp one.now other.now) }
+{
+    matches!(one.cmp(other), Ordering::Less)
+}
+
+/// Whether each key is below the next.
+pub(crate) fn are_in_order(keys: &TextList) -> bool
+    ensures { result ≡ true → IsStrictlySortedBy (slice_cmp nat_cmp) keys.now }
+{
+    for place in 1..keys.len() {
+        let last = keys.at(place - 1);
+        let next = keys.at(place);
+        if !is_below(last, next) {
+            return false;
+        }
+    }
+    true
 }

@@ -126,7 +126,7 @@ pub record IsReport (r : Reader) (files : List SourceFile) (json : Bool)
   pub rows : List Row
   pub are_problems : AreProblems r files problems
   pub are_rows : AreRows problems rows
-  pub text : report.text.items ≡ text_of json rows problems.covered
+  pub text : report.text ≡ text_of json rows problems.covered
   pub clean : report.is_clean ≡ is_none rows
 
 -- the lines for those problems of a tree that are licences that no document can hold

@@ -8,7 +8,9 @@
 //!   `desk_tree_lint::lint`, without unused texts if there are older annotations; if not, the fault
 //!   of `desk_tree_gather::gather` is the first flaw.
 //! - `report_on` reports them: where each problem is, what is wrong and what to do
-//!   (`specs/Rows.antt`), one on each line or all in one JSON object (`specs/Reports.antt`).
+//!   (`specs/Rows.antt`), one on each line or all in one JSON object (`specs/Reports.antt`). Both
+//!   take the files by value, so that their bytes aren't kept once everything in them is read.
+//! - A report may be several times as large as the tree: it is a `LongText`, in blocks.
 #![tactic(auto)]
 
 mod bare;
@@ -16,6 +18,7 @@ mod blanks;
 mod counting;
 mod json;
 mod lines;
+mod long_text;
 mod problems;
 mod reports;
 mod row;
@@ -25,6 +28,7 @@ mod telling;
 
 pub use bare::{Bare, Lacking};
 pub use blanks::Blank;
+pub use long_text::LongText;
 pub use problems::{Problems, problems_of};
 pub use reports::{Report, blank_lines, report_on};
 pub use row::{Kind, Row};

@@ -63,10 +63,10 @@ fn unused_unless(alloc: Global, unsure: bool, paths: Items<Text>) -> Items<Text>
 }
 
 // What is wrong in a tree, and the lists for what can be read despite that.
-fn surveyed(alloc: Global, files: &[SourceFile]) -> Result<Problems, AllocError>
-    ensures { (r : Reader) → IsRightReader r → IfOk result (AreProblems r files.now) }
+fn surveyed(alloc: Global, files: Vec<SourceFile>) -> Result<Problems, AllocError>
+    ensures { (r : Reader) → IsRightReader r → IfOk result (AreProblems r files.items) }
 {
-    let Surveyed { tree, flaws, infos } = survey(alloc, files)?;
+    let Surveyed { tree, flaws, infos } = survey(alloc, files.as_slice())?;
     // This reads each REUSE.toml again, so it comes before anything else that takes much memory.
     let blanks = blanks_in(alloc, &tree)?;
     let firsts = infos.firsts(alloc, Subject::Licences)?;
@@ -76,6 +76,9 @@ fn surveyed(alloc: Global, files: &[SourceFile]) -> Result<Problems, AllocError>
         ..
     } = lists_of(alloc, &tree, &infos, firsts.as_slice())?;
     let dep5 = has_dep5(&tree);
+    // What follows takes the most memory, and needs no file.
+    drop(tree);
+    drop(files);
     let names = names_of(alloc, firsts.as_slice(), &missing)?;
     let unsure = dep5 || are_some(flaws.as_slice());
     Ok(Problems {
@@ -98,13 +101,13 @@ fn surveyed(alloc: Global, files: &[SourceFile]) -> Result<Problems, AllocError>
 /// there are no flaws, and they are those lists, without unused texts if there are older
 /// annotations (`lint`); if nothing is gathered from the tree, the fault is the first flaw
 /// (`first`).
-pub fn problems_of(alloc: Global, files: &[SourceFile]) -> Result<Problems, AllocError>
-    ensures problems { (r : Reader) → IsRightReader r → IfOk result (AreProblems r files.now) }
+pub fn problems_of(alloc: Global, files: Vec<SourceFile>) -> Result<Problems, AllocError>
+    ensures problems { (r : Reader) → IsRightReader r → IfOk result (AreProblems r files.items) }
     ensures lint { (r : Reader) → IsRightReader r
-        → IfOk result (λ p. (l : Lint) → IsLint r files.now l
+        → IfOk result (λ p. (l : Lint) → IsLint r files.items l
         → (p.flaws ≡ []) × (lists_in p ≡ told_beside p.dep5 l)) }
     ensures first { (r : Reader) → IsRightReader r
-        → IfOk result (λ p. (fault : GatherFault) → gathered r files.now ≡ Err fault
+        → IfOk result (λ p. (fault : GatherFault) → gathered r files.items ≡ Err fault
         → BeginsWith p.flaws fault) }
 {
     surveyed(alloc, files)

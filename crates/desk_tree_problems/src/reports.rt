@@ -8,6 +8,7 @@ ghost use Rattle.desk_tree_problems.specs.declared.row.Row.{Row};
 
 use crate::counting::number_of;
 use crate::json::json_text;
+use crate::long_text::LongText;
 use crate::problems::{Problems, problems_of};
 use crate::row::Kind;
 use crate::rows::rows_of;
@@ -22,19 +23,20 @@ use std::alloc::{AllocError, Global};
 pub struct Report {
     /// Its text: a line for each problem and one that counts them, or a JSON object and a line
     /// feed.
-    pub text: Vec<u8>,
+    pub text: LongText,
     /// Whether the tree has no problem.
     pub is_clean: bool,
 }
 
 // The problems as a text.
-fn text_of(alloc: Global, json: bool, problems: &Problems) -> Result<Vec<u8>, AllocError>
+fn text_of(alloc: Global, json: bool, problems: &Problems) -> Result<LongText, AllocError>
     ensures { IfOk result (λ text. (rows : List Row) × AreRows problems.now rows
-        × (text.items ≡ text_of json rows problems.now.covered)) }
+        × (text ≡ text_of json rows problems.now.covered)) }
 {
     if json {
         let rows = rows_of(alloc, problems)?;
-        json_text(alloc, rows.as_slice(), problems.covered)
+        let text = json_text(alloc, rows.as_slice(), problems.covered)?;
+        Ok(LongText::of(alloc, text))
     } else {
         lines_text(alloc, problems)
     }
@@ -53,8 +55,8 @@ fn without_keys(alloc: Global, problems: Problems) -> Problems
 /// The report on a tree, as lines or as a JSON object. The only error is lack of memory.
 ///
 /// For each right reader it is that of `IsReport`.
-pub fn report_on(alloc: Global, files: &[SourceFile], json: bool) -> Result<Report, AllocError>
-    ensures { (r : Reader) → IsRightReader r → IfOk result (IsReport r files.now json) }
+pub fn report_on(alloc: Global, files: Vec<SourceFile>, json: bool) -> Result<Report, AllocError>
+    ensures { (r : Reader) → IsRightReader r → IfOk result (IsReport r files.items json) }
 {
     let problems = problems_of(alloc, files)?;
     let number = number_of(&problems)?;
@@ -69,9 +71,9 @@ pub fn report_on(alloc: Global, files: &[SourceFile], json: bool) -> Result<Repo
 /// The only error is lack of memory.
 ///
 /// For each right reader they are those of `AreBlankLines`.
-pub fn blank_lines(alloc: Global, files: &[SourceFile]) -> Result<Vec<u8>, AllocError>
+pub fn blank_lines(alloc: Global, files: Vec<SourceFile>) -> Result<LongText, AllocError>
     ensures { (r : Reader) → IsRightReader r
-        → IfOk result (λ text. AreBlankLines r files.now text.items) }
+        → IfOk result (λ text. AreBlankLines r files.items text) }
 {
     let problems = problems_of(alloc, files)?;
     problem_lines(alloc, &problems, Some(Kind::BlankAtEnd))

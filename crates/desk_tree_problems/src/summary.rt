@@ -7,6 +7,7 @@ ghost use Rattle.desk_tree_problems.specs.Reports.{some_count, counts_of, counts
 ghost use Rattle.desk_tree_problems.specs.Rows.{AreRows};
 
 use crate::counting::{count_of, number_of};
+use crate::long_text::LongText;
 use crate::problems::Problems;
 use crate::row::{Kind, kinds};
 use crate::telling::problem_lines;
@@ -49,24 +50,24 @@ fn counts(alloc: Global, problems: &Problems, number: usize) -> Result<Vec<u8>, 
 }
 
 // Adds the line that counts the problems.
-fn add_summary(alloc: Global, text: &mut Vec<u8>, problems: &Problems) -> Result<(), AllocError>
+fn add_summary(alloc: Global, text: &mut LongText, problems: &Problems) -> Result<(), AllocError>
     ensures { (rows : List Row) → AreRows problems.now rows
-        → OnOk result (text.new.items ≡ text.old.items ++ summary rows problems.now.covered) }
+        → OnOk result (text.new ≡ text.old ++ summary rows problems.now.covered) }
 {
     let count = number_of(problems)?;
     let covered = problems.covered;
     let words = format!(in alloc; "problems: {count}, covered files: {covered}")?;
     let counts = counts(alloc, problems, count)?;
-    text.extend_from_slice(words.as_bytes())?;
-    text.extend_from_slice(counts.as_slice())?;
-    text.push(b'\n')?;
+    text.add(words.as_bytes())?;
+    text.add(counts.as_slice())?;
+    text.add(b"\n")?;
     Ok(())
 }
 
 /// A line for each problem, and one that counts them.
-pub(crate) fn lines_text(alloc: Global, problems: &Problems) -> Result<Vec<u8>, AllocError>
+pub(crate) fn lines_text(alloc: Global, problems: &Problems) -> Result<LongText, AllocError>
     ensures { IfOk result (λ text. (rows : List Row) × AreRows problems.now rows
-        × (text.items ≡ lines_text rows problems.now.covered)) }
+        × (text ≡ lines_text rows problems.now.covered)) }
 {
     let mut text = problem_lines(alloc, problems, None)?;
     add_summary(alloc, &mut text, problems)?;

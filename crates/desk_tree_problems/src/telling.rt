@@ -8,7 +8,7 @@ ghost use Rattle.desk_tree_problems.specs.Rows.{AreFlawRows, blank_row, missing_
 
 use crate::bare::Bare;
 use crate::blanks::Blank;
-use crate::lines::add_row;
+use crate::long_text::LongText;
 use crate::problems::Problems;
 use crate::row::{Kind, Row};
 use crate::rows::{bare_row, blank_row, dep5_rows, flaw_row, missing_row, unused_row};
@@ -19,94 +19,94 @@ use std::alloc::{AllocError, Global};
 
 fn add_rows(
     alloc: Global,
-    text: &mut Vec<u8>,
+    text: &mut LongText,
     rows: &[Row],
     only: Option<Kind>,
 ) -> Result<(), AllocError>
-    ensures { OnOk result (text.new.items ≡ text.old.items ++ flat_map (line_if only) rows.now) }
+    ensures { OnOk result (text.new ≡ text.old ++ flat_map (line_if only) rows.now) }
 {
     for row in rows {
-        add_row(alloc, text, row, only)?;
+        text.add_row(alloc, row, only)?;
     }
     Ok(())
 }
 
 fn add_flaws(
     alloc: Global,
-    text: &mut Vec<u8>,
+    text: &mut LongText,
     flaws: &[Flaw],
     only: Option<Kind>,
 ) -> Result<(), AllocError>
     ensures { OnOk result ((told : List Row) × AreFlawRows flaws.now told
-        × (text.new.items ≡ text.old.items ++ flat_map (line_if only) told)) }
+        × (text.new ≡ text.old ++ flat_map (line_if only) told)) }
 {
     for flaw in flaws {
         let row = flaw_row(alloc, flaw)?;
-        add_row(alloc, text, &row, only)?;
+        text.add_row(alloc, &row, only)?;
     }
     Ok(())
 }
 
 fn add_blanks(
     alloc: Global,
-    text: &mut Vec<u8>,
+    text: &mut LongText,
     blanks: &[Blank],
     only: Option<Kind>,
 ) -> Result<(), AllocError>
-    ensures { OnOk result (text.new.items
-        ≡ text.old.items ++ flat_map (line_if only) (map blank_row blanks.now)) }
+    ensures { OnOk result (text.new
+        ≡ text.old ++ flat_map (line_if only) (map blank_row blanks.now)) }
 {
     for blank in blanks {
         let row = blank_row(alloc, blank)?;
-        add_row(alloc, text, &row, only)?;
+        text.add_row(alloc, &row, only)?;
     }
     Ok(())
 }
 
 fn add_missing(
     alloc: Global,
-    text: &mut Vec<u8>,
+    text: &mut LongText,
     names: &Names,
     only: Option<Kind>,
 ) -> Result<(), AllocError>
-    ensures { OnOk result (text.new.items
-        ≡ text.old.items ++ flat_map (line_if only) (map missing_row names.now)) }
+    ensures { OnOk result (text.new
+        ≡ text.old ++ flat_map (line_if only) (map missing_row names.now)) }
 {
     for place in 0..names.len() {
         let row = missing_row(alloc, &names.at(alloc, place)?)?;
-        add_row(alloc, text, &row, only)?;
+        text.add_row(alloc, &row, only)?;
     }
     Ok(())
 }
 
 fn add_unused(
     alloc: Global,
-    text: &mut Vec<u8>,
+    text: &mut LongText,
     paths: &[Text],
     only: Option<Kind>,
 ) -> Result<(), AllocError>
-    ensures { OnOk result (text.new.items
-        ≡ text.old.items ++ flat_map (line_if only) (map unused_row paths.now)) }
+    ensures { OnOk result (text.new
+        ≡ text.old ++ flat_map (line_if only) (map unused_row paths.now)) }
 {
     for path in paths {
         let row = unused_row(alloc, path.as_str())?;
-        add_row(alloc, text, &row, only)?;
+        text.add_row(alloc, &row, only)?;
     }
     Ok(())
 }
 
 fn add_bare(
     alloc: Global,
-    text: &mut Vec<u8>,
+    text: &mut LongText,
     files: &[Bare],
     only: Option<Kind>,
 ) -> Result<(), AllocError>
-    ensures { OnOk result (text.new.items
-        ≡ text.old.items ++ flat_map (line_if only) (map bare_row files.now)) }
+    ensures { OnOk result (text.new
+        ≡ text.old ++ flat_map (line_if only) (map bare_row files.now)) }
 {
     for bare in files {
         let row = bare_row(alloc, bare)?;
-        add_row(alloc, text, &row, only)?;
+        text.add_row(alloc, &row, only)?;
     }
     Ok(())
 }
@@ -116,11 +116,11 @@ pub(crate) fn problem_lines(
     alloc: Global,
     problems: &Problems,
     only: Option<Kind>,
-) -> Result<Vec<u8>, AllocError>
+) -> Result<LongText, AllocError>
     ensures { IfOk result (λ text. (rows : List Row) × AreRows problems.now rows
-        × (text.items ≡ flat_map (line_if only) rows)) }
+        × (text ≡ flat_map (line_if only) rows)) }
 {
-    let mut text = Vec::new(alloc);
+    let mut text = LongText::new(alloc);
     let rows = dep5_rows(alloc, problems.dep5)?;
     add_rows(alloc, &mut text, rows.as_slice(), only)?;
     add_flaws(alloc, &mut text, problems.flaws.as_slice(), only)?;

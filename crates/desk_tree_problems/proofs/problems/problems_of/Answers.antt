@@ -4,8 +4,8 @@ use Rattle.desk_tree_problems.proofs.problems.problems_of.Goals as goal
 
 pub returns-clause-lint : goal.returns-clause-lint
 returns-clause-lint c = λ r right. IfOk-weaker c.surveyed.result _ _
-    (λ p are. lists_agree r c.args.files.now p are) (c.surveyed.ensures r right)
+    (λ p are. lists_agree r c.args.files.items p are) (c.surveyed.ensures r right)
 
 pub returns-clause-first : goal.returns-clause-first
 returns-clause-first c = λ r right. IfOk-weaker c.surveyed.result _ _
-    (λ p are. first_agrees r c.args.files.now p are) (c.surveyed.ensures r right)
+    (λ p are. first_agrees r c.args.files.items p are) (c.surveyed.ensures r right)

@@ -5,5 +5,5 @@ use Rattle.desk_tree_problems.specs.Rows.{bare_row}
 use Rattle.desk_tree_problems.proofs.telling.add_bare.Given as goal
 
 abbrev pub invariant-loop-bare : goal.invariant-loop-bare
-invariant-loop-bare l = l.text.items ≡ l.initial.text.items
+invariant-loop-bare l = l.text ≡ l.initial.text
     ++ flat_map (line_if l.only) (map bare_row (take l.bare-index l.files))

@@ -5,4 +5,4 @@ use Rattle.desk_tree_problems.proofs.telling.add_flaws.Given as goal
 
 abbrev pub invariant-loop-flaw : goal.invariant-loop-flaw
 invariant-loop-flaw l = AreFlawLines (line_if l.only) (take l.flaw-index l.flaws)
-    l.initial.text.items l.text.items
+    l.initial.text l.text

@@ -9,6 +9,6 @@ loop-place-preserved c =
     let within : c.loop-place.place < length c.args.names.now =
     omega (arith, c.loop-place-test.true, c.len-place-end.ensures) in
     lines_more (line_if c.args.only) missing_row c.args.names.now c.loop-place.place _
-    c.args.text.now.items c.loop-place.text.items c.add_row.new.text.items c.in_ok-row.row
+    c.args.text.now c.loop-place.text c.add_row.new.self c.in_ok-row.row
     within c.loop-place.invariant (c.in_ok-row.ensures ∙ ap missing_row c.in_ok-at.ensures)
     c.in_ok-add_row.ensures

@@ -7,7 +7,7 @@ use Rattle.desk_tree_problems.proofs.telling.add_unused.Goals as goal
 pub loop-path-preserved : goal.loop-path-preserved
 loop-path-preserved c =
     lines_more (line_if c.args.only) unused_row c.args.paths.now c.loop-path.path-index
-    c.path-item.result c.args.text.now.items c.loop-path.text.items c.add_row.new.text.items
+    c.path-item.result c.args.text.now c.loop-path.text c.add_row.new.self
     c.in_ok-row.row
     c.loop-path-test.true c.loop-path.invariant
     (c.in_ok-row.ensures ∙ ap unused_row (c.as_str.ensures ∙ c.path-item.is))

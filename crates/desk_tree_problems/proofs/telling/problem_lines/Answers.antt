@@ -13,18 +13,18 @@ returns c =
     let told = flaws.0 in (
       dep5_rows p.dep5 ++ (told ++ list_rows p),
       (told, subst (λ fs. AreFlawRows fs told) c.as_slice-2.ensures flaws.1, refl),
-      lines_joined line p told c.new-text.result.items c.add_rows.new.text.items
-          c.add_flaws.new.text.items c.add_blanks.new.text.items c.add_missing.new.text.items
-          c.add_unused.new.text.items c.add_bare.new.text.items
-          c.new-text.ensures.items
-          (c.in_ok-add_rows.ensures ∙ ap (λ rows. c.new-text.result.items ++ flat_map line rows)
+      lines_joined line p told c.new-text.result c.add_rows.new.text
+          c.add_flaws.new.text c.add_blanks.new.text c.add_missing.new.text
+          c.add_unused.new.text c.add_bare.new.text
+          c.new-text.ensures
+          (c.in_ok-add_rows.ensures ∙ ap (λ rows. c.new-text.result ++ flat_map line rows)
           (c.as_slice.ensures.value ∙ c.in_ok-rows.ensures))
           flaws.2
-          (c.in_ok-add_blanks.ensures ∙ ap (λ l. c.add_flaws.new.text.items
+          (c.in_ok-add_blanks.ensures ∙ ap (λ l. c.add_flaws.new.text
           ++ flat_map line (map blank_row l)) c.as_slice-3.ensures)
           c.in_ok-add_missing.ensures
-          (c.in_ok-add_unused.ensures ∙ ap (λ l. c.add_missing.new.text.items
+          (c.in_ok-add_unused.ensures ∙ ap (λ l. c.add_missing.new.text
           ++ flat_map line (map unused_row l)) c.as_slice-4.ensures)
-          (c.in_ok-add_bare.ensures ∙ ap (λ l. c.add_unused.new.text.items
+          (c.in_ok-add_bare.ensures ∙ ap (λ l. c.add_unused.new.text
           ++ flat_map line (map bare_row l)) c.as_slice-5.ensures),
     )

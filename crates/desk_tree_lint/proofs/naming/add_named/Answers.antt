@@ -1,5 +1,5 @@
-use Rattle.std.proofs.Common.{◌≡◌, ◌∙◌, arith, [], ap, subst, sym, map, length, drop}
-use Rattle.std.specs.Prelude.{IfOk}
+use Rattle.std.proofs.Common.{◌≡◌, ◌∙◌, ◌++◌, arith, [], ap, subst, sym, map, length, drop}
+use Rattle.std.specs.Prelude.{OnOk}
 use Rattle.std.proofs.lemmas.List.{take_at}
 use Rattle.desk_model.specs.Texts.{sorted_set}
 use Rattle.desk_tree_infos.specs.declared.information.Subject.TheVariants.{Licences}
@@ -8,7 +8,7 @@ use Rattle.desk_tree_infos.proofs.AmongLemmas.{among-set, set_sorted}
 use Rattle.desk_tree_lint.specs.Firsts.{Holds, asked_in, first_mentions}
 use Rattle.desk_tree_lint.specs.Naming.{name_by}
 use Rattle.desk_tree_lint.proofs.FirstLemmas.{mentions_alike}
-use Rattle.desk_tree_lint.proofs.naming.names_of.Goals as goal
+use Rattle.desk_tree_lint.proofs.naming.add_named.Goals as goal
 
 pub returns : goal.returns
 returns c = λ infos are.
@@ -26,8 +26,8 @@ returns c = λ infos are.
     c.as_slice.ensures.value ∙ take_at c.keep_firsts.new.asked
     (drop (length c.keep_firsts.new.asked) c.in_ok-asked.asked.items) c.in_ok-asked.asked.len
     (sym same) in
-    subst (λ names. IfOk c.each_name.result (λ x. x ≡ names))
+    subst (λ names. OnOk c.add_names.result (c.add_names.new.names ≡ c.args.names.now ++ names))
     (λ i. map (λ key. name_by key (sym (mentions_alike infos key) i)) c.args.keys.now)
-    (c.each_name.ensures keys (first_mentions (firsts_of Licences infos))
+    (c.add_names.ensures keys (first_mentions (firsts_of Licences infos))
     (subst (λ asked. Holds keys (first_mentions (firsts_of Licences infos)) asked) (sym back) holds)
     (λ key has. among-set c.args.keys.now key ∙ has))
