@@ -39,6 +39,7 @@ STEPS = [
     ("Feeding it large inputs and each fault of each reader.", ["python3", "tests/ample/ample.py", DESK]),
     ("Refusing each of its allocations in turn.", ["python3", "tests/allocations/sweep.py", DESK]),
     ("Trying hostile inputs for a minute.", ["python3", "tests/hostile/hostile.py", DESK, "--minutes", "1", "--seed", "1"]),
+    ("Handing it inputs that take more memory than it may.", ["python3", "tests/hostile/bounded.py", DESK]),
     ("Killing it at random moments while it writes.", ["python3", "tests/hostile/kills.py", DESK, "--times", "20"]),
     ("Looking for what this tree lacks to be REUSE-compliant.", ["sh", "tests/lint.sh", DESK]),
     ("Changing trees while they are read.", ["python3", "tests/changing.py", DESK]),

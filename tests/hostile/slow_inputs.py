@@ -146,11 +146,21 @@ def deep_tables():
     return full('forms = ["a"]\nx = [', table + ",") + "]\n"
 
 
+def nested_headers():
+    """Headers that each define 79 tables in one another."""
+    path = ".a" * 78
+    return "".join(f"[k{n}{path}]\n" for n in range(4 * MIB // (len(path) + 9)))
+
+
 def long_list():
     return full('forms = ["a"]\nx = [', "1,") + "]\n"
 
 
 # ---- patterns and trees
+
+
+def tables_of_a_tree(room):
+    return ["lint", "tree"], None, write(room, "tree/REUSE.toml", "version = 1\n" + nested_headers()) + write(room, "tree/f", "x")
 
 
 def long_path(room, files=1):
@@ -254,6 +264,14 @@ def many_licences(each):
         size += sum(write(room, f"tree/f{n}", f"{LICENCE}: m{n}\n") + len(f"f{n}") for n in range(MOST - 1))
         return ["lint", "tree"], None, size
     return made
+
+
+def as_json(made):
+    """The same, by `desk lint --json`."""
+    def asked(room):
+        words, source, size = made(room)
+        return [*words, "--json"], source, size
+    return asked
 
 
 def licences_by_turns(room):
@@ -400,6 +418,7 @@ SLOW = {
     "catalogue: a million tables in one another": loaded(nested_tables),
     "catalogue: 420,000 keys": loaded(small_keys),
     "catalogue: tables of one key, 75 in one another": loaded(deep_tables),
+    "catalogue: 25,000 headers of tables, 79 in one another": loaded(lambda: 'forms = ["a"]\n' + nested_headers()),
     "catalogue: a list of two million numbers": loaded(long_list),
     "pattern: `**a*` before 996 bytes, one long path": pattern("**a*" + "a" * 995 + "b", 1),
     "pattern: `**a*` before 996 bytes, 100 long paths": pattern("**a*" + "a" * 995 + "b", 100),
@@ -412,8 +431,10 @@ SLOW = {
     "tree: 1,900 folders in one another, 7,600 files": nested_files(1_900, 4),
     "tree: 5,000 licences of a REUSE.toml, 9,999 files": many_licences(5_000),
     "tree: a million licences of a REUSE.toml, 9,999 files": many_licences(1_000_000),
+    "tree: the same, by `lint --json`": as_json(many_licences(1_000_000)),
     "tree: twice 5,000 licences for every other of 9,999 files": licences_by_turns,
     "tree: 5,000 licences, and one in each of 4,999 folders": licences_of_folders,
+    "tree: 25,000 headers of a REUSE.toml, 79 tables in one another": tables_of_a_tree,
     "tree: a file of a million tags": million_tags,
     "tree: 100,000 licences in 1,000 files": other_tags,
     "tree: 1,000 annotations, 1,000 files": many_annotations,

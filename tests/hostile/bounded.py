@@ -1,0 +1,109 @@
+#!/usr/bin/env python3
+"""Inputs that would take gigabytes, under a bound of memory: python3 tests/hostile/bounded.py PROGRAM
+
+The kit's TOML reader takes up to 580 times the bytes of a text (docs/HOSTILE.md). Whoever reads files of strangers bounds what a process
+may take, as by `ulimit -v`. Here that bound is 400 MB: each such input is answered that no memory is left, what was there before is still
+there, and the next request is answered."""
+
+import http.client
+import os
+import resource
+import subprocess
+import sys
+import tempfile
+
+sys.path.insert(0, os.path.dirname(os.path.abspath(__file__)))
+sys.dont_write_bytecode = True
+
+from slow_inputs import NAMING, line, nested_headers
+
+BOUND, SECONDS = 400_000_000, 60
+SMALL = 'forms = ["binary"]\n'
+NO_MEMORY = '{"fault":"memory"}'
+
+
+def bounded():
+    resource.setrlimit(resource.RLIMIT_AS, (BOUND, BOUND))
+
+
+class Bounded:
+    """The program under that bound, in a room of its own."""
+
+    def __init__(self, program, room):
+        self.program, self.room = os.path.abspath(program), room
+
+    def run(self, *words, text=""):
+        return subprocess.run([self.program, *words], cwd=self.room, input=text, text=True, capture_output=True, preexec_fn=bounded,
+                              timeout=SECONDS, check=False)
+
+    def serve(self, requests):
+        """The statuses and the bodies of requests to a desk that is served, and how it ends."""
+        words = [self.program, "serve", "--db", "served.db", "--port", "0", "--limit", str(len(requests))]
+        process = subprocess.Popen(words, cwd=self.room, stdout=subprocess.PIPE, stderr=subprocess.PIPE, preexec_fn=bounded)
+        port = int(process.stdout.readline().rpartition(b":")[2])
+        replies = []
+        for body in requests:
+            connection = http.client.HTTPConnection("127.0.0.1", port, timeout=SECONDS)
+            connection.request("POST", "/catalogue", body)
+            reply = connection.getresponse()
+            replies.append((reply.status, reply.read().decode()))
+            connection.close()
+        process.communicate(timeout=SECONDS)
+        return replies, process.returncode
+
+
+def scripts(desk):
+    """A script goes on behind the fault, in memory and in a file."""
+    requests = "".join(line(do="catalogue", text=text) for text in (SMALL, nested_headers(), SMALL + "# once more\n"))
+    wanted = f'{{"revision":1}}\n{NO_MEMORY}\n{{"revision":2}}\n'
+    for words in (["script"], ["script", "--db", "script.db"]):
+        done = desk.run(*words, text=requests)
+        yield " ".join(words), (done.stdout, done.returncode) == (wanted, 3)
+    yield "audit of the file", desk.run("audit", "--db", "script.db").stdout == "sound\n"
+
+
+def files(desk):
+    """A catalogue that is too large for the bound leaves the file as it is."""
+    for name, text in (("small.toml", SMALL), ("large.toml", nested_headers())):
+        with open(os.path.join(desk.room, name), "w") as file:
+            file.write(text)
+    first = desk.run("catalogue", "--db", "kept.db", "small.toml")
+    yield "a small catalogue", (first.stdout, first.returncode) == ('{"revision":1}\n', 0)
+    second = desk.run("catalogue", "--db", "kept.db", "large.toml")
+    yield "a large catalogue", NO_MEMORY in second.stdout + second.stderr and second.returncode == 3
+    yield "audit behind it", desk.run("audit", "--db", "kept.db").stdout == "sound\n"
+
+
+def connections(desk):
+    replies, status = desk.serve([SMALL, nested_headers(), SMALL + "# once more\n"])
+    wanted = [(200, '{"revision":1}'), (503, NO_MEMORY), (200, '{"revision":2}')]
+    yield "serve", (replies, status) == (wanted, 0)
+
+
+def trees(desk):
+    """A tree whose REUSE.toml takes too much is reported neither as clean nor in part."""
+    os.mkdir(os.path.join(desk.room, "tree"))
+    with open(os.path.join(desk.room, "tree", "REUSE.toml"), "w") as file:
+        file.write("version = 1\n" + nested_headers())
+    with open(os.path.join(desk.room, "tree", "file"), "w") as file:
+        file.write("x")
+    for words in (["lint", "tree"], ["gather", "tree", *NAMING]):
+        done = desk.run(*words)
+        yield words[0], (done.stdout, done.returncode) == ("", 3) and "memory" in done.stderr
+
+
+def main():
+    passed, failed = 0, []
+    with tempfile.TemporaryDirectory() as room:
+        desk = Bounded(sys.argv[1], room)
+        for cases in (scripts, files, connections, trees):
+            for name, is_right in cases(desk):
+                passed += is_right
+                failed += [] if is_right else [name]
+    print("".join(f"{name}: another answer\n" for name in failed), end="")
+    print(f"{passed} passed, {len(failed)} failed")
+    return bool(failed)
+
+
+if __name__ == "__main__":
+    sys.exit(main())
