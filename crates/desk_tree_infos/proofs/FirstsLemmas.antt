@@ -44,11 +44,6 @@ or_true : (b : Bool) → (b || true) ≡ true
 or_true true = refl
 or_true false = refl
 
-seen_known : (a T S : Bool) → (a ≡ true → (T || S) ≡ true) → (T || S) ≡ ((T || a) || S)
-seen_known a true S is = refl
-seen_known true false S is = is refl
-seen_known false false S is = refl
-
 listed_known : (a T S L : Bool) → (a ≡ true → (T || S) ≡ true)
     → (L || (T && not S)) ≡ (L || ((T || a) && not S))
 listed_known a true S L is = refl
@@ -84,6 +79,17 @@ skip_listed : (Y S L : Bool) → (Y ≡ true → S ≡ true) → L ≡ (L || (Y 
 skip_listed true true L is = sym (or_false L)
 skip_listed true false L is = absurd (false≢true (is refl))
 skip_listed false S L is = sym (or_false L)
+
+-- a text that isn't added was there, and one that is added wasn't
+pub was_there : (added has : Bool) → added ≡ not has → added ≡ false → has ≡ true
+was_there true has is isnt = absurd (false≢true (sym isnt))
+was_there false true is isnt = refl
+was_there false false is isnt = absurd (false≢true is)
+
+pub was_new : (added has : Bool) → added ≡ not has → added ≡ true → has ≡ false
+was_new false has is new = absurd (false≢true new)
+was_new true true is new = absurd (false≢true (sym is))
+was_new true false is new = refl
 
 -- ---- texts one after another
 
@@ -131,11 +137,13 @@ module _ (texts : List (List ℕ)) (i : ℕ) (d : List ℕ) (s0 s : BTreeSet (Bo
   at_here b is t same = sym (so_far.seen t)
       ∙ ap (has_text s) (sym (among_same (get_or texts i d) t same)) ∙ is
 
-  pub adds_known : has_text s (get_or texts i d) ≡ true → AddsUnseen (take (i + 1) texts) s0 s l0 l
-  adds_known known = record {
+  pub adds_known : (new : BTreeSet (Bor (List ℕ))) → has_text s (get_or texts i d) ≡ true
+      → ((q : List ℕ) → has_text new q ≡ (here q || has_text s q))
+      → AddsUnseen (take (i + 1) texts) s0 new l0 l
+  adds_known new known grown = record {
     seen = λ t.
-        so_far.seen t
-        ∙ seen_known (here t) (is_among (take i texts) t) (has_text s0 t) (at_here true known t)
+        grown t ∙ ap (λ b. here t || b) (so_far.seen t)
+        ∙ seen_new (here t) (is_among (take i texts) t) (has_text s0 t)
         ∙ ap (λ b. b || has_text s0 t) (sym (among-more t));
     listed = λ t.
         so_far.listed t

@@ -39,10 +39,10 @@ fn add_unseen<'m>(
     ensures { OnOk result (AddsUnseen texts.now seen.old seen.new list.old.items list.new.items) }
 {
     for text in texts {
-        if seen.contains(text.as_str()) {
+        let added = seen.insert(text.as_str())?;
+        if !added {
             continue;
         }
-        seen.insert(text.as_str())?;
         list.push(text.clone()?)?;
     }
     Ok(())
@@ -57,11 +57,10 @@ fn add_listed<'m>(
     ensures { OnOk result (AddsUnseen texts.now seen.old seen.new list.old.items list.new.items) }
 {
     for place in 0..texts.len() {
-        let text = texts.at(place);
-        if seen.contains(text) {
+        let added = seen.insert(texts.at(place))?;
+        if !added {
             continue;
         }
-        seen.insert(text)?;
         list.push(texts.shared(place)?)?;
     }
     Ok(())
