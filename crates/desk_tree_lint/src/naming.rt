@@ -164,13 +164,25 @@ fn asked_for<'k, 'a>(alloc: Global, keys: &'k TextList) -> Result<Vec<Asked<'k, 
     unmentioned(alloc, ordered.as_slice())
 }
 
-// The place of a key among those that are asked for.
-fn place_of(asked: &[Asked<'_, '_>], key: &str) -> Option<usize>
+// Whether a key is the one that is asked for at a place.
+fn is_at(asked: &[Asked<'_, '_>], place: usize, key: &str) -> bool
+    ensures { result ≡ true → (place < length asked.now)
+        × ((a : Asked) → (slice_index_or asked.now place a).key.now ≡ key.now) }
+{
+    place < asked.len() && asked[place].key == key
+}
+
+// The place of a key among those that are asked for: a near one is tried first, because keys that
+// follow one another in a tree often do so here.
+fn place_of(asked: &[Asked<'_, '_>], near: usize, key: &str) -> Option<usize>
     ensures found { IfSome result (λ i. (i < length asked.now)
         × ((a : Asked) → (slice_index_or asked.now i a).key.now ≡ key.now)) }
     ensures none { IfNone result (IsStrictlySortedBy (slice_cmp nat_cmp) (keys_asked asked.now)
         → is_among (keys_asked asked.now) key.now ≡ false) }
 {
+    if is_at(asked, near, key) {
+        return Some(near);
+    }
     match asked.binary_search_by(|one| one.key.cmp(key)) {
         Ok(place) => Some(place),
         Err(_) => None,
@@ -181,6 +193,7 @@ fn place_of(asked: &[Asked<'_, '_>], key: &str) -> Option<usize>
 fn keep<'a>(
     alloc: Global,
     asked: &mut [Asked<'_, 'a>],
+    near: &mut usize,
     path: &SharedPath,
     id: &'a str,
 ) -> Result<(), AllocError>
@@ -188,9 +201,10 @@ fn keep<'a>(
         → Holds keys ms asked.old → Holds keys (ms ++ mention path.now id.now ∷ []) asked.new) }
 {
     let key = key_of(alloc, id)?;
-    let Some(place) = place_of(asked, key.as_str()) else {
+    let Some(place) = place_of(asked, *near, key.as_str()) else {
         return Ok(());
     };
+    *near = place.saturating_add(1);
     if asked[place].first.is_some() {
         return Ok(());
     }
@@ -203,6 +217,7 @@ fn keep<'a>(
 fn keep_each<'a>(
     alloc: Global,
     asked: &mut [Asked<'_, 'a>],
+    near: &mut usize,
     path: &SharedPath,
     ids: &[&'a str],
 ) -> Result<(), AllocError>
@@ -210,7 +225,7 @@ fn keep_each<'a>(
         → Holds keys (ms ++ map (mention path.now) (texts ids.now)) asked.new) }
 {
     for id in ids {
-        keep(alloc, asked, path, *id)?;
+        keep(alloc, asked, near, path, *id)?;
     }
     Ok(())
 }
@@ -219,6 +234,7 @@ fn keep_each<'a>(
 fn keep_licence<'a>(
     alloc: Global,
     asked: &mut [Asked<'_, 'a>],
+    near: &mut usize,
     path: &SharedPath,
     licence: &'a str,
 ) -> Result<(), AllocError>
@@ -226,13 +242,14 @@ fn keep_licence<'a>(
         → Holds keys (ms ++ mentions_by path.now licence.now) asked.new) }
 {
     let ids = ids(alloc, licence)?;
-    keep_each(alloc, asked, path, ids.as_slice())
+    keep_each(alloc, asked, near, path, ids.as_slice())
 }
 
 // Keeps the mentions in a file's licences after others.
 fn keep_licences<'a>(
     alloc: Global,
     asked: &mut [Asked<'_, 'a>],
+    near: &mut usize,
     path: &SharedPath,
     licences: &'a [SharedText],
 ) -> Result<(), AllocError>
@@ -241,7 +258,7 @@ fn keep_licences<'a>(
         → Holds keys (ms ++ flat_map (mentions_by path.now) licences.now) asked.new) }
 {
     for licence in licences {
-        keep_licence(alloc, asked, path, licence.as_str())?;
+        keep_licence(alloc, asked, near, path, licence.as_str())?;
     }
     Ok(())
 }
@@ -255,20 +272,21 @@ fn keep_firsts<'a>(
     ensures { OnOk result ((keys : List (List ℕ)) → Holds keys [] asked.old
         → Holds keys (first_mentions (map first_in listed.now)) asked.new) }
 {
+    let mut near = 0;
     for first in listed {
         let path = SharedPath::of(alloc, first.path)?;
-        keep_licences(alloc, asked, &path, first.texts.as_slice())?;
+        keep_licences(alloc, asked, &mut near, &path, first.texts.as_slice())?;
     }
     Ok(())
 }
 
 // The first mention that is kept for a key.
-fn first_of<'s, 'a>(asked: &'s [Asked<'_, 'a>], key: &str) -> Option<&'s Mention<'a>>
+fn first_of<'s, 'a>(asked: &'s [Asked<'_, 'a>], near: usize, key: &str) -> Option<&'s Mention<'a>>
     ensures { (keys : List (List ℕ)) (ms : List MentionText) → Holds keys ms asked.now
         → is_among keys key.now ≡ true
         → option_map (λ m. mention_in m.now) result ≡ first_with key.now ms }
 {
-    match place_of(asked, key) {
+    match place_of(asked, near, key) {
         Some(place) => asked[place].first.as_ref(),
         None => None,
     }
@@ -297,7 +315,7 @@ fn add_names(asked: &[Asked<'_, '_>], keys: &TextList, names: &mut Names) -> Res
 {
     for place in 0..keys.len() {
         let key = keys.at(place);
-        add_name(names, key, first_of(asked, key))?;
+        add_name(names, key, first_of(asked, place, key))?;
     }
     Ok(())
 }
