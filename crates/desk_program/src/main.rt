@@ -150,7 +150,8 @@ fn lint(
     is_watched: bool,
 ) -> Result<u8, Failure> {
     let files = files_of(rt, folder, is_watched)?;
-    desk_subcommands::lint(alloc, files, json, &mut io::writer(rt))
+    let mut writer = BufWriter::new(alloc, io::writer(rt))?;
+    desk_subcommands::lint(alloc, files, json, &mut writer)
 }
 
 /// Writes the tag-value document that says the same as an SPDX document in JSON.

@@ -2,8 +2,8 @@
 use Rattle.std.specs.Prelude.{◌≡◌, ℕ, Bool, List, if◌then◌else◌}
 use Rattle.desk_tree_gather.specs.declared.files.SourceFile.{SourceFile}
 use Rattle.desk_tree_infos.specs.Readers.{Reader}
-use Rattle.desk_tree_problems.specs.declared.reports.Report.{Report}
-use Rattle.desk_tree_problems.specs.Reports.{IsReport}
+use Rattle.desk_tree_reports.specs.declared.reports.Report.{Report}
+use Rattle.desk_tree_reports.specs.Reports.{IsReport}
 
 -- the program's status: done if the tree has no problem, and else refused
 abbrev pub lint_status : Report → ℕ

@@ -3,13 +3,13 @@
 ghost use Rattle.std.specs.Prelude.{◌≡◌, ℕ, List, IfOk, IfErr, OnOk};
 ghost use Rattle.std.specs.Io.KnownBytes.{Appends, Keeps};
 ghost use Rattle.desk_tree_infos.specs.Readers.{Reader, IsRightReader};
-ghost use Rattle.desk_tree_problems.specs.Reports.{AreBlankLines};
+ghost use Rattle.desk_tree_reports.specs.Reports.{AreBlankLines};
 ghost use Rattle.desk_subcommands.specs.Failures.{IfMemory, IsOfOutput};
 ghost use Rattle.desk_subcommands.specs.Linting.{lint_status, Lints};
 
 use crate::failure::Failure;
 use desk_tree_gather::SourceFile;
-use desk_tree_problems::{Report, blank_lines, report_on};
+use desk_tree_reports::{Report, blank_lines, report_on};
 use std::alloc::Global;
 use std::io::Write;
 

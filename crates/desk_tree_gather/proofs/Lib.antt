@@ -7,5 +7,6 @@ pub mod StatedLemmas
 pub mod GatheredLemmas
 pub mod SurveyLaws
 pub mod SurveyLemmas
+pub mod BlankLemmas
 pub mod OwnedLemmas
 pub mod TellingLemmas

@@ -49,7 +49,7 @@ put-is sorted f is = ap (λ o. unless_flawed o f sorted) is
 
 -- ---- REUSE.toml files
 
-no_text : (f : SourceFile) → (IsUtf8 f.bytes → ⊥) → is_utf8 f.bytes ≡ false
+pub no_text : (f : SourceFile) → (IsUtf8 f.bytes → ⊥) → is_utf8 f.bytes ≡ false
 no_text f none =
     elim (cases_Bool (is_utf8 f.bytes)) [
       | inl is ↦ absurd (none (IsUtf8-from_is_utf8 f.bytes is))

@@ -5,4 +5,5 @@ pub mod Gathering
 pub mod Telling
 pub mod Digests
 pub mod Survey
+pub mod Blanks
 pub mod Shown

@@ -1,7 +1,7 @@
 //! What may be wrong in a tree.
 
 use desk_base::Text;
-use desk_tree_annotations::AnnotationFault;
+use desk_tree_annotations::{AnnotationFault, SharedText};
 
 /// Something wrong in a tree, because of which nothing is gathered from it.
 #[derive(Drop)]
@@ -15,8 +15,8 @@ pub enum Flaw {
     /// A REUSE.toml, named by its path, that is no TOML document of version 1.
     BadToml(Text),
     /// An annotation of a REUSE.toml: its path, the index from 0, and what is wrong.
-    BadAnnotation(Text, usize, AnnotationFault),
+    BadAnnotation(SharedText, usize, AnnotationFault),
     /// A tag whose value is no licence expression: the path of the file that has it, its line, from
     /// 1, and its value.
-    BadExpression(Text, u64, Text),
+    BadExpression(SharedText, u64, Text),
 }

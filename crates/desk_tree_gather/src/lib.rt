@@ -8,8 +8,9 @@
 //!   count, at most one for each folder (`desk_tree_infos`).
 //! - The texts of a file are joined only when it is asked for (`ToldFiles::file`).
 //! - `survey` goes on after faults: it returns all that is wrong in a tree, and the information of
-//!   the files from what can be read (`specs/Survey.antt`). `gathered` stops at the first of these
-//!   flaws (`gathered_is_surveyed`).
+//!   the files from what can be read (`specs/Survey.antt`), with the licences of REUSE.toml files
+//!   that no document can hold (`specs/Blanks.antt`). `gathered` stops at the first of these flaws
+//!   (`gathered_is_surveyed`).
 //! - `told` takes the files by value: it returns what is gathered with the digest of each file
 //!   (`specs/Telling.antt`), and drops the bytes of each file once these are known.
 //! - The definitions are over a `Reader`: the pieces of patterns, the licence expressions, the
@@ -18,6 +19,7 @@
 //!   and there is only one right reader (`one_reader`).
 #![tactic(auto)]
 
+mod blanks;
 mod fault;
 mod files;
 mod flaw;
@@ -28,6 +30,7 @@ mod surveying;
 mod telling;
 mod tomls;
 
+pub use blanks::Blank;
 pub use desk_tree_infos::{FileInfo, First, Infos, Outline, Subject};
 pub use fault::GatherFault;
 pub use files::{SourceFile, bytes_at, tree_of};

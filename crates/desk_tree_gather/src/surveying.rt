@@ -8,18 +8,20 @@ ghost use Rattle.desk_tree_infos.specs.Readers.{Reader, IsRightReader};
 ghost use Rattle.desk_tree_gather.specs.Paths.{is_toml, is_covered};
 ghost use Rattle.desk_tree_infos.specs.Tomls.{TomlText, toml_in, tomls_in};
 ghost use Rattle.desk_tree_infos.specs.Folders.{Holds};
+ghost use Rattle.desk_tree_gather.specs.Blanks.{blanks_of, blanks_in};
 ghost use Rattle.desk_tree_gather.specs.Gathering.{holder};
 ghost use Rattle.desk_tree_gather.specs.Survey.{path_flaw, with_file, sifted, path_flaws, flaw_of, toml_flaws, toml_sifted, tag_flaws, stated_flaws, kept, tree_flaws, flaws_of, info_sifted, infos_sifted};
 ghost use Rattle.desk_tree_infos.specs.Sharing.{info_at, infos_at};
 ghost use Rattle.desk_tree_gather.specs.Shown.{file_of, files_of, tree_in, stated_of};
 
+use crate::blanks::{Blank, add_blanks};
 use crate::files::{File, SourceFile, bytes_at, files_of, is_covered, is_toml};
 use crate::flaw::Flaw;
 use crate::gathering::{Known, holder, info_with};
 use crate::paths::{folder_of, is_path};
 use desk_base::{Items, Text, limits};
 use desk_tree_annotations::{
-    Annotations, AnnotationsFault, Info, Sifted, Tagged, header, is_expression_beside,
+    Annotations, AnnotationsFault, Info, SharedText, Sifted, Tagged, header, is_expression_beside,
 };
 use desk_tree_infos::{Covered, Infos, Toml, Trail, by_folder, counting};
 use std::alloc::{AllocError, Global};
@@ -34,6 +36,9 @@ pub struct Surveyed<'a> {
     /// That there are too many files, or what is wrong with the paths in turn, with the REUSE.toml
     /// files by path, and with what the covered files state, by path.
     pub flaws: Items<Flaw>,
+    /// Annotations with a licence that no document can hold, by path, in each REUSE.toml of which
+    /// all annotations can be read.
+    pub blanks: Items<Blank>,
     /// The information of the covered files by path, from the annotations that can be read. A tag
     /// that is no licence expression is there as it is written.
     pub infos: Infos,
@@ -122,21 +127,21 @@ fn covered_files<'a>(alloc: Global, files: &[File<'a>]) -> Result<Vec<File<'a>>,
 }
 
 // The flaw of the tree for a fault of a REUSE.toml.
-fn flaw_of(alloc: Global, path: &str, fault: AnnotationsFault) -> Result<Flaw, AllocError>
+fn flaw_of(alloc: Global, path: &SharedText, fault: AnnotationsFault) -> Result<Flaw, AllocError>
     ensures { IfOk result (λ flaw. flaw ≡ flaw_of path.now fault) }
 {
     match fault {
         AnnotationsFault::BadAnnotation(index, kind) => {
-            Ok(Flaw::BadAnnotation(Text::of(alloc, path)?, index, kind))
+            Ok(Flaw::BadAnnotation(path.clone()?, index, kind))
         }
-        _ => Ok(Flaw::BadToml(Text::of(alloc, path)?)),
+        _ => Ok(Flaw::BadToml(Text::of(alloc, path.as_str())?)),
     }
 }
 
 // Adds what is wrong with a REUSE.toml.
 fn add_faults(
     alloc: Global,
-    path: &str,
+    path: &SharedText,
     faults: &[AnnotationsFault],
     flaws: &mut Items<Flaw>,
 ) -> Result<(), AllocError>
@@ -153,11 +158,14 @@ fn toml_sifted<'a>(
     alloc: Global,
     file: File<'a>,
     flaws: &mut Items<Flaw>,
+    blanks: &mut Items<Blank>,
 ) -> Result<Toml<'a>, AllocError>
     ensures toml { (r : Reader) → IsRightReader r
         → IfOk result (λ t. toml_in t ≡ toml_sifted r (file_of file.entry)) }
     ensures flaws { (r : Reader) → IsRightReader r
         → OnOk result (flaws.new ≡ flaws.old ++ toml_flaws r (file_of file.entry)) }
+    ensures blanks { (r : Reader) → IsRightReader r
+        → OnOk result (blanks.new ≡ blanks.old ++ blanks_of r.reading (file_of file.entry)) }
 {
     let folder = folder_of(file.path.as_bytes());
     let Ok(text) = str::from_utf8(file.bytes) else {
@@ -173,7 +181,9 @@ fn toml_sifted<'a>(
         annotations,
         faults,
     } = Annotations::sift(alloc, text)?;
-    add_faults(alloc, file.path, faults.as_slice(), flaws)?;
+    let path = SharedText::of(alloc, file.path)?;
+    add_faults(alloc, &path, faults.as_slice(), flaws)?;
+    add_blanks(blanks, &path, faults.as_slice(), annotations.as_slice())?;
     Ok(Toml {
         folder,
         annotations: Annotations { list: annotations },
@@ -185,15 +195,18 @@ fn tomls_sifted<'a>(
     alloc: Global,
     files: &[File<'a>],
     flaws: &mut Items<Flaw>,
+    blanks: &mut Items<Blank>,
 ) -> Result<Vec<Toml<'a>>, AllocError>
     ensures tomls { (r : Reader) → IsRightReader r
         → IfOk result (λ v. tomls_in v.items ≡ map (toml_sifted r) (files_of files.now)) }
     ensures flaws { (r : Reader) → IsRightReader r
         → OnOk result (flaws.new ≡ flaws.old ++ flat_map (toml_flaws r) (files_of files.now)) }
+    ensures blanks { (r : Reader) → IsRightReader r → OnOk result
+        (blanks.new ≡ blanks.old ++ flat_map (blanks_of r.reading) (files_of files.now)) }
 {
     let mut tomls = Vec::new(alloc);
     for file in files {
-        let toml = toml_sifted(alloc, *file, flaws)?;
+        let toml = toml_sifted(alloc, *file, flaws, blanks)?;
         tomls.push(toml)?;
     }
     Ok(tomls)
@@ -203,7 +216,7 @@ fn tomls_sifted<'a>(
 // or what was known before.
 fn add_tag<'a>(
     alloc: Global,
-    path: &str,
+    path: &SharedText,
     tag: Tagged<'a>,
     known: Option<&'a str>,
     flaws: &mut Items<Flaw>,
@@ -217,7 +230,7 @@ fn add_tag<'a>(
     if told {
         return Ok(Some(tag.value));
     }
-    let path = Text::of(alloc, path)?;
+    let path = path.clone()?;
     let value = Text::of(alloc, tag.value)?;
     flaws.push(Flaw::BadExpression(path, tag.line, value))?;
     Ok(known)
@@ -226,7 +239,7 @@ fn add_tag<'a>(
 // Adds the tags that are no licence expression.
 fn add_tags(
     alloc: Global,
-    path: &str,
+    path: &SharedText,
     tags: &[Tagged<'_>],
     flaws: &mut Items<Flaw>,
 ) -> Result<(), AllocError>
@@ -256,7 +269,8 @@ fn own_sifted<'a>(
 {
     let held = holder(alloc, tree, file)?;
     let info = header(alloc, held.bytes)?;
-    add_tags(alloc, held.path.as_str(), info.licences.as_slice(), flaws)?;
+    let path = SharedText::of(alloc, held.path.as_str())?;
+    add_tags(alloc, &path, info.licences.as_slice(), flaws)?;
     Ok(info)
 }
 
@@ -336,20 +350,28 @@ fn survey_of<'a>(
     ensures tree { IfOk result (λ s. s.tree ≡ tree.entry) }
     ensures flaws { (r : Reader) → IsRightReader r
         → IfOk result (λ s. s.flaws ≡ flaws ++ tree_flaws r (tree_in tree.entry)) }
+    ensures blanks { (r : Reader) → IsRightReader r
+        → IfOk result (λ s. s.blanks ≡ blanks_in r.reading (tree_in tree.entry)) }
     ensures infos { (r : Reader) → IsRightReader r
         → IfOk result (λ s. s.infos ≡ infos_sifted r (tree_in tree.entry)) }
 {
     let mut flaws = flaws;
+    let mut blanks = Items::new(alloc);
     let files = files_of(alloc, &tree)?;
     let tomls = toml_files(alloc, files.as_slice())?;
-    let tomls = tomls_sifted(alloc, tomls.as_slice(), &mut flaws)?;
+    let tomls = tomls_sifted(alloc, tomls.as_slice(), &mut flaws, &mut blanks)?;
     let folders = by_folder(alloc, tomls)?;
     let covered = covered_files(alloc, files.as_slice())?;
     let known = Known { tree, folders };
     let covered = all_sifted(alloc, &known, covered.as_slice(), &mut flaws)?;
     let Known { tree, folders } = known;
     let infos = Infos::of(folders.all, covered);
-    Ok(Surveyed { tree, flaws, infos })
+    Ok(Surveyed {
+        tree,
+        flaws,
+        blanks,
+        infos,
+    })
 }
 
 /// All that is wrong in a tree, and what is gathered from the rest of it. The only error is lack of
@@ -361,6 +383,8 @@ pub fn survey<'a>(alloc: Global, files: &'a [SourceFile]) -> Result<Surveyed<'a>
     ensures tree { IfOk result (λ s. tree_in s.tree ≡ kept files.now) }
     ensures flaws { (r : Reader) → IsRightReader r
         → IfOk result (λ s. s.flaws ≡ flaws_of r files.now) }
+    ensures blanks { (r : Reader) → IsRightReader r
+        → IfOk result (λ s. s.blanks ≡ blanks_in r.reading (kept files.now)) }
     ensures infos { (r : Reader) → IsRightReader r
         → IfOk result (λ s. s.infos ≡ infos_sifted r (kept files.now)) }
 {
@@ -370,6 +394,7 @@ pub fn survey<'a>(alloc: Global, files: &'a [SourceFile]) -> Result<Surveyed<'a>
         return Ok(Surveyed {
             tree: BTreeMap::new(alloc),
             flaws,
+            blanks: Items::new(alloc),
             infos: Infos::of(Vec::new(alloc), Vec::new(alloc)),
         });
     }

@@ -1,7 +1,9 @@
 -- How the code's values correspond to those of the definitions.
-use Rattle.std.specs.Prelude.{ℕ, Bool, List, [], ◌∷◌, map, Vec, if◌then◌else◌}
+use Rattle.std.specs.Prelude.{ℕ, Bool, List, [], ◌∷◌, map, option_map, Vec, if◌then◌else◌}
 use Rattle.std.specs.declared.alloc.Global.{Global}
 use denote.Ref.{Bor}
+use Rattle.desk_tree_lint.specs.declared.names.NameAt.{NameAt}
+use Rattle.desk_tree_lint.specs.declared.naming.Name.{Name}
 use Rattle.desk_tree_lint.specs.declared.texts.LicenceText.{LicenceText}
 use Rattle.desk_tree_lint.specs.Texts.{TextFile}
 
@@ -19,3 +21,10 @@ bytes_in v = map (λ (text : Bor (List ℕ)). text.now) v.items
 -- a text, if it belongs to a list
 abbrev pub only : Bool → List ℕ → List (List ℕ)
 only belongs text = if belongs then text ∷ [] else []
+
+-- a name in a list, apart from where it is in memory
+abbrev pub name_at : NameAt → Name
+name_at n = record {
+  id = n.id.now;
+  path = option_map (λ (path : Bor (List ℕ)). path.now) n.path;
+}

@@ -25,5 +25,5 @@ mod used;
 pub use laws::one_lint;
 pub use linting::{lint, lists_of};
 pub use lists::Lint;
-pub use names::Names;
+pub use names::{NameAt, Names};
 pub use naming::{Name, names_of};

@@ -1,12 +1,21 @@
 //! Names, kept together.
 
-ghost use Rattle.std.specs.Prelude.{◌≡◌, ◌<◌, ◌++◌, ◌∷◌, [], length, slice_index_or, IfOk, OnOk};
+ghost use Rattle.std.specs.Prelude.{◌≡◌, ◌<◌, ◌++◌, ◌∷◌, [], length, slice_index_or, OnOk};
+ghost use Rattle.desk_tree_lint.specs.Shown.{name_at};
 
-use crate::naming::Name;
 use crate::path::SharedPath;
-use desk_base::{Text, TextList};
+use desk_base::TextList;
 use std::alloc::{AllocError, Global};
 use std::marker::Model;
+
+/// A name in a list.
+#[derive(Clone, Copy)]
+pub struct NameAt<'a> {
+    /// The identifier as it was first written.
+    pub id: &'a str,
+    /// The first file that names it.
+    pub path: Option<&'a str>,
+}
 
 /// An owned list of names, seen as that list. The identifiers are in one buffer, and names of one
 /// file share its path.
@@ -46,18 +55,18 @@ impl Names {
         self.paths.len()
     }
 
-    /// The name at a place, from 0. The only error is lack of memory.
-    pub fn at(&self, alloc: Global, place: usize) -> Result<Name, AllocError>
+    /// The name at a place, from 0.
+    pub fn at(&self, place: usize) -> NameAt<'_>
         requires { place < length self.now }
-        ensures { IfOk result (λ name. name ≡ slice_index_or self.now place name) }
+        ensures { name_at result ≡ slice_index_or self.now place (name_at result) }
     {
-        let id = Text::of(alloc, self.ids.at(place))?;
+        let id = self.ids.at(place);
         match &self.paths[place] {
-            Some(path) => {
-                let path = Some(Text::of(alloc, path.as_str())?);
-                Ok(Name { id, path })
-            }
-            None => Ok(Name { id, path: None }),
+            Some(path) => NameAt {
+                id,
+                path: Some(path.as_str()),
+            },
+            None => NameAt { id, path: None },
         }
     }
 

@@ -18,7 +18,7 @@ use Rattle.desk_tree_lint.proofs.UsedLemmas.{used_once}
 use Rattle.desk_tree_problems.specs.declared.bare.Bare.{Bare}
 use Rattle.desk_tree_problems.specs.declared.problems.Problems.{Problems}
 use Rattle.desk_tree_problems.specs.Bare.{bare_file, bare_files}
-use Rattle.desk_tree_problems.specs.Blanks.{blanks_in}
+use Rattle.desk_tree_gather.specs.Blanks.{blanks_in}
 use Rattle.desk_tree_problems.specs.Problems.{has_dep5, are_some, unused_unless, problems_with}
 use Rattle.desk_tree_problems.specs.Problems.{AreProblems, lists_in, told_beside, BeginsWith}
 

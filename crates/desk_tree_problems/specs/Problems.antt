@@ -14,10 +14,10 @@ use Rattle.desk_tree_lint.specs.Naming.{name_of}
 use Rattle.desk_tree_lint.specs.Texts.{TextFile, text_files}
 use Rattle.desk_tree_lint.specs.Used.{AreUsed}
 use Rattle.desk_tree_problems.specs.declared.bare.Bare.{Bare}
-use Rattle.desk_tree_problems.specs.declared.blanks.Blank.{Blank}
+use Rattle.desk_tree_gather.specs.declared.blanks.Blank.{Blank}
 use Rattle.desk_tree_problems.specs.declared.problems.Problems.{Problems}
 use Rattle.desk_tree_problems.specs.Bare.{bare_files}
-use Rattle.desk_tree_problems.specs.Blanks.{blanks_in}
+use Rattle.desk_tree_gather.specs.Blanks.{blanks_in}
 
 -- the older file of annotations, which isn't read, is in a tree
 abbrev pub has_dep5 : List SourceFile → Bool

@@ -18,7 +18,7 @@ use Rattle.desk_tree_gather.specs.declared.flaw.Flaw.TheVariants.{BadExpression}
 use Rattle.desk_tree_lint.specs.declared.naming.Name.{Name}
 use Rattle.desk_tree_problems.specs.declared.bare.Bare.{Bare}
 use Rattle.desk_tree_problems.specs.declared.bare.Lacking.{Lacking}
-use Rattle.desk_tree_problems.specs.declared.blanks.Blank.{Blank}
+use Rattle.desk_tree_gather.specs.declared.blanks.Blank.{Blank}
 use Rattle.desk_tree_problems.specs.declared.bare.Lacking.TheVariants.{Notice, Licence, Both}
 use Rattle.desk_tree_problems.specs.declared.problems.Problems.{Problems}
 use Rattle.desk_tree_problems.specs.declared.row.Kind.{Kind}

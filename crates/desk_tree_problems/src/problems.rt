@@ -10,9 +10,8 @@ ghost use Rattle.desk_tree_problems.specs.Problems.{has_dep5, are_some, unused_u
 ghost use Rattle.desk_tree_gather.specs.Shown.{tree_in};
 
 use crate::bare::{Bare, bare_files};
-use crate::blanks::{Blank, blanks_in};
 use desk_base::{Items, Text, TextList};
-use desk_tree_gather::{Flaw, SourceFile, Subject, Surveyed, bytes_at, survey};
+use desk_tree_gather::{Blank, Flaw, SourceFile, Subject, Surveyed, bytes_at, survey};
 use desk_tree_lint::{Lint, Names, lists_of, names_of};
 use std::alloc::{AllocError, Global};
 use std::collections::BTreeMap;
@@ -66,9 +65,12 @@ fn unused_unless(alloc: Global, unsure: bool, paths: Items<Text>) -> Items<Text>
 fn surveyed(alloc: Global, files: Vec<SourceFile>) -> Result<Problems, AllocError>
     ensures { (r : Reader) → IsRightReader r → IfOk result (AreProblems r files.items) }
 {
-    let Surveyed { tree, flaws, infos } = survey(alloc, files.as_slice())?;
-    // This reads each REUSE.toml again, so it comes before anything else that takes much memory.
-    let blanks = blanks_in(alloc, &tree)?;
+    let Surveyed {
+        tree,
+        flaws,
+        blanks,
+        infos,
+    } = survey(alloc, files.as_slice())?;
     let firsts = infos.firsts(alloc, Subject::Licences)?;
     let Lint {
         missing,

@@ -53,8 +53,8 @@ impl Kind {
         }
     }
 
-    // The place of the kind among all.
-    pub(crate) fn number(self) -> u8
+    /// The place of the kind among all, from 0.
+    pub fn number(self) -> u8
         ensures { result ≡ kind_number self }
     {
         match self {
@@ -74,7 +74,7 @@ impl Kind {
 }
 
 /// Each kind, in the order in which they are reported.
-pub(crate) fn kinds() -> [Kind; 11]
+pub fn kinds() -> [Kind; 11]
     ensures { result ≡ kinds }
 {
     [

@@ -1,21 +1,20 @@
 //! What is reported about each problem.
 
-ghost use Rattle.std.specs.Prelude.{◌≡◌, ◌++◌, ◌<◌, nat_lt, None, IfOk, OnOk, map, codes};
+ghost use Rattle.std.specs.Prelude.{◌≡◌, ◌++◌, ◌<◌, nat_lt, None, IfOk, option_map, codes};
 ghost use Rattle.std.specs.List.{list_any};
 ghost use Rattle.std.specs.String.{string_bytes};
 ghost use Rattle.desk_expr.specs.Faults.{fault_number};
+ghost use Rattle.desk_tree_lint.specs.Shown.{name_at};
 ghost use Rattle.desk_tree_gather.specs.declared.flaw.Flaw.TheVariants.{BadAnnotation, BadExpression};
-ghost use Rattle.desk_tree_problems.specs.Rows.{flaw_row, annotation_words, StopsAt, path_words, quoted, expression_words, stop_words, IsFlawRow, AreFlawRows, dep5_rows, blank_row, named_words, text_words, missing_row, unused_row, lacking_words, bare_row, list_rows, AreRows};
+ghost use Rattle.desk_tree_problems.specs.Rows.{flaw_row, annotation_words, StopsAt, path_words, quoted, expression_words, stop_words, IsFlawRow, dep5_rows, blank_row, named_words, text_words, missing_row, unused_row, lacking_words, bare_row};
 
 use crate::bare::{Bare, Lacking};
-use crate::blanks::Blank;
-use crate::problems::Problems;
 use crate::row::{Kind, Row, row_of};
-use desk_base::{Items, Text};
+use desk_base::Text;
 use desk_expr::{ParseFault, parse};
 use desk_tree_annotations::AnnotationFault;
-use desk_tree_gather::Flaw;
-use desk_tree_lint::{Name, Names};
+use desk_tree_gather::{Blank, Flaw};
+use desk_tree_lint::NameAt;
 use std::alloc::{AllocError, Global};
 
 // How many bytes a text may have to be quoted.
@@ -149,7 +148,7 @@ fn path_words(path: &str) -> &'static str
 }
 
 /// The row of a flaw.
-pub(crate) fn flaw_row(alloc: Global, flaw: &Flaw) -> Result<Row, AllocError>
+pub fn flaw_row(alloc: Global, flaw: &Flaw) -> Result<Row, AllocError>
     ensures { IfOk result (IsFlawRow flaw.now) }
 {
     match flaw {
@@ -184,19 +183,8 @@ pub(crate) fn flaw_row(alloc: Global, flaw: &Flaw) -> Result<Row, AllocError>
     }
 }
 
-// The rows of the flaws.
-fn flaw_rows(alloc: Global, flaws: &[Flaw]) -> Result<Vec<Row>, AllocError>
-    ensures { IfOk result (λ rows. AreFlawRows flaws.now rows.items) }
-{
-    let mut rows = Vec::new(alloc);
-    for flaw in flaws {
-        rows.push(flaw_row(alloc, flaw)?)?;
-    }
-    Ok(rows)
-}
-
 /// The rows of older annotations.
-pub(crate) fn dep5_rows(alloc: Global, dep5: bool) -> Result<Vec<Row>, AllocError>
+pub fn dep5_rows(alloc: Global, dep5: bool) -> Result<Vec<Row>, AllocError>
     ensures { IfOk result (λ rows. rows.items ≡ dep5_rows dep5) }
 {
     let mut rows = Vec::new(alloc);
@@ -213,7 +201,7 @@ pub(crate) fn dep5_rows(alloc: Global, dep5: bool) -> Result<Vec<Row>, AllocErro
 }
 
 /// The row of an annotation with a licence that no document can hold.
-pub(crate) fn blank_row(alloc: Global, blank: &Blank) -> Result<Row, AllocError>
+pub fn blank_row(alloc: Global, blank: &Blank) -> Result<Row, AllocError>
     ensures { IfOk result (λ row. row ≡ blank_row blank.now) }
 {
     let index = blank.index;
@@ -229,30 +217,19 @@ pub(crate) fn blank_row(alloc: Global, blank: &Blank) -> Result<Row, AllocError>
     )
 }
 
-fn add_blanks(alloc: Global, rows: &mut Vec<Row>, blanks: &[Blank]) -> Result<(), AllocError>
-    ensures { OnOk result (rows.new.items ≡ rows.old.items ++ map blank_row blanks.now) }
-{
-    for blank in blanks {
-        rows.push(blank_row(alloc, blank)?)?;
-    }
-    Ok(())
-}
-
 // Which file names a licence.
-fn named_words(alloc: Global, path: &Option<Text>) -> Result<String, AllocError>
-    ensures { IfOk result (λ words. string_bytes words ≡ named_words path.now) }
+fn named_words(alloc: Global, path: Option<&str>) -> Result<String, AllocError>
+    ensures { IfOk result (λ words. string_bytes words
+        ≡ named_words (option_map (λ p. p.now) path.entry)) }
 {
     match path {
-        Some(path) => {
-            let path = path.as_str();
-            format!(in alloc; ", which {path} names")
-        }
+        Some(path) => format!(in alloc; ", which {path} names"),
         None => String::from_str(alloc, ""),
     }
 }
 
-// What to do about a missing text.
-fn text_words(alloc: Global, id: &str) -> Result<String, AllocError>
+/// What to do about a missing text.
+pub fn text_words(alloc: Global, id: &str) -> Result<String, AllocError>
     ensures { IfOk result (λ words. string_bytes words ≡ text_words id.now) }
 {
     if id.as_bytes().starts_with(b"DocumentRef-") {
@@ -266,29 +243,20 @@ fn text_words(alloc: Global, id: &str) -> Result<String, AllocError>
 }
 
 /// The row of a text that is missing.
-pub(crate) fn missing_row(alloc: Global, name: &Name) -> Result<Row, AllocError>
-    ensures { IfOk result (λ row. row ≡ missing_row name.now) }
+pub fn missing_row(alloc: Global, name: NameAt<'_>) -> Result<Row, AllocError>
+    ensures { IfOk result (λ row. row ≡ missing_row (name_at name.entry)) }
 {
-    let named = named_words(alloc, &name.path)?;
-    let text = text_words(alloc, name.id.as_str())?;
-    let id = name.id.as_str();
+    let named = named_words(alloc, name.path)?;
+    let text = text_words(alloc, name.id)?;
+    let id = name.id;
     let named = named.as_str();
     let text = text.as_str();
     let message = format!(in alloc; "no text of {id}{named}{text}")?;
     row_of(alloc, Kind::Missing, "LICENSES/", message.as_str())
 }
 
-fn add_missing(alloc: Global, rows: &mut Vec<Row>, names: &Names) -> Result<(), AllocError>
-    ensures { OnOk result (rows.new.items ≡ rows.old.items ++ map missing_row names.now) }
-{
-    for place in 0..names.len() {
-        rows.push(missing_row(alloc, &names.at(alloc, place)?)?)?;
-    }
-    Ok(())
-}
-
 /// The row of a text that nothing uses.
-pub(crate) fn unused_row(alloc: Global, path: &str) -> Result<Row, AllocError>
+pub fn unused_row(alloc: Global, path: &str) -> Result<Row, AllocError>
     ensures { IfOk result (λ row. row ≡ unused_row path.now) }
 {
     row_of(
@@ -297,15 +265,6 @@ pub(crate) fn unused_row(alloc: Global, path: &str) -> Result<Row, AllocError>
         path,
         "no file uses this text: take it away, or state its licence where it is used",
     )
-}
-
-fn add_unused(alloc: Global, rows: &mut Vec<Row>, paths: &[Text]) -> Result<(), AllocError>
-    ensures { OnOk result (rows.new.items ≡ rows.old.items ++ map unused_row paths.now) }
-{
-    for path in paths {
-        rows.push(unused_row(alloc, path.as_str())?)?;
-    }
-    Ok(())
 }
 
 fn lacking_words(lacking: Lacking) -> &'static str
@@ -328,7 +287,7 @@ fn lacking_words(lacking: Lacking) -> &'static str
 }
 
 /// The row of a file that lacks something.
-pub(crate) fn bare_row(alloc: Global, bare: &Bare) -> Result<Row, AllocError>
+pub fn bare_row(alloc: Global, bare: &Bare) -> Result<Row, AllocError>
     ensures { IfOk result (λ row. row ≡ bare_row bare.now) }
 {
     row_of(
@@ -337,29 +296,4 @@ pub(crate) fn bare_row(alloc: Global, bare: &Bare) -> Result<Row, AllocError>
         bare.path.as_str(),
         lacking_words(bare.lacking),
     )
-}
-
-fn add_bare(alloc: Global, rows: &mut Vec<Row>, files: &[Bare]) -> Result<(), AllocError>
-    ensures { OnOk result (rows.new.items ≡ rows.old.items ++ map bare_row files.now) }
-{
-    for bare in files {
-        rows.push(bare_row(alloc, bare)?)?;
-    }
-    Ok(())
-}
-
-/// A row for each problem: first older annotations, then the flaws, licences that no document can
-/// hold, texts that are missing, texts that nothing uses, and files that lack something. The only
-/// error is lack of memory.
-pub fn rows_of(alloc: Global, problems: &Problems) -> Result<Vec<Row>, AllocError>
-    ensures { IfOk result (λ rows. AreRows problems.now rows.items) }
-{
-    let mut rows = dep5_rows(alloc, problems.dep5)?;
-    let mut told = flaw_rows(alloc, problems.flaws.as_slice())?;
-    rows.append(&mut told)?;
-    add_blanks(alloc, &mut rows, problems.blanks.as_slice())?;
-    add_missing(alloc, &mut rows, &problems.names)?;
-    add_unused(alloc, &mut rows, problems.unused.as_slice())?;
-    add_bare(alloc, &mut rows, problems.bare.as_slice())?;
-    Ok(rows)
 }

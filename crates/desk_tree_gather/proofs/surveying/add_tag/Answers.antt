@@ -21,5 +21,5 @@ returns-clause-flaws c = λ r right.
     (told_bad r c.args.path.now (tag_text c.args.tag) c.in_ok-path.path c.in_ok-value.value
     (same_expression r right c.args.tag.value.now c.in_ok-told.told c.in_ok-told.ensures
     ∙ c.if-told.false)
-    c.in_ok-path.ensures c.in_ok-value.ensures)
+    c.in_ok-path.ensures.cases c.in_ok-value.ensures)
     c.in_ok-push.ensures.ok

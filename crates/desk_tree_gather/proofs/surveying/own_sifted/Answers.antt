@@ -16,7 +16,7 @@ returns-clause-flaws c = λ r right.
     c.in_ok-add_tags.ensures r right
     ∙ ap (λ l. c.args.flaws.now ++ l)
     (stated_flaws_are r (held_in c.in_ok-held.held) (stated_of c.in_ok-info.info)
-    c.as_str.result.now (map tag_text c.as_slice.result.now) c.as_str.ensures.value
+    c.in_ok-path.path (map tag_text c.as_slice.result.now) (c.in_ok-path.ensures ∙ c.as_str.ensures.value)
     (ap (map tag_text) c.as_slice.ensures.value)
     (same_stated r right c.in_ok-held.held.bytes.now (stated_of c.in_ok-info.info)
     c.in_ok-info.ensures)

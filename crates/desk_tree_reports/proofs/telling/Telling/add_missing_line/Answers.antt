@@ -1,0 +1,22 @@
+use Rattle.std.proofs.Common.{◌∙◌, ◌++◌, ap}
+use Rattle.std.specs.Prelude.{codes}
+use Rattle.std.proofs.lemmas.Result.{on_ok_weaker}
+use Rattle.desk_tree_lint.specs.Shown.{name_at}
+use Rattle.desk_tree_reports.specs.declared.ways.Way.TheVariants.{NamedLine}
+use Rattle.desk_tree_reports.specs.Lines.{shown}
+use Rattle.desk_tree_reports.proofs.ItemLemmas.{named_is, added_three, missing_line_is}
+use Rattle.desk_tree_reports.proofs.telling.Telling.add_missing_line.Goals as goal
+
+pub returns : goal.returns
+returns c =
+    let name = name_at c.args.name in
+    let old = c.args.self.now.text in
+    let end = c.as_slice-2.ensures.value ∙ c.in_ok-end.ensures
+    ∙ ap (λ l. shown l ++ codes "\n") (c.as_str.ensures.value ∙ c.in_ok-words.ensures) in
+    let first = c.in_ok-add.ensures
+    ∙ ap (λ l. old ++ l) (c.as_slice.ensures.value ∙ c.in_ok-front.ensures) in
+    let second = c.in_ok-add_named.ensures
+    ∙ (λ j. first j ++ named_is NamedLine c.args.name.path j) in
+    on_ok_weaker c.add-2.result (λ grown. grown ∙ (λ j. second j ++ end j)
+    ∙ added_three old (codes "LICENSES/: no text of " ++ shown name.id) _ _
+    ∙ ap (λ l. old ++ l) (missing_line_is name)) c.add-2.ensures
