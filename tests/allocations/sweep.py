@@ -10,7 +10,7 @@ JSON those of tests/convert. For each N the program runs once with its Nth alloc
   file is as it was, or, migrated, has the rows of a migration whole;
 - a script over a file does so too, and may fail to open or to close it, with its words;
 - so do the proposals for a document, what a document in JSON is converted to, and the document and the problems of a tree; the words may also
-  be those of a folder or a file that found no memory;
+  be those of a folder, a file or an output that found no memory;
 - a desk that is served, from its first connection on, replies to each as it would, but for one: that is replied 503 with "memory", and the
   others as without its request; or, if it isn't GET, with "reply", and the others as with it. It may fail to close its file, with its words;
 - a script tells its replies with its status; or one reply is {"fault":"memory"}, the status is 3 with its words, and the other replies
@@ -144,7 +144,9 @@ class Tree(Check):
     """A run of `propose`, `gather` or `lint`, and what may be told where memory is wanting."""
 
     def is_right(self, stdout, status, stderr):
-        return super().is_right(stdout, status, stderr) or (stdout, status) == (b"", 3) and UNREAD.fullmatch(stderr)
+        if super().is_right(stdout, status, stderr):
+            return True
+        return (stdout, status) == (b"", 3) and (stderr in NOT_BEGUN or UNREAD.fullmatch(stderr) is not None)
 
 
 class Shown(Check):

@@ -3,7 +3,8 @@
 
 The kit's TOML reader takes up to 580 times the bytes of a text (docs/HOSTILE.md). Whoever reads files of strangers bounds what a process
 may take, as by `ulimit -v`. Here that bound is 400 MB: each such input is answered that no memory is left, what was there before is still
-there, and the next request is answered."""
+there, and the next request is answered. A report on a tree that is larger than the bound, since a long path is in each of its lines, is
+written whole."""
 
 import http.client
 import os
@@ -15,7 +16,7 @@ import tempfile
 sys.path.insert(0, os.path.dirname(os.path.abspath(__file__)))
 sys.dont_write_bytecode = True
 
-from slow_inputs import NAMING, line, nested_headers
+from slow_inputs import DEEP, NAMING, licensing, line, nested_headers, write
 
 BOUND, SECONDS = 400_000_000, 60
 SMALL = 'forms = ["binary"]\n'
@@ -24,6 +25,11 @@ NO_MEMORY = '{"fault":"memory"}'
 
 def bounded():
     resource.setrlimit(resource.RLIMIT_AS, (BOUND, BOUND))
+
+
+def length_of(stream):
+    """How many bytes a stream has, without keeping them."""
+    return sum(len(piece) for piece in iter(lambda: stream.read(1 << 20), b""))
 
 
 class Bounded:
@@ -35,6 +41,11 @@ class Bounded:
     def run(self, *words, text=""):
         return subprocess.run([self.program, *words], cwd=self.room, input=text, text=True, capture_output=True, preexec_fn=bounded,
                               timeout=SECONDS, check=False)
+
+    def measure(self, *words):
+        """How many bytes it writes, and how it ends."""
+        process = subprocess.Popen([self.program, *words], cwd=self.room, stdout=subprocess.PIPE, preexec_fn=bounded)
+        return length_of(process.stdout), process.wait(timeout=SECONDS)
 
     def serve(self, requests):
         """The statuses and the bodies of requests to a desk that is served, and how it ends."""
@@ -92,11 +103,26 @@ def trees(desk):
         yield words[0], (done.stdout, done.returncode) == ("", 3) and "memory" in done.stderr
 
 
+def reports(desk):
+    """200,000 licences, each reported with the path of the file that has it."""
+    ids = [f"l{n}" for n in range(200_000)]
+    write(desk.room, "deep/REUSE.toml", "version = 1\n" + licensing("**", ids))
+    write(desk.room, f"deep/{DEEP}/f", "x")
+    told = [f"no text of {it}, which {DEEP}/f names: add it as LICENSES/{it}.txt" for it in sorted(ids)]
+    bare = "no SPDX-FileCopyrightText (a notice without it doesn't count): state one in the file, beside it in FILE.license, or in REUSE.toml"
+    summary = "problems: 200001, covered files: 1, Missing: 200000, Bare: 1\n"
+    lines = sum(len(f"LICENSES/: {it}\n") for it in told) + len(f"{DEEP}/f: {bare}\n{summary}")
+    yield "lint of long paths", desk.measure("lint", "deep") == (lines, 1)
+    rows = [("Missing", it, "LICENSES/") for it in told] + [("Bare", bare, f"{DEEP}/f")]
+    items = sum(len(f'{{"kind":"{kind}","line":null,"message":"{it}","path":"{path}"}},') for kind, it, path in rows) - 1
+    yield "the same as JSON", desk.measure("lint", "deep", "--json") == (items + len('{"covered":1,"problems":[]}\n'), 1)
+
+
 def main():
     passed, failed = 0, []
     with tempfile.TemporaryDirectory() as room:
         desk = Bounded(sys.argv[1], room)
-        for cases in (scripts, files, connections, trees):
+        for cases in (scripts, files, connections, trees, reports):
             for name, is_right in cases(desk):
                 passed += is_right
                 failed += [] if is_right else [name]

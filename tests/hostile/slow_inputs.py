@@ -274,6 +274,29 @@ def as_json(made):
     return asked
 
 
+# a folder with as long a path as the system lets a program open it by
+DEEP = "/".join(["d" * 240] * 14)
+
+
+def licences_of_a_deep_file(room):
+    """A million licences over a file in a deep folder, whose path each line names."""
+    size = write(room, "tree/REUSE.toml", "version = 1\n" + licensing("**", (f"l{n}" for n in range(1_000_000))))
+    return ["lint", "tree"], None, size + write(room, f"tree/{DEEP}/f", "x") + len(f"{DEEP}/f")
+
+
+def bad_tags(folder):
+    """A file of 400,000 tags that are no licence expression."""
+    def made(room):
+        return ["lint", "tree"], None, write(room, f"tree/{folder}/f", f"{LICENCE}: (\n" * 400_000) + len(f"{folder}/f")
+    return made
+
+
+def bad_annotations(room):
+    """A REUSE.toml of 700,000 annotations without a path, in a deep folder."""
+    size = write(room, f"tree/{DEEP}/REUSE.toml", "version = 1\n" + "[[annotations]]\n" * 700_000)
+    return ["lint", "tree"], None, size + len(f"{DEEP}/REUSE.toml")
+
+
 def licences_by_turns(room):
     """Two annotations of 5,000 licences each, which count for every other file."""
     toml = "version = 1\n" + "".join(licensing(f"*.{side}", (f"{side}{n}" for n in range(5_000))) for side in "ab")
@@ -432,6 +455,14 @@ SLOW = {
     "tree: 5,000 licences of a REUSE.toml, 9,999 files": many_licences(5_000),
     "tree: a million licences of a REUSE.toml, 9,999 files": many_licences(1_000_000),
     "tree: the same, by `lint --json`": as_json(many_licences(1_000_000)),
+    "tree: a million licences over a file with a path of 3,375 bytes": licences_of_a_deep_file,
+    "tree: that, by `lint --json`": as_json(licences_of_a_deep_file),
+    "tree: 400,000 bad tags": bad_tags("d"),
+    "tree: 400,000 bad tags, by `lint --json`": as_json(bad_tags("d")),
+    "tree: 400,000 bad tags in a file with a path of 3,375 bytes": bad_tags(DEEP),
+    "tree: those, by `lint --json`": as_json(bad_tags(DEEP)),
+    "tree: 700,000 bad annotations in a folder with a path of 3,374 bytes": bad_annotations,
+    "tree: the same as JSON": as_json(bad_annotations),
     "tree: twice 5,000 licences for every other of 9,999 files": licences_by_turns,
     "tree: 5,000 licences, and one in each of 4,999 folders": licences_of_folders,
     "tree: 25,000 headers of a REUSE.toml, 79 tables in one another": tables_of_a_tree,
