@@ -249,34 +249,30 @@ packages_ascend n (p ∷ ps) of up =
 
 -- ---- the changes
 
+-- Each proof gives the facts of the tables that change; the other facts are as they were.
+
+moved_kept : (changes : List ChangeRow) (t : Tables) → AreNext t changes → AreOrderly t
+    → AreOrderly (applied (Moved changes) t)
+moved_kept changes t next o =
+    assumption (
+      moved_duties t o changes,
+      moved_within t o changes next,
+      by_key (λ (row : DutyRow). row.number) nat_lt (moved_by changes t.duty)
+          (numbers_ascend 1 _ (moved_duties t o changes)),
+      ascends_put_all change_below change_is_order changes t.changes o.sorted.changes,
+    )
+
 pub order_kept : (change : Change) (t : Tables) → Follows change t → is_writable change ≡ true
     → AreOrderly t → AreOrderly (applied change t)
 order_kept (Loaded row rules forms) t follows writable o =
     let revisions = one_more (λ (row : CatalogueRow). row.revision) t.catalogue row o.revisions
     follows in
-    record {
-      sorted = record {
-        catalogue = by_key (λ (row : CatalogueRow). row.revision) nat_lt (t.catalogue ++ row ∷ [])
-            (numbers_ascend 1 _ revisions);
-        document = o.sorted.document;
-        conclusion = o.sorted.conclusion;
-        adoption = o.sorted.adoption;
-        releases = o.sorted.releases;
-        attached = o.sorted.attached;
-        choice = o.sorted.choice;
-        frozen = o.sorted.frozen;
-        duty = o.sorted.duty;
-        changes = o.sorted.changes;
-      };
-      revisions = revisions;
-      codes = all_both (λ (row : RuleRow). list_all is_word row.codes) t.rule rules o.codes
-          writable;
-      packages = o.packages;
-      documents = o.documents;
-      duties = o.duties;
-      of_documents = o.of_documents;
-      of_duties = o.of_duties;
-    }
+    assumption (
+      revisions,
+      by_key (λ (row : CatalogueRow). row.revision) nat_lt (t.catalogue ++ row ∷ [])
+          (numbers_ascend 1 _ revisions),
+      all_both (λ (row : RuleRow). list_all is_word row.codes) t.rule rules o.codes writable,
+    )
 order_kept (Imported row packages references) t follows writable o =
     let documents = one_more (λ (row : DocumentRow). row.number) t.document row o.documents
     follows in
@@ -289,105 +285,31 @@ order_kept (Imported row packages references) t follows writable o =
     t.packages o.of_documents there) in
     let new_is = λ (p : PackageRow) (there : IsIn p packages). eq_is p.document row.number
     (each_passes (λ (p : PackageRow). p.document == row.number) p packages of there) in
-    record {
-      sorted = record {
-        document = by_key (λ (row : DocumentRow). row.number) nat_lt (t.document ++ row ∷ [])
-            (numbers_ascend 1 _ documents);
-        catalogue = o.sorted.catalogue;
-        conclusion = o.sorted.conclusion;
-        adoption = o.sorted.adoption;
-        releases = o.sorted.releases;
-        attached = o.sorted.attached;
-        choice = o.sorted.choice;
-        frozen = o.sorted.frozen;
-        duty = o.sorted.duty;
-        changes = o.sorted.changes;
-      };
-      packages = ascends_behind package_below t.packages packages o.packages
+    assumption (
+      documents,
+      by_key (λ (row : DocumentRow). row.number) nat_lt (t.document ++ row ∷ [])
+          (numbers_ascend 1 _ documents),
+      ascends_behind package_below t.packages packages o.packages
           (packages_ascend row.number packages of up)
           (λ x y old new. after_any x.document y.document (text_below y.id x.id)
-          (omega (arith, follows, old_low x old, new_is y new)));
-      documents = documents;
-      of_documents = all_pass (λ (p : PackageRow). nat_le p.document
-          (length (t.document ++ row ∷ []))) (t.packages ++ packages)
-          (λ p there. is_le p.document (length (t.document ++ row ∷ []))
+          (omega (arith, follows, old_low x old, new_is y new))),
+      all_pass (λ (p : PackageRow). nat_le p.document (length (t.document ++ row ∷ [])))
+          (t.packages ++ packages) (λ p there. is_le p.document (length (t.document ++ row ∷ []))
           (elim (in_cases p t.packages packages there) [
             | inl old ↦ omega (arith, longer, old_low p old)
             | inr new ↦ omega (arith, longer, follows, new_is p new)
-          ]));
-      revisions = o.revisions;
-      duties = o.duties;
-      of_duties = o.of_duties;
-      codes = o.codes;
-    }
-order_kept (Opened row) t follows writable o = record {
-  sorted = record {
-    releases = ascends_put release_below release_is_order row t.releases o.sorted.releases;
-    catalogue = o.sorted.catalogue;
-    document = o.sorted.document;
-    conclusion = o.sorted.conclusion;
-    adoption = o.sorted.adoption;
-    attached = o.sorted.attached;
-    choice = o.sorted.choice;
-    frozen = o.sorted.frozen;
-    duty = o.sorted.duty;
-    changes = o.sorted.changes;
-  };
-  packages = o.packages;
-  revisions = o.revisions;
-  documents = o.documents;
-  duties = o.duties;
-  of_documents = o.of_documents;
-  of_duties = o.of_duties;
-  codes = o.codes;
-}
-order_kept (Attached row) t follows writable o = record {
-  sorted = record {
-    attached = ascends_put (below_by attached_order) attached_is_order row t.attached
-        o.sorted.attached;
-    catalogue = o.sorted.catalogue;
-    document = o.sorted.document;
-    conclusion = o.sorted.conclusion;
-    adoption = o.sorted.adoption;
-    releases = o.sorted.releases;
-    choice = o.sorted.choice;
-    frozen = o.sorted.frozen;
-    duty = o.sorted.duty;
-    changes = o.sorted.changes;
-  };
-  packages = o.packages;
-  revisions = o.revisions;
-  documents = o.documents;
-  duties = o.duties;
-  of_documents = o.of_documents;
-  of_duties = o.of_duties;
-  codes = o.codes;
-}
+          ])),
+    )
+order_kept (Opened row) t follows writable o =
+    assumption (ascends_put release_below release_is_order row t.releases o.sorted.releases)
+order_kept (Attached row) t follows writable o =
+    assumption (ascends_put (below_by attached_order) attached_is_order row t.attached
+    o.sorted.attached)
 order_kept (Chosen release document package_id rows) t follows writable o =
-    record {
-      sorted = record {
-        choice = ascends_put_all (below_by choice_order) choice_is_order rows
-            (filter (is_other_choice release document package_id) t.choice)
-            (ascends_filter (below_by choice_order) (is_other_choice release document package_id)
-            t.choice o.sorted.choice);
-        catalogue = o.sorted.catalogue;
-        document = o.sorted.document;
-        conclusion = o.sorted.conclusion;
-        adoption = o.sorted.adoption;
-        releases = o.sorted.releases;
-        attached = o.sorted.attached;
-        frozen = o.sorted.frozen;
-        duty = o.sorted.duty;
-        changes = o.sorted.changes;
-      };
-      packages = o.packages;
-      revisions = o.revisions;
-      documents = o.documents;
-      duties = o.duties;
-      of_documents = o.of_documents;
-      of_duties = o.of_duties;
-      codes = o.codes;
-    }
+    assumption (ascends_put_all (below_by choice_order) choice_is_order rows
+    (filter (is_other_choice release document package_id) t.choice)
+    (ascends_filter (below_by choice_order) (is_other_choice release document package_id) t.choice
+    o.sorted.choice))
 order_kept (Froze release revision frozen duties changes) t follows writable o =
     let n = length t.duty in
     let numbers = λ (row : DutyRow). row.number in
@@ -399,26 +321,17 @@ order_kept (Froze release revision frozen duties changes) t follows writable o =
     let longer : length (t.duty ++ duties) ≡ n + length duties = length-append t.duty duties in
     let old_low = λ (row : ChangeRow) (there : IsIn row t.changes). le_is row.duty n
     (each_passes (λ (row : ChangeRow). nat_le row.duty n) row t.changes o.of_duties there) in
-    record {
-      sorted = record {
-        releases = ascends_updated (λ (row : ReleaseRow). row.name) text_below (is_release release)
-            (with_release_state Frozen revision) (λ x. refl) t.releases o.sorted.releases;
-        frozen = ascends_put_all (below_by frozen_order) frozen_is_order frozen t.frozen
-            o.sorted.frozen;
-        duty = by_key numbers nat_lt (t.duty ++ duties) (numbers_ascend 1 _ numbered);
-        changes = ascends_behind change_below t.changes changes o.sorted.changes
-            (first_ascend (n + 1) changes follows.1)
-            (λ x y old new. after_any x.duty y.duty (nat_lt y.step x.step)
-            (omega (arith, old_low x old, first_low (n + 1) y changes follows.1 new)));
-        catalogue = o.sorted.catalogue;
-        document = o.sorted.document;
-        conclusion = o.sorted.conclusion;
-        adoption = o.sorted.adoption;
-        attached = o.sorted.attached;
-        choice = o.sorted.choice;
-      };
-      duties = numbered;
-      of_duties = all_pass (λ (row : ChangeRow). nat_le row.duty (length (t.duty ++ duties)))
+    assumption (
+      numbered,
+      ascends_updated (λ (row : ReleaseRow). row.name) text_below (is_release release)
+          (with_release_state Frozen revision) (λ x. refl) t.releases o.sorted.releases,
+      ascends_put_all (below_by frozen_order) frozen_is_order frozen t.frozen o.sorted.frozen,
+      by_key numbers nat_lt (t.duty ++ duties) (numbers_ascend 1 _ numbered),
+      ascends_behind change_below t.changes changes o.sorted.changes
+          (first_ascend (n + 1) changes follows.1)
+          (λ x y old new. after_any x.duty y.duty (nat_lt y.step x.step)
+          (omega (arith, old_low x old, first_low (n + 1) y changes follows.1 new))),
+      all_pass (λ (row : ChangeRow). nat_le row.duty (length (t.duty ++ duties)))
           (t.changes ++ changes) (λ row there. is_le row.duty (length (t.duty ++ duties))
           (elim (in_cases row t.changes changes there) [
             | inl old ↦ omega (arith, longer, old_low row old)
@@ -428,108 +341,24 @@ order_kept (Froze release revision frozen duties changes) t follows writable o =
               follows.2,
               first_high (n + 1) row changes follows.1 new,
             )
-          ]));
-      packages = o.packages;
-      revisions = o.revisions;
-      documents = o.documents;
-      of_documents = o.of_documents;
-      codes = o.codes;
-    }
-order_kept (Moved changes) t follows writable o =
-    record {
-      sorted = record {
-        duty = by_key (λ (row : DutyRow). row.number) nat_lt (moved_by changes t.duty)
-            (numbers_ascend 1 _ (moved_duties t o changes));
-        changes = ascends_put_all change_below change_is_order changes t.changes o.sorted.changes;
-        catalogue = o.sorted.catalogue;
-        document = o.sorted.document;
-        conclusion = o.sorted.conclusion;
-        adoption = o.sorted.adoption;
-        releases = o.sorted.releases;
-        attached = o.sorted.attached;
-        choice = o.sorted.choice;
-        frozen = o.sorted.frozen;
-      };
-      duties = moved_duties t o changes;
-      of_duties = moved_within t o changes follows;
-      packages = o.packages;
-      revisions = o.revisions;
-      documents = o.documents;
-      of_documents = o.of_documents;
-      codes = o.codes;
-    }
+          ])),
+    )
+order_kept (Moved changes) t follows writable o = moved_kept changes t follows o
 order_kept (Withdrew release changes) t follows writable o =
-    record {
-      sorted = record {
-        releases = ascends_updated (λ (row : ReleaseRow). row.name) text_below (is_release release)
-            withdrawn_release (λ x. refl) t.releases o.sorted.releases;
-        choice = ascends_filter (below_by choice_order) (is_choice_elsewhere release) t.choice
-            o.sorted.choice;
-        duty = by_key (λ (row : DutyRow). row.number) nat_lt (moved_by changes t.duty)
-            (numbers_ascend 1 _ (moved_duties t o changes));
-        changes = ascends_put_all change_below change_is_order changes t.changes o.sorted.changes;
-        catalogue = o.sorted.catalogue;
-        document = o.sorted.document;
-        conclusion = o.sorted.conclusion;
-        adoption = o.sorted.adoption;
-        attached = o.sorted.attached;
-        frozen = o.sorted.frozen;
-      };
-      duties = moved_duties t o changes;
-      of_duties = moved_within t o changes follows;
-      packages = o.packages;
-      revisions = o.revisions;
-      documents = o.documents;
-      of_documents = o.of_documents;
-      codes = o.codes;
-    }
+    assumption (
+      moved_kept changes t follows o,
+      ascends_updated (λ (row : ReleaseRow). row.name) text_below (is_release release)
+          withdrawn_release (λ x. refl) t.releases o.sorted.releases,
+      ascends_filter (below_by choice_order) (is_choice_elsewhere release) t.choice
+          o.sorted.choice,
+    )
 order_kept (Concluded row) t follows writable o =
     let kept = λ (other : ConclusionRow). not (is_conclusion row.document row.package_id other) in
-    record {
-      sorted = record {
-        conclusion = ascends_put (below_by conclusion_order) conclusion_is_order row
-            (filter kept t.conclusion) (ascends_filter (below_by conclusion_order) kept t.conclusion
-            o.sorted.conclusion);
-        catalogue = o.sorted.catalogue;
-        document = o.sorted.document;
-        adoption = o.sorted.adoption;
-        releases = o.sorted.releases;
-        attached = o.sorted.attached;
-        choice = o.sorted.choice;
-        frozen = o.sorted.frozen;
-        duty = o.sorted.duty;
-        changes = o.sorted.changes;
-      };
-      packages = o.packages;
-      revisions = o.revisions;
-      documents = o.documents;
-      duties = o.duties;
-      of_documents = o.of_documents;
-      of_duties = o.of_duties;
-      codes = o.codes;
-    }
+    assumption (ascends_put (below_by conclusion_order) conclusion_is_order row
+    (filter kept t.conclusion) (ascends_filter (below_by conclusion_order) kept t.conclusion
+    o.sorted.conclusion))
 order_kept (Adopted row) t follows writable o =
     let kept = λ (other : AdoptionRow). not (is_adoption row.document row.reference other) in
-    record {
-      sorted = record {
-        adoption = ascends_put (below_by adoption_order) adoption_is_order row
-            (filter kept t.adoption) (ascends_filter (below_by adoption_order) kept t.adoption
-            o.sorted.adoption);
-        catalogue = o.sorted.catalogue;
-        document = o.sorted.document;
-        conclusion = o.sorted.conclusion;
-        releases = o.sorted.releases;
-        attached = o.sorted.attached;
-        choice = o.sorted.choice;
-        frozen = o.sorted.frozen;
-        duty = o.sorted.duty;
-        changes = o.sorted.changes;
-      };
-      packages = o.packages;
-      revisions = o.revisions;
-      documents = o.documents;
-      duties = o.duties;
-      of_documents = o.of_documents;
-      of_duties = o.of_duties;
-      codes = o.codes;
-    }
+    assumption (ascends_put (below_by adoption_order) adoption_is_order row
+    (filter kept t.adoption) (ascends_filter (below_by adoption_order) kept t.adoption
+    o.sorted.adoption))
