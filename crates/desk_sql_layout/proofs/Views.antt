@@ -52,6 +52,18 @@ pub record View (X : Type 0) : Type 0 where
   pub held : Tables → List X
   pub here : (t : Tables) → rows_of t table.tree ≡ map cells_of (held t)
 
+abbrev pub view_of : {X : Type 0} (table : Table) (place : ℕ) (cells_of : X → Row)
+    (held : Tables → List X) → slice_get d.desk_schema.tables place ≡ Some (as_declared table)
+    → ((t : Tables) → rows_of t table.tree ≡ map cells_of (held t)) → View X
+view_of table place cells_of held listed here = record {
+  table = table;
+  place = place;
+  listed = listed;
+  cells_of = cells_of;
+  held = held;
+  here = here;
+}
+
 -- no two of its rows have the same key
 abbrev pub StandApart : {X : Type 0} → View X → List ℕ → Type 1
 StandApart view ps = (t : Tables) (old : State) → Holds t old.now
@@ -78,41 +90,20 @@ apart_by_key view nth ps at unique order keyed are t old holds =
     (are_keys at) keyed are
 
 abbrev pub catalogue_view : View CatalogueRow
-catalogue_view = record {
-  table = d.catalogue_table;
-  place = 1;
-  listed = refl;
-  cells_of = catalogue_cells;
-  held = λ t. t.catalogue;
-  here = λ t. refl;
-}
+catalogue_view = view_of d.catalogue_table 1 catalogue_cells (λ t. t.catalogue) refl (λ t. refl)
 
 pub catalogue_apart : StandApart catalogue_view (0 ∷ [])
 catalogue_apart = apart_by_rowid catalogue_view
 
 abbrev pub rule_view : View RuleRow
-rule_view = record {
-  table = d.rule_table;
-  place = 2;
-  listed = refl;
-  cells_of = rule_cells;
-  held = λ t. t.rule;
-  here = λ t. refl;
-}
+rule_view = view_of d.rule_table 2 rule_cells (λ t. t.rule) refl (λ t. refl)
 
 pub rule_apart : StandApart rule_view (1 ∷ 2 ∷ 3 ∷ [])
 rule_apart = apart_by_key rule_view 0 (1 ∷ 2 ∷ 3 ∷ []) (0 ∷ 1 ∷ 2 ∷ []) refl refl (λ r. refl)
     (λ x. refl)
 
 abbrev pub document_view : View DocumentRow
-document_view = record {
-  table = d.document_table;
-  place = 3;
-  listed = refl;
-  cells_of = document_cells;
-  held = λ t. t.document;
-  here = λ t. refl;
-}
+document_view = view_of d.document_table 3 document_cells (λ t. t.document) refl (λ t. refl)
 
 pub document_apart : StandApart document_view (0 ∷ [])
 document_apart = apart_by_rowid document_view
@@ -122,165 +113,82 @@ pub namespace_apart : StandApart document_view (2 ∷ [])
 namespace_apart = apart_by_key document_view 0 (2 ∷ []) (1 ∷ []) refl refl (λ r. refl) (λ x. refl)
 
 abbrev pub reading_view : View DocumentRow
-reading_view = record {
-  table = d.reading_table;
-  place = 14;
-  listed = refl;
-  cells_of = reading_cells;
-  held = λ t. t.document;
-  here = λ t. refl;
-}
+reading_view = view_of d.reading_table 14 reading_cells (λ t. t.document) refl (λ t. refl)
 
 pub reading_apart : StandApart reading_view (0 ∷ [])
 reading_apart = apart_by_rowid reading_view
 
 abbrev pub package_view : View PackageRow
-package_view = record {
-  table = d.package_table;
-  place = 4;
-  listed = refl;
-  cells_of = package_cells;
-  held = λ t. t.packages;
-  here = λ t. refl;
-}
+package_view = view_of d.package_table 4 package_cells (λ t. t.packages) refl (λ t. refl)
 
 pub package_apart : StandApart package_view (1 ∷ 2 ∷ [])
 package_apart = apart_by_key package_view 0 (1 ∷ 2 ∷ []) (0 ∷ 1 ∷ []) refl refl (λ r. refl)
     (λ x. refl)
 
 abbrev pub extracted_view : View ExtractedRow
-extracted_view = record {
-  table = d.extracted_table;
-  place = 5;
-  listed = refl;
-  cells_of = extracted_cells;
-  held = λ t. t.extracted;
-  here = λ t. refl;
-}
+extracted_view = view_of d.extracted_table 5 extracted_cells (λ t. t.extracted) refl (λ t. refl)
 
 pub extracted_apart : StandApart extracted_view (1 ∷ 2 ∷ [])
 extracted_apart = apart_by_key extracted_view 0 (1 ∷ 2 ∷ []) (0 ∷ 1 ∷ []) refl refl (λ r. refl)
     (λ x. refl)
 
 abbrev pub conclusion_view : View ConclusionRow
-conclusion_view = record {
-  table = d.conclusion_table;
-  place = 6;
-  listed = refl;
-  cells_of = conclusion_cells;
-  held = λ t. t.conclusion;
-  here = λ t. refl;
-}
+conclusion_view = view_of d.conclusion_table 6 conclusion_cells (λ t. t.conclusion) refl (λ t. refl)
 
 pub conclusion_apart : StandApart conclusion_view (1 ∷ 2 ∷ [])
 conclusion_apart = apart_by_key conclusion_view 0 (1 ∷ 2 ∷ []) (0 ∷ 1 ∷ []) refl refl (λ r. refl)
     (λ x. refl)
 
 abbrev pub adoption_view : View AdoptionRow
-adoption_view = record {
-  table = d.adoption_table;
-  place = 7;
-  listed = refl;
-  cells_of = adoption_cells;
-  held = λ t. t.adoption;
-  here = λ t. refl;
-}
+adoption_view = view_of d.adoption_table 7 adoption_cells (λ t. t.adoption) refl (λ t. refl)
 
 pub adoption_apart : StandApart adoption_view (1 ∷ 2 ∷ [])
 adoption_apart = apart_by_key adoption_view 0 (1 ∷ 2 ∷ []) (0 ∷ 1 ∷ []) refl refl (λ r. refl)
     (λ x. refl)
 
 abbrev pub release_view : View ReleaseRow
-release_view = record {
-  table = d.releases_table;
-  place = 8;
-  listed = refl;
-  cells_of = release_cells;
-  held = λ t. t.releases;
-  here = λ t. refl;
-}
+release_view = view_of d.releases_table 8 release_cells (λ t. t.releases) refl (λ t. refl)
 
 pub release_apart : StandApart release_view (1 ∷ [])
 release_apart = apart_by_key release_view 1 (1 ∷ []) (0 ∷ []) refl refl (λ r. refl) (λ x. refl)
 
 abbrev pub attached_view : View AttachedRow
-attached_view = record {
-  table = d.attached_table;
-  place = 9;
-  listed = refl;
-  cells_of = attached_cells;
-  held = λ t. t.attached;
-  here = λ t. refl;
-}
+attached_view = view_of d.attached_table 9 attached_cells (λ t. t.attached) refl (λ t. refl)
 
 pub attached_apart : StandApart attached_view (1 ∷ 2 ∷ [])
 attached_apart = apart_by_key attached_view 0 (1 ∷ 2 ∷ []) (0 ∷ 1 ∷ []) refl refl (λ r. refl)
     (λ x. refl)
 
 abbrev pub choice_view : View ChoiceRow
-choice_view = record {
-  table = d.choice_table;
-  place = 10;
-  listed = refl;
-  cells_of = choice_cells;
-  held = λ t. t.choice;
-  here = λ t. refl;
-}
+choice_view = view_of d.choice_table 10 choice_cells (λ t. t.choice) refl (λ t. refl)
 
 pub choice_apart : StandApart choice_view (1 ∷ 2 ∷ 3 ∷ 4 ∷ [])
 choice_apart = apart_by_key choice_view 0 (1 ∷ 2 ∷ 3 ∷ 4 ∷ []) (0 ∷ 1 ∷ 2 ∷ 3 ∷ []) refl refl
     (λ r. refl) (λ x. refl)
 
 abbrev pub frozen_view : View FrozenRow
-frozen_view = record {
-  table = d.frozen_table;
-  place = 11;
-  listed = refl;
-  cells_of = frozen_cells;
-  held = λ t. t.frozen;
-  here = λ t. refl;
-}
+frozen_view = view_of d.frozen_table 11 frozen_cells (λ t. t.frozen) refl (λ t. refl)
 
 pub frozen_apart : StandApart frozen_view (1 ∷ 2 ∷ 3 ∷ 4 ∷ [])
 frozen_apart = apart_by_key frozen_view 0 (1 ∷ 2 ∷ 3 ∷ 4 ∷ []) (0 ∷ 1 ∷ 2 ∷ 3 ∷ []) refl refl
     (λ r. refl) (λ x. refl)
 
 abbrev pub duty_view : View DutyRow
-duty_view = record {
-  table = d.duty_table;
-  place = 12;
-  listed = refl;
-  cells_of = duty_cells;
-  held = λ t. t.duty;
-  here = λ t. refl;
-}
+duty_view = view_of d.duty_table 12 duty_cells (λ t. t.duty) refl (λ t. refl)
 
 pub duty_apart : StandApart duty_view (0 ∷ [])
 duty_apart = apart_by_rowid duty_view
 
 abbrev pub change_view : View ChangeRow
-change_view = record {
-  table = d.change_table;
-  place = 13;
-  listed = refl;
-  cells_of = change_cells;
-  held = λ t. t.changes;
-  here = λ t. refl;
-}
+change_view = view_of d.change_table 13 change_cells (λ t. t.changes) refl (λ t. refl)
 
 pub change_apart : StandApart change_view (1 ∷ 2 ∷ [])
 change_apart = apart_by_key change_view 0 (1 ∷ 2 ∷ []) (0 ∷ 1 ∷ []) refl refl (λ r. refl)
     (λ x. refl)
 
 abbrev pub waiver_view : View ChangeRow
-waiver_view = record {
-  table = d.waiver_table;
-  place = 15;
-  listed = refl;
-  cells_of = waiver_cells;
-  held = λ t. filter is_waiver t.changes;
-  here = λ t. refl;
-}
+waiver_view = view_of d.waiver_table 15 waiver_cells (λ t. filter is_waiver t.changes) refl
+    (λ t. refl)
 
 pub waiver_apart : StandApart waiver_view (1 ∷ 2 ∷ [])
 waiver_apart = apart_by_key waiver_view 0 (1 ∷ 2 ∷ []) (0 ∷ 1 ∷ []) refl refl (λ r. refl)
