@@ -8,7 +8,7 @@ use Rattle.std.proofs.lemmas.Bool.Decides.{nat_tests}
 use Rattle.std.proofs.lemmas.Int.{ints}
 use Rattle.std.proofs.lemmas.Slice.Eq.{bytes_eq-Decides}
 use Rattle.sqlite_value.specs.declared.value.Value.TheVariants.{Text}
-use Rattle.sqlite_value.specs.Order.{value_cmp}
+use Rattle.sqlite_value.specs.Order.{Row, value_cmp}
 use Rattle.sqlite_value.proofs.OrderLemmas.{value_cmp-Int, value_cmp-Text, then-Equal}
 use Rattle.sqlite_trees.specs.Tree.{IsAscending}
 use Rattle.sqlite_trees.proofs.ListLemmas.{ascending_weaker}
@@ -49,136 +49,120 @@ numbers a b = value_cmp-Int (pos a) (pos b) ∙ go
 pub lower : (a b : ℕ) → is_lt (nat_cmp a b) ≡ nat_lt a b
 lower a b = grind (arith, nat_tests)
 
-in_order : {X : Type 0} (below : X → X → Bool) (cmp : X → X → Ordering) (xs : List X)
-    → ((a b : X) → is_lt (cmp a b) ≡ below a b) → Ascends below xs
-    → IsAscending (λ a b. is_lt (cmp b a) ≡ false) xs
-in_order below cmp xs same up = ascending_weaker (λ a b. below b a ≡ false)
-    (λ a b. is_lt (cmp b a) ≡ false) (λ a b h. same b a ∙ h) xs (ascends below xs up)
+-- rows by their values of these columns
+abbrev pub AreInOrder : {X : Type 0} → List ℕ → (X → Row) → List X → Type 0
+AreInOrder ps values xs =
+    IsAscending (λ a b. is_lt (key_cmp 0 (keys ps) (values b) (values a)) ≡ false) xs
+
+in_order : {X : Type 0} (ps : List ℕ) (values : X → Row) (below : X → X → Bool) (xs : List X)
+    → ((a b : X) → is_lt (key_cmp 0 (keys ps) (values a) (values b)) ≡ below a b)
+    → Ascends below xs → AreInOrder ps values xs
+in_order ps values below xs same up =
+    ascending_weaker (λ a b. below b a ≡ false)
+    (λ a b. is_lt (key_cmp 0 (keys ps) (values b) (values a)) ≡ false) (λ a b h. same b a ∙ h) xs
+    (ascends below xs up)
+
+by_number : (a b : ℕ) → is_lt (key_cmp 0 (keys (0 ∷ [])) (number a ∷ []) (number b ∷ []))
+    ≡ nat_lt a b
+by_number a b = ap is_lt (then-Equal (value_cmp (number a) (number b)) ∙ numbers a b) ∙ lower a b
+
+by_number_and_text : (a b : ℕ) (s t : List ℕ)
+    → key_cmp 0 (keys (1 ∷ 2 ∷ [])) (number a ∷ Text s ∷ []) (number b ∷ Text t ∷ [])
+    ≡ ordering_then (nat_cmp a b) (slice_cmp nat_cmp s t)
+by_number_and_text a b s t =
+    rw (numbers a b, value_cmp-Text s t, then-Equal (slice_cmp nat_cmp s t)) refl
+
+-- the terms of packages in releases
+by_term : (r s : List ℕ) (a b : ℕ) (p q t u : List ℕ)
+    → key_cmp 0 (keys (1 ∷ 2 ∷ 3 ∷ 4 ∷ [])) (Text r ∷ number a ∷ Text p ∷ Text t ∷ [])
+    (Text s ∷ number b ∷ Text q ∷ Text u ∷ [])
+    ≡ ordering_then (slice_cmp nat_cmp r s) (ordering_then (nat_cmp a b)
+    (ordering_then (slice_cmp nat_cmp p q) (slice_cmp nat_cmp t u)))
+by_term r s a b p q t u = rw (
+  value_cmp-Text r s,
+  numbers a b,
+  value_cmp-Text p q,
+  value_cmp-Text t u,
+  then-Equal (slice_cmp nat_cmp t u),
+) refl
 
 pub duties_sorted : (rows : List DutyRow) → Ascends duty_below rows
-    → IsAscending (λ a b. is_lt (key_cmp 0 (keys (0 ∷ [])) (number b.number ∷ [])
-    (number a.number ∷ [])) ≡ false) rows
-duties_sorted rows up =
-    in_order duty_below (λ a b. key_cmp 0 (keys (0 ∷ [])) (number a.number ∷ [])
-    (number b.number ∷ [])) rows
-    (λ a b. ap is_lt (then-Equal (value_cmp (number a.number) (number b.number))
-    ∙ numbers a.number b.number) ∙ lower a.number b.number) up
+    → AreInOrder (0 ∷ []) (λ row. number row.number ∷ []) rows
+duties_sorted rows = in_order (0 ∷ []) (λ (row : DutyRow). number row.number ∷ []) duty_below rows
+    (λ a b. by_number a.number b.number)
 
 pub documents_sorted : (rows : List DocumentRow) → Ascends document_below rows
-    → IsAscending (λ a b. is_lt (key_cmp 0 (keys (0 ∷ [])) (number b.number ∷ [])
-    (number a.number ∷ [])) ≡ false) rows
-documents_sorted rows up =
-    in_order document_below (λ a b. key_cmp 0 (keys (0 ∷ [])) (number a.number ∷ [])
-    (number b.number ∷ [])) rows
-    (λ a b. ap is_lt (then-Equal (value_cmp (number a.number) (number b.number))
-    ∙ numbers a.number b.number) ∙ lower a.number b.number) up
+    → AreInOrder (0 ∷ []) (λ row. number row.number ∷ []) rows
+documents_sorted rows =
+    in_order (0 ∷ []) (λ (row : DocumentRow). number row.number ∷ []) document_below rows
+    (λ a b. by_number a.number b.number)
 
 two_lower : (a b : ℕ) (o : Ordering)
     → is_lt (ordering_then (nat_cmp a b) o) ≡ (nat_lt a b || ((a == b) && is_lt o))
 two_lower a b o = grind (arith, nat_tests)
 
 pub changes_sorted : (rows : List ChangeRow) → Ascends change_below rows
-    → IsAscending (λ a b. is_lt (key_cmp 0 (keys (1 ∷ 2 ∷ [])) (number b.duty ∷ number b.step ∷ [])
-    (number a.duty ∷ number a.step ∷ [])) ≡ false) rows
-changes_sorted rows up =
-    in_order change_below (λ a b. key_cmp 0 (keys (1 ∷ 2 ∷ [])) (number a.duty ∷ number a.step ∷ [])
-    (number b.duty ∷ number b.step ∷ [])) rows
+    → AreInOrder (1 ∷ 2 ∷ []) (λ row. number row.duty ∷ number row.step ∷ []) rows
+changes_sorted rows =
+    in_order (1 ∷ 2 ∷ []) (λ (row : ChangeRow). number row.duty ∷ number row.step ∷ [])
+    change_below rows
     (λ a b. rw (numbers a.duty b.duty, numbers a.step b.step, then-Equal (nat_cmp a.step b.step))
     (two_lower a.duty b.duty (nat_cmp a.step b.step)
-    ∙ ap (λ c. nat_lt a.duty b.duty || ((a.duty == b.duty) && c)) (lower a.step b.step))) up
+    ∙ ap (λ c. nat_lt a.duty b.duty || ((a.duty == b.duty) && c)) (lower a.step b.step)))
 
 pub packages_sorted : (rows : List PackageRow) → Ascends package_below rows
-    → IsAscending (λ a b. is_lt (key_cmp 0 (keys (1 ∷ 2 ∷ [])) (number b.document ∷ Text b.id ∷ [])
-    (number a.document ∷ Text a.id ∷ [])) ≡ false) rows
-packages_sorted rows up =
-    in_order package_below (λ a b. key_cmp 0 (keys (1 ∷ 2 ∷ []))
-    (number a.document ∷ Text a.id ∷ []) (number b.document ∷ Text b.id ∷ [])) rows
-    (λ a b. rw (
-      numbers a.document b.document,
-      value_cmp-Text a.id b.id,
-      then-Equal (slice_cmp nat_cmp a.id b.id),
-    ) (two_lower a.document b.document (slice_cmp nat_cmp a.id b.id))) up
+    → AreInOrder (1 ∷ 2 ∷ []) (λ row. number row.document ∷ Text row.id ∷ []) rows
+packages_sorted rows =
+    in_order (1 ∷ 2 ∷ []) (λ (row : PackageRow). number row.document ∷ Text row.id ∷ [])
+    package_below rows
+    (λ a b. ap is_lt (by_number_and_text a.document b.document a.id b.id)
+    ∙ two_lower a.document b.document (slice_cmp nat_cmp a.id b.id))
 
 pub conclusions_sorted : (rows : List ConclusionRow) → Ascends (below_by conclusion_order) rows
-    → IsAscending (λ a b. is_lt (key_cmp 0 (keys (1 ∷ 2 ∷ []))
-    (number b.document ∷ Text b.package_id ∷ []) (number a.document ∷ Text a.package_id ∷ []))
-    ≡ false) rows
-conclusions_sorted rows up =
-    in_order (below_by conclusion_order)
-    (λ a b. key_cmp 0 (keys (1 ∷ 2 ∷ [])) (number a.document ∷ Text a.package_id ∷ [])
-    (number b.document ∷ Text b.package_id ∷ [])) rows
-    (λ a b. rw (
-      numbers a.document b.document,
-      value_cmp-Text a.package_id b.package_id,
-      then-Equal (slice_cmp nat_cmp a.package_id b.package_id),
-    ) refl) up
+    → AreInOrder (1 ∷ 2 ∷ []) (λ row. number row.document ∷ Text row.package_id ∷ []) rows
+conclusions_sorted rows =
+    in_order (1 ∷ 2 ∷ []) (λ (row : ConclusionRow). number row.document ∷ Text row.package_id ∷ [])
+    (below_by conclusion_order) rows
+    (λ a b. ap is_lt (by_number_and_text a.document b.document a.package_id b.package_id))
 
 pub adoptions_sorted : (rows : List AdoptionRow) → Ascends (below_by adoption_order) rows
-    → IsAscending (λ a b. is_lt (key_cmp 0 (keys (1 ∷ 2 ∷ []))
-    (number b.document ∷ Text b.reference ∷ []) (number a.document ∷ Text a.reference ∷ []))
-    ≡ false) rows
-adoptions_sorted rows up =
-    in_order (below_by adoption_order)
-    (λ a b. key_cmp 0 (keys (1 ∷ 2 ∷ [])) (number a.document ∷ Text a.reference ∷ [])
-    (number b.document ∷ Text b.reference ∷ [])) rows
-    (λ a b. rw (
-      numbers a.document b.document,
-      value_cmp-Text a.reference b.reference,
-      then-Equal (slice_cmp nat_cmp a.reference b.reference),
-    ) refl) up
+    → AreInOrder (1 ∷ 2 ∷ []) (λ row. number row.document ∷ Text row.reference ∷ []) rows
+adoptions_sorted rows =
+    in_order (1 ∷ 2 ∷ []) (λ (row : AdoptionRow). number row.document ∷ Text row.reference ∷ [])
+    (below_by adoption_order) rows
+    (λ a b. ap is_lt (by_number_and_text a.document b.document a.reference b.reference))
 
 pub attached_sorted : (rows : List AttachedRow) → Ascends (below_by attached_order) rows
-    → IsAscending (λ a b. is_lt (key_cmp 0 (keys (1 ∷ 2 ∷ []))
-    (Text b.release ∷ number b.document ∷ []) (Text a.release ∷ number a.document ∷ [])) ≡ false)
-    rows
-attached_sorted rows up =
-    in_order (below_by attached_order)
-    (λ a b. key_cmp 0 (keys (1 ∷ 2 ∷ [])) (Text a.release ∷ number a.document ∷ [])
-    (Text b.release ∷ number b.document ∷ [])) rows
+    → AreInOrder (1 ∷ 2 ∷ []) (λ row. Text row.release ∷ number row.document ∷ []) rows
+attached_sorted rows =
+    in_order (1 ∷ 2 ∷ []) (λ (row : AttachedRow). Text row.release ∷ number row.document ∷ [])
+    (below_by attached_order) rows
     (λ a b. rw (
       value_cmp-Text a.release b.release,
       numbers a.document b.document,
       then-Equal (nat_cmp a.document b.document),
-    ) refl) up
+    ) refl)
 
 pub choices_sorted : (rows : List ChoiceRow) → Ascends (below_by choice_order) rows
-    → IsAscending (λ a b. is_lt (key_cmp 0 (keys (1 ∷ 2 ∷ 3 ∷ 4 ∷ []))
-    (Text b.release ∷ number b.document ∷ Text b.package_id ∷ Text b.term ∷ [])
-    (Text a.release ∷ number a.document ∷ Text a.package_id ∷ Text a.term ∷ [])) ≡ false) rows
-choices_sorted rows up =
-    in_order (below_by choice_order)
-    (λ a b. key_cmp 0 (keys (1 ∷ 2 ∷ 3 ∷ 4 ∷ []))
-    (Text a.release ∷ number a.document ∷ Text a.package_id ∷ Text a.term ∷ [])
-    (Text b.release ∷ number b.document ∷ Text b.package_id ∷ Text b.term ∷ [])) rows
-    (λ a b. rw (
-      value_cmp-Text a.release b.release,
-      numbers a.document b.document,
-      value_cmp-Text a.package_id b.package_id,
-      value_cmp-Text a.term b.term,
-      then-Equal (slice_cmp nat_cmp a.term b.term),
-    ) refl) up
+    → AreInOrder (1 ∷ 2 ∷ 3 ∷ 4 ∷ [])
+    (λ row. Text row.release ∷ number row.document ∷ Text row.package_id ∷ Text row.term ∷ []) rows
+choices_sorted rows = in_order (1 ∷ 2 ∷ 3 ∷ 4 ∷ []) (λ (row : ChoiceRow).
+    Text row.release ∷ number row.document ∷ Text row.package_id ∷ Text row.term ∷ [])
+    (below_by choice_order) rows
+    (λ a b. ap is_lt (by_term a.release b.release a.document b.document a.package_id b.package_id
+    a.term b.term))
 
 pub frozen_sorted : (rows : List FrozenRow) → Ascends (below_by frozen_order) rows
-    → IsAscending (λ a b. is_lt (key_cmp 0 (keys (1 ∷ 2 ∷ 3 ∷ 4 ∷ []))
-    (Text b.release ∷ number b.document ∷ Text b.package_id ∷ Text b.term ∷ [])
-    (Text a.release ∷ number a.document ∷ Text a.package_id ∷ Text a.term ∷ [])) ≡ false) rows
-frozen_sorted rows up =
-    in_order (below_by frozen_order)
-    (λ a b. key_cmp 0 (keys (1 ∷ 2 ∷ 3 ∷ 4 ∷ []))
-    (Text a.release ∷ number a.document ∷ Text a.package_id ∷ Text a.term ∷ [])
-    (Text b.release ∷ number b.document ∷ Text b.package_id ∷ Text b.term ∷ [])) rows
-    (λ a b. rw (
-      value_cmp-Text a.release b.release,
-      numbers a.document b.document,
-      value_cmp-Text a.package_id b.package_id,
-      value_cmp-Text a.term b.term,
-      then-Equal (slice_cmp nat_cmp a.term b.term),
-    ) refl) up
+    → AreInOrder (1 ∷ 2 ∷ 3 ∷ 4 ∷ [])
+    (λ row. Text row.release ∷ number row.document ∷ Text row.package_id ∷ Text row.term ∷ []) rows
+frozen_sorted rows = in_order (1 ∷ 2 ∷ 3 ∷ 4 ∷ []) (λ (row : FrozenRow).
+    Text row.release ∷ number row.document ∷ Text row.package_id ∷ Text row.term ∷ [])
+    (below_by frozen_order) rows
+    (λ a b. ap is_lt (by_term a.release b.release a.document b.document a.package_id b.package_id
+    a.term b.term))
 
 pub releases_sorted : (rows : List ReleaseRow) → Ascends release_below rows
-    → IsAscending (λ a b. is_lt (key_cmp 0 (keys (1 ∷ [])) (Text b.name ∷ []) (Text a.name ∷ []))
-    ≡ false) rows
-releases_sorted rows up =
-    in_order release_below (λ a b. key_cmp 0 (keys (1 ∷ [])) (Text a.name ∷ []) (Text b.name ∷ []))
-    rows
-    (λ a b. rw (value_cmp-Text a.name b.name, then-Equal (slice_cmp nat_cmp a.name b.name)) refl) up
+    → AreInOrder (1 ∷ []) (λ row. Text row.name ∷ []) rows
+releases_sorted rows =
+    in_order (1 ∷ []) (λ (row : ReleaseRow). Text row.name ∷ []) release_below rows
+    (λ a b. rw (value_cmp-Text a.name b.name, then-Equal (slice_cmp nat_cmp a.name b.name)) refl)
