@@ -1,6 +1,6 @@
 -- What INSERT, DELETE and UPDATE of one table do if there are no foreign keys.
 use Rattle.std.proofs.Common.{◌≡◌, ◌⊎◌, inl, inr, ℕ, List, [], ◌∷◌, flat_map, length, slice_get}
-use Rattle.std.proofs.Common.{Option, Some, None, Ok, Err, Result, refl, sym, ap, subst, subst₂}
+use Rattle.std.proofs.Common.{Option, Some, None, Ok, Err, Result, refl, sym, ap, subst}
 use Rattle.std.proofs.Common.{◌∙◌, append-nil}
 use Rattle.std.specs.Prelude.{◌/◌}
 use Rattle.std.specs.List.{AllByRecursion, filter_map}
@@ -22,8 +22,8 @@ use Rattle.sqlite_rules.specs.Calls.{ids_of}
 use Rattle.sqlite_rules.specs.Action.{works, work_for}
 use Rattle.sqlite_rules.proofs.ActionLemmas.{no_works}
 use Rattle.sqlite.specs.Effect.{Database, value_rows, Answers}
-use Rattle.sqlite.specs.Rows.{Written}
-use Rattle.sqlite.specs.Does.{Tally, Does}
+use Rattle.sqlite.specs.Rows.{Then, Gives, Queried, Edited, Written, Task}
+use Rattle.sqlite.specs.Does.{Tally, Does, Concludes}
 use Rattle.sqlite.specs.State.{State, mode_of}
 use Rattle.sqlite.proofs.Callers.{one_step}
 use Rattle.desk_sql_layout.specs.Layout.{table_of}
@@ -59,6 +59,16 @@ no_actions schema keys depth tree olds news none = each schema.tables none
     each [] h = refl
     each (t ∷ tables) h = rw h.0 (each tables h.1)
 
+-- what was written is the next database
+stepped : (schema : Schema) (old new : Database) (edit : Edit) (done written : Trees)
+    → new ≡ at schema done → done ≡ written → Applies schema Enforced old.trees edit written
+    → Stepped schema old new edit
+stepped schema old new edit done written now trees applies = record {
+  schema_is = ap (λ (d : Database). d.schema) now;
+  applies = subst (Applies schema Enforced old.trees edit)
+      (sym (ap (λ (d : Database). d.trees) now ∙ trees)) applies;
+}
+
 module _ (name : List ℕ) (tree : ℕ) (columns : List Column) (key : Option ℕ) (primary : List ℕ)
     (uniques : List (List ℕ)) (orders : List Order) where
   abbrev this : Table
@@ -67,6 +77,15 @@ module _ (name : List ℕ) (tree : ℕ) (columns : List Column) (key : Option �
   module _ (schema : Schema) (place : ℕ) (listed : slice_get schema.tables place ≡ Some this)
       (alone : HasNoKeys schema) (s : State) (has : s.now.schema ≡ schema) (params : Row)
       (text : List ℕ) (new : Database) (tally : Tally) where
+    abbrev doing : Task
+    doing = record {
+      limit = s.step_limit;
+      keys = Enforced;
+      schema = schema;
+      table = this;
+      params = params;
+    }
+
     pub inserts : (terms : List Term) (width : ℕ) (sources : List Row)
         → value_rows params width (length terms / width) terms ≡ sources
         → Does s.step_limit (mode_of s) params s.now text None (Insert place (Values terms width))
@@ -84,63 +103,50 @@ module _ (name : List ℕ) (tree : ℕ) (columns : List Column) (key : Option �
         let trees : done.0.trees ≡ written.0 =
         ap (λ (it : Written). it.trees) (same_value counted.2) ∙ same_value counted.1 in
         let rows : given.0 ≡ sources = given.1.1 ∙ rw append-nil source in
-        let applies = one_step schema Enforced db written.0 (edit_of db this [] Chosen 0 given.0)
-        (no_works schema Enforced 0 tree _) written.1 in
-        let next : written.0 ≡ new.trees = sym (ap (λ (d : Database). d.trees) now ∙ trees) in
-        record {
-          schema_is = ap (λ (d : Database). d.schema) now;
-          applies = subst₂ (λ rows next. Applies schema Enforced db
-              (edit_of db this [] Chosen 0 rows) next) rows next applies;
-        }
+        let edit = λ (rows : List Row). edit_of db this [] Chosen 0 rows in
+        subst (λ rows. Stepped schema s.now new (edit rows)) rows
+        (stepped schema s.now new (edit given.0) done.0.trees written.0 now trees
+        (one_step schema Enforced db written.0 (edit given.0) (no_works schema Enforced 0 tree _)
+        written.1))
+
+    -- the edit that the rows of a query make
+    edits : (q : Program) (edit : List Row → Edit) (out : List Row → List Row)
+        → Then (Then (Queried s.step_limit (at schema s.now.trees) q params)
+        (λ rows. Then (Edited schema Enforced s.now.trees (edit rows))
+        (λ next. Gives (record { trees = next; rows = out rows; last = None }))))
+        (Concludes doing (mode_of s) None) (Ok (tally, new))
+        → (rows : List Row) × Answers (at schema s.now.trees) q params rows
+        × Stepped schema s.now new (edit rows)
+    edits q edit out it =
+        let db = s.now.trees in
+        let done = went it in
+        let now : new ≡ at schema done.0.trees =
+        ap (λ (p : Tally × Database). p.1) (same_value (went (went done.2).2).2) in
+        let given = went done.1 in
+        let written = went given.2 in
+        let trees : done.0.trees ≡ written.0 =
+        ap (λ (it : Written). it.trees) (same_value written.2) in
+        let one = edit given.0 in (
+          given.0,
+          given.1,
+          stepped schema s.now new one done.0.trees written.0 now trees
+              (one_step schema Enforced db written.0 one
+              (no_actions schema Enforced 0 one.table.tree (taken_by db one) one.news alone)
+              written.1),
+        )
 
     pub deletes : (q : Program)
         → Does s.step_limit (mode_of s) params s.now text None (Delete place q) (Ok (tally, new))
         → (rows : List Row) × Answers (at schema s.now.trees) q params rows
         × Stepped schema s.now new (edit_of s.now.trees this (ids_of rows) Given 0 [])
     deletes q did =
-        let db = s.now.trees in
-        let it = rw (has, listed) at did in
-        let done = went it in
-        let now : new ≡ at schema done.0.trees =
-        ap (λ (p : Tally × Database). p.1) (same_value (went (went done.2).2).2) in
-        let given = went done.1 in
-        let written = went given.2 in
-        let trees : done.0.trees ≡ written.0 =
-        ap (λ (it : Written). it.trees) (same_value written.2) in
-        let edit = edit_of db this (ids_of given.0) Given 0 [] in
-        let applies = one_step schema Enforced db written.0 edit
-        (no_actions schema Enforced 0 tree (taken_by db edit) edit.news alone) written.1 in
-        let next : written.0 ≡ new.trees = sym (ap (λ (d : Database). d.trees) now ∙ trees) in (
-          given.0,
-          given.1,
-          record {
-            schema_is = ap (λ (d : Database). d.schema) now;
-            applies = subst (λ next. Applies schema Enforced db edit next) next applies;
-          },
-        )
+        let edit = λ (rows : List Row). edit_of s.now.trees this (ids_of rows) Given 0 [] in
+        edits q edit (λ rows. taken_by s.now.trees (edit rows)) (rw (has, listed) at did)
 
     pub updates : (q : Program)
         → Does s.step_limit (mode_of s) params s.now text None (Update place q) (Ok (tally, new))
         → (rows : List Row) × Answers (at schema s.now.trees) q params rows
         × Stepped schema s.now new (edit_of s.now.trees this (ids_of rows) Given 1 rows)
     updates q did =
-        let db = s.now.trees in
-        let it = rw (has, listed) at did in
-        let done = went it in
-        let now : new ≡ at schema done.0.trees =
-        ap (λ (p : Tally × Database). p.1) (same_value (went (went done.2).2).2) in
-        let given = went done.1 in
-        let written = went given.2 in
-        let trees : done.0.trees ≡ written.0 =
-        ap (λ (it : Written). it.trees) (same_value written.2) in
-        let edit = edit_of db this (ids_of given.0) Given 1 given.0 in
-        let applies = one_step schema Enforced db written.0 edit
-        (no_actions schema Enforced 0 tree (taken_by db edit) edit.news alone) written.1 in
-        let next : written.0 ≡ new.trees = sym (ap (λ (d : Database). d.trees) now ∙ trees) in (
-          given.0,
-          given.1,
-          record {
-            schema_is = ap (λ (d : Database). d.schema) now;
-            applies = subst (λ next. Applies schema Enforced db edit next) next applies;
-          },
-        )
+        let edit = λ (rows : List Row). edit_of s.now.trees this (ids_of rows) Given 1 rows in
+        edits q edit (λ rows. (edit rows).news) (rw (has, listed) at did)

@@ -13,8 +13,8 @@ use Rattle.sqlite.specs.Clock.{timed}
 use Rattle.sqlite.specs.Given.{HasBegun, HasGiven}
 use Rattle.sqlite.specs.Held.{Held, state}
 use Rattle.sqlite.specs.Listing.{understood, reads_listing, IsSourceOf}
-use Rattle.sqlite.specs.State.{State, HasCleanDisk, IsUnchanged, Shown, ShowsRows, Survives}
-use Rattle.sqlite.specs.State.{CommitsShowing, Begins as Begun}
+use Rattle.sqlite.specs.State.{State, HasCleanDisk, IsStatement, IsUnchanged, Shown, ShowsRows}
+use Rattle.sqlite.specs.State.{Survives, CommitsShowing, Begins as Begun}
 use Rattle.sqlite.proofs.Callers.{EndsIn, IsPlain, begins_shown, begun_plain, given_begin, unchanged_then}
 use Rattle.desk_model.specs.declared.command.Fault.{Fault}
 use Rattle.desk_access.specs.Seen.{Same}
@@ -54,6 +54,15 @@ read_more cells rows row found x read one xs e =
 
 -- what is shown after a query that left everything as it was
 
+abbrev statement_since : (sql : List ℕ) (params : Row) (a b : State) (c : Compiled) → b.now ≡ a.now
+    → IsStatement b sql params c → IsStatement a sql params c
+statement_since sql params a b c now it = record {
+  is = subst (λ (d : Database). understood d.schema sql ≡ Ok c) now it.is;
+  whole = it.whole;
+  given = it.given;
+  now = it.now;
+}
+
 pub shown_since : (sql : List ℕ) (params : Row) (a b c : State) (rows : List Row)
     → IsPlain (understood b.now.schema sql) → IsUnchanged a b → Shown sql params b c rows
     → Shown sql params a c rows
@@ -64,12 +73,7 @@ shown_since sql params a b c rows plain same h =
     let it = subst (ShowsRows b c sql h.0 full rows) none h.2 in
     let now : b.now ≡ a.now = same.0.now_is in (
       h.0,
-      record {
-        is = subst (λ (d : Database). understood d.schema sql ≡ Ok h.0) now h.1.is;
-        whole = h.1.whole;
-        given = h.1.given;
-        now = h.1.now;
-      },
+      statement_since sql params a b h.0 now h.1,
       subst (ShowsRows a c sql h.0 full rows) (sym none) (
         it.0,
         subst (λ (d : Database). IsSourceOf (reads_listing d.schema sql) d it.0) now it.1,
@@ -164,12 +168,7 @@ begins_since : (sql : List ℕ) (params : Row) (a b : State) (rows : List Row) �
 unfolding Begun
 begins_since sql params a b rows now h = (
   h.0,
-  record {
-    is = subst (λ (d : Database). understood d.schema sql ≡ Ok h.0) now h.1.is;
-    whole = h.1.whole;
-    given = h.1.given;
-    now = h.1.now;
-  },
+  statement_since sql params a b h.0 now h.1,
   h.2,
   h.3,
   subst (λ (d : Database). IsSourceOf (reads_listing d.schema sql) d h.3) now h.4,

@@ -10,7 +10,7 @@ use Rattle.std.proofs.lemmas.List.Sorted.{IsPermutation-middle}
 use Rattle.sqlite_value.specs.declared.keys.Order.{Order}
 use Rattle.sqlite_value.specs.declared.value.Value.TheVariants.{Null, Int}
 use Rattle.sqlite_value.specs.Order.{Row}
-use Rattle.sqlite_trees.specs.Tree.{rowid, put_row, IsAscending}
+use Rattle.sqlite_trees.specs.Tree.{Trees, rowid, put_row, IsAscending}
 use Rattle.sqlite_trees.specs.View.{is_int}
 use Rattle.sqlite_trees.proofs.ListLemmas.{map-map}
 use Rattle.sqlite_sql.specs.Term.{Term, col, eval_all}
@@ -50,7 +50,7 @@ stored_as t rows other stored same are = record {
 }
 
 -- the rowids that a query showed first
-ids_are : (p : Row → Bool) (g : Row → Row) (stored rows : List Row)
+pub ids_are : (p : Row → Bool) (g : Row → Row) (stored rows : List Row)
     → ((r : Row) → rowid (g r) ≡ rowid r) → AllByRecursion (λ r. is_int (rowid r) ≡ true) stored
     → IsPermutation (map g (filter p stored)) rows → AreIdsOf p stored (ids_of rows)
 ids_are p g stored rows first keyed same = record {
@@ -76,6 +76,36 @@ ids_are p g stored rows first keyed same = record {
             ∙ ap (λ v. Int (id_in v)) (sym (first r)),
       );
 }
+
+-- the rows that a query shows, each behind its rowid
+pub shown_by : (schema : Schema) (trees : Trees) (tree : ℕ) (tests project : List Term)
+    (params : Row) (found : List Row)
+    → Answers (at schema trees)
+    (record { lets = []; body = query_on tree tests (col 1 0 ∷ project) [] }) params found
+    → IsPermutation (map (λ r. rowid r ∷ eval_all project (env params r))
+    (filter (passes tests params) (trees tree))) found
+shown_by schema trees tree tests project params found answers =
+    let query = query_on tree tests (col 1 0 ∷ project) [] in
+    let rows = filter (passes tests params) (trees tree) in
+    let sel = selected tree tests (col 1 0 ∷ project) [] trees params found
+    (answers.answer Null) in
+    subst₂ (λ xs ys. IsPermutation xs ys)
+    (map-map (λ (o : Output). o.1) (λ r. output query (env params r)) rows) (sym sel.shown)
+    (IsPermutation-map (λ (o : Output). o.1) _ _ sel.same)
+
+-- the rows that are left without those that a query shows
+pub left_by : (schema : Schema) (trees : Trees) (tree : ℕ) (tests project : List Term)
+    (params : Row) (found : List Row)
+    → Answers (at schema trees)
+    (record { lets = []; body = query_on tree tests (col 1 0 ∷ project) [] }) params found
+    → (t : Table) (rows : List Row) → AreStored t rows (trees tree)
+    → without_all (trees tree) (ids_of found)
+    ≡ filter (λ r. not (passes tests params r)) (trees tree)
+left_by schema trees tree tests project params found answers t rows are =
+    let p = passes tests params in
+    left_is p (trees tree) (ids_of found) are.rising
+    (ids_are p (λ r. rowid r ∷ eval_all project (env params r)) (trees tree) found (λ r. refl)
+    are.keyed (shown_by schema trees tree tests project params found answers))
 
 module _ (name : List ℕ) (tree : ℕ) (columns : List Column) (key : Option ℕ) (primary : List ℕ)
     (uniques : List (List ℕ)) (orders : List Order) where
@@ -153,17 +183,8 @@ module _ (name : List ℕ) (tree : ℕ) (columns : List Column) (key : Option �
         → AllStored schema after new.trees
     after_delete tests params found q agree answers step perm =
         let stored = old.trees tree in
-        let sel = selected tree tests (col 1 0 ∷ []) [] old.trees params found
-        (answers.answer Null) in
-        let g = λ (r : Row). rowid r ∷ [] in
-        let shown : IsPermutation (map g (filter (passes tests params) stored)) found =
-        subst₂ (λ xs ys. IsPermutation xs ys)
-        (map-map (λ (o : Output). o.1)
-        (λ r. output (query_on tree tests (col 1 0 ∷ []) []) (env params r))
-        (filter (passes tests params) stored)) (sym sel.shown)
-        (IsPermutation-map (λ (o : Output). o.1) _ _ sel.same) in
-        let ids = ids_are (passes tests params) g stored found (λ r. refl) mine.keyed shown in
-        let left = left_is (passes tests params) stored (ids_of found) mine.rising ids in
+        let left = left_by schema old.trees tree tests [] params found answers this (rows tree)
+        mine in
         rest (ids_of found) Given 0 [] step
         (stored_as this _ (after tree) (new.trees tree) perm
         (subst (AreStored this (filter (λ x. not (q x)) (rows tree)))
@@ -181,18 +202,12 @@ module _ (name : List ℕ) (tree : ℕ) (columns : List Column) (key : Option �
         → AllStored schema after new.trees
     after_update tests project params found q u agree acts answers step perm =
         let stored = old.trees tree in
-        let query = query_on tree tests (col 1 0 ∷ project) [] in
-        let sel = selected tree tests (col 1 0 ∷ project) [] old.trees params found
-        (answers.answer Null) in
         let p = passes tests params in
         let g = λ (r : Row). rowid r ∷ eval_all project (env params r) in
         let f = λ (r : Row). cast_row this (eval_all project (env params r)) in
-        let shown : IsPermutation (map g (filter p stored)) found =
-        subst₂ (λ xs ys. IsPermutation xs ys)
-        (map-map (λ (o : Output). o.1) (λ r. output query (env params r)) (filter p stored))
-        (sym sel.shown) (IsPermutation-map (λ (o : Output). o.1) _ _ sel.same) in
-        let ids = ids_are p g stored found (λ r. refl) mine.keyed shown in
-        let left = left_is p stored (ids_of found) mine.rising ids in
+        let shown = shown_by schema old.trees tree tests project params found answers in
+        let left = left_by schema old.trees tree tests project params found answers this
+        (rows tree) mine in
         let cast = λ (s : Row). cast_row this (drop 1 s) in
         let edit = edit_of old.trees this (ids_of found) Given 1 found in
         let news : edit.news ≡ map cast found =
