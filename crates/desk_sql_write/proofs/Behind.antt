@@ -126,3 +126,7 @@ next_put {X} tree f rows n row {a} {b} {c} {r} is low v w =
     (front_more [] rows n row row is low)
     (more_put tree (flat_map f) (flat_map-append f) (take n rows) (row ∷ []) (omega arith) v
     (subst (λ l. Adds (with_rows tree l) 1 b c r) (sym (append_nil (f row))) w))
+
+-- no table is another than itself
+pub not_other : {n : ℕ} {xs ys : List Row} → n ≢ n → xs ≡ ys
+not_other other = absurd (other refl)

@@ -25,6 +25,7 @@ use Rattle.desk_sql_layout.proofs.Casts.{int_test, text_test, and_true, same}
 use Rattle.desk_sql_layout.proofs.Queries.{query_on}
 use Rattle.desk_sql_write.proofs.Deleting.{deleted_turns}
 use Rattle.desk_sql_write.proofs.Failing.{Makes, Reads}
+use Rattle.desk_sql_write.proofs.Behind.{not_other}
 use Rattle.desk_base.proofs.Bools.{together}
 
 -- the rows that are dropped are those whose cells are
@@ -76,40 +77,7 @@ choices_dropped release document package_id old new =
     refl drop_choices_text (Text release ∷ number document ∷ Text package_id ∷ [])
     (same 1 0 ∷ same 2 1 ∷ same 3 2 ∷ []) (drop_choices_test release document package_id)
     drop_choices_reads refl (λ r. refl)
-    (λ t. (
-      λ n. refl,
-      (
-        λ n. refl,
-        (
-          λ n. refl,
-          (
-            λ n. refl,
-            (
-              λ n. refl,
-              (
-                λ n. refl,
-                (
-                  λ n. refl,
-                  (
-                    λ n. refl,
-                    (
-                      λ n. refl,
-                      (
-                        λ n. refl,
-                        (
-                          λ n. absurd (n refl),
-                          (λ n. refl, (λ n. refl, (λ n. refl, (λ n. refl, (λ n. refl, tt))))),
-                        ),
-                      ),
-                    ),
-                  ),
-                ),
-              ),
-            ),
-          ),
-        ),
-      ),
-    ))
+    (λ t. search not_other)
     (λ t. dropped choice_cells (drop_choices_test release document package_id)
     (is_choice_of release document package_id) (drop_choices_test_is release document package_id)
     t.choice) old new
@@ -144,40 +112,7 @@ choices_dropped_in release old new =
     (λ t. record t { choice = filter (is_choice_elsewhere release) t.choice }) 10 refl
     drop_choices_in_text (Text release ∷ []) (same 1 0 ∷ []) (drop_choices_in_test release)
     drop_choices_in_reads refl (λ r. refl)
-    (λ t. (
-      λ n. refl,
-      (
-        λ n. refl,
-        (
-          λ n. refl,
-          (
-            λ n. refl,
-            (
-              λ n. refl,
-              (
-                λ n. refl,
-                (
-                  λ n. refl,
-                  (
-                    λ n. refl,
-                    (
-                      λ n. refl,
-                      (
-                        λ n. refl,
-                        (
-                          λ n. absurd (n refl),
-                          (λ n. refl, (λ n. refl, (λ n. refl, (λ n. refl, (λ n. refl, tt))))),
-                        ),
-                      ),
-                    ),
-                  ),
-                ),
-              ),
-            ),
-          ),
-        ),
-      ),
-    ))
+    (λ t. search not_other)
     (λ t. dropped choice_cells (drop_choices_in_test release) (is_choice_in release)
     (drop_choices_in_test_is release) t.choice) old new
 
@@ -223,46 +158,7 @@ conclusion_dropped document package_id old new =
     }) 6 refl drop_conclusion_text (number document ∷ Text package_id ∷ [])
     (same 1 0 ∷ same 2 1 ∷ []) (drop_conclusion_test document package_id) drop_conclusion_reads refl
     (λ r. refl)
-    (λ t. (
-      λ n. refl,
-      (
-        λ n. refl,
-        (
-          λ n. refl,
-          (
-            λ n. refl,
-            (
-              λ n. refl,
-              (
-                λ n. refl,
-                (
-                  λ n. absurd (n refl),
-                  (
-                    λ n. refl,
-                    (
-                      λ n. refl,
-                      (
-                        λ n. refl,
-                        (
-                          λ n. refl,
-                          (
-                            λ n. refl,
-                            (
-                              λ n. refl,
-                              (λ n. refl, (λ n. refl, (λ n. refl, tt))),
-                            ),
-                          ),
-                        ),
-                      ),
-                    ),
-                  ),
-                ),
-              ),
-            ),
-          ),
-        ),
-      ),
-    ))
+    (λ t. search not_other)
     (λ t. dropped conclusion_cells (drop_conclusion_test document package_id)
     (is_conclusion document package_id) (drop_conclusion_test_is document package_id) t.conclusion)
     old new
@@ -308,39 +204,6 @@ adoption_dropped document reference old new =
           t.adoption;
     }) 7 refl drop_adoption_text (number document ∷ Text reference ∷ []) (same 1 0 ∷ same 2 1 ∷ [])
     (drop_adoption_test document reference) drop_adoption_reads refl (λ r. refl)
-    (λ t. (
-      λ n. refl,
-      (
-        λ n. refl,
-        (
-          λ n. refl,
-          (
-            λ n. refl,
-            (
-              λ n. refl,
-              (
-                λ n. refl,
-                (
-                  λ n. refl,
-                  (
-                    λ n. absurd (n refl),
-                    (
-                      λ n. refl,
-                      (
-                        λ n. refl,
-                        (
-                          λ n. refl,
-                          (λ n. refl, (λ n. refl, (λ n. refl, (λ n. refl, (λ n. refl, tt))))),
-                        ),
-                      ),
-                    ),
-                  ),
-                ),
-              ),
-            ),
-          ),
-        ),
-      ),
-    ))
+    (λ t. search not_other)
     (λ t. dropped adoption_cells (drop_adoption_test document reference)
     (is_adoption document reference) (drop_adoption_test_is document reference) t.adoption) old new

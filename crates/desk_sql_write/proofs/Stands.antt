@@ -27,6 +27,7 @@ use Rattle.desk_sql_layout.specs.Layout.{desk_schema, duty_table, releases_table
 use Rattle.desk_sql_layout.proofs.Statements.{apart}
 use Rattle.desk_sql_write.specs.Taking.{IsSmall, StandsOnce, CanStand, in_cells}
 use Rattle.desk_sql_write.specs.Turning.{with_rows}
+use Rattle.desk_sql_write.proofs.Behind.{not_other}
 
 state_small : (s : DutyState) → length (duty_state_name s) ≤ 10 ^ 8
 state_small duty.IsOpen = omega arith
@@ -91,46 +92,7 @@ listed = has_got desk_schema.tables 12 duty_table refl
 elsewhere : (n : ℕ) (s : DutyState) (it : Tables)
     → AllByRecursion (λ t. t.tree ≢ 23 → rows_of (set_all n s it) t.tree ≡ rows_of it t.tree)
     desk_schema.tables
-elsewhere n s it = (
-  λ n. refl,
-  (
-    λ n. refl,
-    (
-      λ n. refl,
-      (
-        λ n. refl,
-        (
-          λ n. refl,
-          (
-            λ n. refl,
-            (
-              λ n. refl,
-              (
-                λ n. refl,
-                (
-                  λ n. refl,
-                  (
-                    λ n. refl,
-                    (
-                      λ n. refl,
-                      (
-                        λ n. refl,
-                        (
-                          λ n. absurd (n refl),
-                          (λ n. refl, (λ n. refl, (λ n. refl, tt))),
-                        ),
-                      ),
-                    ),
-                  ),
-                ),
-              ),
-            ),
-          ),
-        ),
-      ),
-    ),
-  ),
-)
+elsewhere n s it = search not_other
 
 pub set_stand : (n : ℕ) (s : DutyState) (it : Tables) → CanStand (rows_of it)
     → CanStand (rows_of (set_all n s it))

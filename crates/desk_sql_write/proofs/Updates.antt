@@ -38,6 +38,7 @@ use Rattle.desk_sql_layout.proofs.Queries.{query_on}
 use Rattle.desk_sql_write.specs.Runs.{is_numbered}
 use Rattle.desk_sql_write.specs.Taking.{IsSmall}
 use Rattle.desk_sql_write.proofs.Failing.{Makes, Reads}
+use Rattle.desk_sql_write.proofs.Behind.{not_other}
 use Rattle.desk_sql_write.proofs.Inserts.{duties_suit}
 use Rattle.desk_sql_write.proofs.Puts.{Suits}
 use Rattle.desk_sql_write.proofs.Storable.{all_light, int_light}
@@ -130,46 +131,7 @@ release_frozen name revision old new =
     (λ r whole. rw (cast_rowid (rowid r) whole, cast_int (pos revision)) refl)
     (λ r. rw (cast_int (pos revision)) refl)
     (λ r whole. cast_rowid (rowid r) whole ∙ sym (int_is (rowid r) whole))
-    (λ t. (
-      λ n. refl,
-      (
-        λ n. refl,
-        (
-          λ n. refl,
-          (
-            λ n. refl,
-            (
-              λ n. refl,
-              (
-                λ n. refl,
-                (
-                  λ n. refl,
-                  (
-                    λ n. refl,
-                    (
-                      λ n. absurd (n refl),
-                      (
-                        λ n. refl,
-                        (
-                          λ n. refl,
-                          (
-                            λ n. refl,
-                            (
-                              λ n. refl,
-                              (λ n. refl, (λ n. refl, (λ n. refl, tt))),
-                            ),
-                          ),
-                        ),
-                      ),
-                    ),
-                  ),
-                ),
-              ),
-            ),
-          ),
-        ),
-      ),
-    ))
+    (λ t. search not_other)
     (λ t. IsPermutation-same _ _ (changed_cells release_cells (is_release name)
     (with_release_state Frozen revision) q u (λ row. freeze_release_one name revision row)
     t.releases))
@@ -226,46 +188,7 @@ release_withdrawn name old new =
     withdraw_release_project q u withdraw_release_reads refl refl (λ r. refl)
     (λ r whole. rw (cast_rowid (rowid r) whole) refl) (λ r. refl)
     (λ r whole. cast_rowid (rowid r) whole ∙ sym (int_is (rowid r) whole))
-    (λ t. (
-      λ n. refl,
-      (
-        λ n. refl,
-        (
-          λ n. refl,
-          (
-            λ n. refl,
-            (
-              λ n. refl,
-              (
-                λ n. refl,
-                (
-                  λ n. refl,
-                  (
-                    λ n. refl,
-                    (
-                      λ n. absurd (n refl),
-                      (
-                        λ n. refl,
-                        (
-                          λ n. refl,
-                          (
-                            λ n. refl,
-                            (
-                              λ n. refl,
-                              (λ n. refl, (λ n. refl, (λ n. refl, tt))),
-                            ),
-                          ),
-                        ),
-                      ),
-                    ),
-                  ),
-                ),
-              ),
-            ),
-          ),
-        ),
-      ),
-    ))
+    (λ t. search not_other)
     (λ t. IsPermutation-same _ _ (changed_cells release_cells (is_release name) (withdrawn_release)
     q u (λ row. withdraw_release_one name row) t.releases))
     (λ t trees small. releases_suit trees (changed (is_release name) (withdrawn_release) t.releases)
@@ -323,46 +246,7 @@ duty_set n to old new =
     refl refl (λ r. refl)
     (λ r whole. rw cast_null refl) (λ r. refl)
     (λ r whole. cast_rowid (rowid r) whole ∙ sym (int_is (rowid r) whole))
-    (λ t. (
-      λ n. refl,
-      (
-        λ n. refl,
-        (
-          λ n. refl,
-          (
-            λ n. refl,
-            (
-              λ n. refl,
-              (
-                λ n. refl,
-                (
-                  λ n. refl,
-                  (
-                    λ n. refl,
-                    (
-                      λ n. refl,
-                      (
-                        λ n. refl,
-                        (
-                          λ n. refl,
-                          (
-                            λ n. refl,
-                            (
-                              λ n. absurd (n refl),
-                              (λ n. refl, (λ n. refl, (λ n. refl, tt))),
-                            ),
-                          ),
-                        ),
-                      ),
-                    ),
-                  ),
-                ),
-              ),
-            ),
-          ),
-        ),
-      ),
-    ))
+    (λ t. search not_other)
     (λ t. IsPermutation-same _ _ (changed_cells duty_cells (is_duty n) (with_duty_state to) q u
     (λ row. set_duty_one n to row) t.duty))
     (λ t trees small. duties_suit trees (changed (is_duty n) (with_duty_state to) t.duty) small) old
@@ -418,46 +302,7 @@ run_set first last to old new =
     set_run_project q u set_run_reads refl refl (λ r. refl)
     (λ r whole. rw cast_null refl) (λ r. refl)
     (λ r whole. cast_rowid (rowid r) whole ∙ sym (int_is (rowid r) whole))
-    (λ t. (
-      λ n. refl,
-      (
-        λ n. refl,
-        (
-          λ n. refl,
-          (
-            λ n. refl,
-            (
-              λ n. refl,
-              (
-                λ n. refl,
-                (
-                  λ n. refl,
-                  (
-                    λ n. refl,
-                    (
-                      λ n. refl,
-                      (
-                        λ n. refl,
-                        (
-                          λ n. refl,
-                          (
-                            λ n. refl,
-                            (
-                              λ n. absurd (n refl),
-                              (λ n. refl, (λ n. refl, (λ n. refl, tt))),
-                            ),
-                          ),
-                        ),
-                      ),
-                    ),
-                  ),
-                ),
-              ),
-            ),
-          ),
-        ),
-      ),
-    ))
+    (λ t. search not_other)
     (λ t. IsPermutation-same _ _ (changed_cells duty_cells (is_numbered first last)
     (with_duty_state to) q u (λ row. set_run_one first last to row) t.duty))
     (λ t trees small. duties_suit trees
