@@ -1,8 +1,8 @@
 -- If each unique key appears once among the rows that tables show, it does so in the tables.
 use Rattle.std.proofs.Common.{◌≡◌, ◌∙◌, inl, inr, ℕ, ◌≤◌, Bool, true, false, not, cond, List, []}
-use Rattle.std.proofs.Common.{◌∷◌, filter, length, slice_get, Some, refl, sym, ap, subst, arith}
+use Rattle.std.proofs.Common.{◌∷◌, filter, length, slice_get, Some, sym, ap, subst, arith}
 use Rattle.std.specs.Prelude.{◌&&◌, ◌==◌}
-use Rattle.std.specs.List.{AllByRecursion}
+use Rattle.std.specs.List.{AllByRecursion, AllZip}
 use Rattle.std.proofs.lemmas.Bool.{and_parts, cases_Bool}
 use Rattle.std.proofs.lemmas.Bool.Decides.{nat_tests}
 use Rattle.std.proofs.lemmas.Cmp.{tied_itself}
@@ -33,162 +33,42 @@ use Rattle.desk_sql_layout.specs.Stored.{cells, AreStored, AllStored}
 use Rattle.desk_sql_layout.proofs.Statements.{apart}
 use Rattle.desk_sql_write.specs.Taking.{in_cells, StandsOnce, HaveKeys}
 
--- the index keeps a key of a table
-record Guards (i : Index) : Type 0 where
-  table : Table
-  listed : Has desk_schema.tables table
+-- the index keeps a key of this table, which is in these columns
+record Guards (i : Index) (table : Table) (place : ℕ) (columns : List ℕ) : Type 0 where
   of : i.table ≡ table.tree
-  places : List ℕ
-  among : Has (table.primary ∷ table.uniques) places
+  listed : slice_get desk_schema.tables place ≡ Some table
+  among : Has (table.primary ∷ table.uniques) columns
   same : (a b : Row) → agree i.order i.columns a i.columns b
-      ≡ agree plain (in_cells places) (cells table a) (in_cells places) (cells table b)
+      ≡ agree plain (in_cells columns) (cells table a) (in_cells columns) (cells table b)
 
-by_place : (place : ℕ) (t : Table) → slice_get desk_schema.tables place ≡ Some t
-    → Has desk_schema.tables t
-by_place place t is = has_got desk_schema.tables place t is
+-- the table of each index, its place, and the columns of the key
+abbrev guarded : List (Table × ℕ × List ℕ)
+guarded =
+    (d.rule_table, 2, 1 ∷ 2 ∷ 3 ∷ [])
+    ∷ (d.document_table, 3, 2 ∷ [])
+    ∷ (d.package_table, 4, 1 ∷ 2 ∷ [])
+    ∷ (d.extracted_table, 5, 1 ∷ 2 ∷ [])
+    ∷ (d.conclusion_table, 6, 1 ∷ 2 ∷ [])
+    ∷ (d.adoption_table, 7, 1 ∷ 2 ∷ [])
+    ∷ (d.releases_table, 8, 2 ∷ [])
+    ∷ (d.releases_table, 8, 1 ∷ [])
+    ∷ (d.attached_table, 9, 1 ∷ 2 ∷ [])
+    ∷ (d.choice_table, 10, 1 ∷ 2 ∷ 3 ∷ 4 ∷ [])
+    ∷ (d.frozen_table, 11, 1 ∷ 2 ∷ 3 ∷ 4 ∷ [])
+    ∷ (d.duty_table, 12, 2 ∷ 3 ∷ 4 ∷ 5 ∷ 6 ∷ [])
+    ∷ (d.change_table, 13, 1 ∷ 2 ∷ [])
+    ∷ (d.waiver_table, 15, 1 ∷ 2 ∷ [])
+    ∷ []
 
-all_guarded : AllByRecursion Guards desk_schema.indexes
-all_guarded = (
-  record {
-    table = d.rule_table;
-    listed = by_place 2 d.rule_table refl;
-    of = refl;
-    places = 1 ∷ 2 ∷ 3 ∷ [];
-    among = inl refl;
-    same = λ a b. refl;
-  },
-  (
-    record {
-      table = d.document_table;
-      listed = by_place 3 d.document_table refl;
-      of = refl;
-      places = 2 ∷ [];
-      among = inr (inl refl);
-      same = λ a b. refl;
-    },
-    (
-      record {
-        table = d.package_table;
-        listed = by_place 4 d.package_table refl;
-        of = refl;
-        places = 1 ∷ 2 ∷ [];
-        among = inl refl;
-        same = λ a b. refl;
-      },
-      (
-        record {
-          table = d.extracted_table;
-          listed = by_place 5 d.extracted_table refl;
-          of = refl;
-          places = 1 ∷ 2 ∷ [];
-          among = inl refl;
-          same = λ a b. refl;
-        },
-        (
-          record {
-            table = d.conclusion_table;
-            listed = by_place 6 d.conclusion_table refl;
-            of = refl;
-            places = 1 ∷ 2 ∷ [];
-            among = inl refl;
-            same = λ a b. refl;
-          },
-          (
-            record {
-              table = d.adoption_table;
-              listed = by_place 7 d.adoption_table refl;
-              of = refl;
-              places = 1 ∷ 2 ∷ [];
-              among = inl refl;
-              same = λ a b. refl;
-            },
-            (
-              record {
-                table = d.releases_table;
-                listed = by_place 8 d.releases_table refl;
-                of = refl;
-                places = 2 ∷ [];
-                among = inr (inl refl);
-                same = λ a b. refl;
-              },
-              (
-                record {
-                  table = d.releases_table;
-                  listed = by_place 8 d.releases_table refl;
-                  of = refl;
-                  places = 1 ∷ [];
-                  among = inl refl;
-                  same = λ a b. refl;
-                },
-                (
-                  record {
-                    table = d.attached_table;
-                    listed = by_place 9 d.attached_table refl;
-                    of = refl;
-                    places = 1 ∷ 2 ∷ [];
-                    among = inl refl;
-                    same = λ a b. refl;
-                  },
-                  (
-                    record {
-                      table = d.choice_table;
-                      listed = by_place 10 d.choice_table refl;
-                      of = refl;
-                      places = 1 ∷ 2 ∷ 3 ∷ 4 ∷ [];
-                      among = inl refl;
-                      same = λ a b. refl;
-                    },
-                    (
-                      record {
-                        table = d.frozen_table;
-                        listed = by_place 11 d.frozen_table refl;
-                        of = refl;
-                        places = 1 ∷ 2 ∷ 3 ∷ 4 ∷ [];
-                        among = inl refl;
-                        same = λ a b. refl;
-                      },
-                      (
-                        record {
-                          table = d.duty_table;
-                          listed = by_place 12 d.duty_table refl;
-                          of = refl;
-                          places = 2 ∷ 3 ∷ 4 ∷ 5 ∷ 6 ∷ [];
-                          among = inr (inl refl);
-                          same = λ a b. refl;
-                        },
-                        (
-                          record {
-                            table = d.change_table;
-                            listed = by_place 13 d.change_table refl;
-                            of = refl;
-                            places = 1 ∷ 2 ∷ [];
-                            among = inl refl;
-                            same = λ a b. refl;
-                          },
-                          (
-                            record {
-                              table = d.waiver_table;
-                              listed = by_place 15 d.waiver_table refl;
-                              of = refl;
-                              places = 1 ∷ 2 ∷ [];
-                              among = inl refl;
-                              same = λ a b. refl;
-                            },
-                            tt,
-                          ),
-                        ),
-                      ),
-                    ),
-                  ),
-                ),
-              ),
-            ),
-          ),
-        ),
-      ),
-    ),
-  ),
-)
+all_guarded : AllZip (λ i g. Guards i g.0 g.1 g.2) desk_schema.indexes guarded
+all_guarded = search (inl, inr)
+
+zip_has : {A B : Type 0} (R : A → B → Type 0) (xs : List A) (ys : List B) → AllZip R xs ys
+    → (x : A) → Has xs x → (y : B) × R x y
+zip_has R [] ys all x there = absurd there
+zip_has R (z ∷ xs) [] all x there = absurd all
+zip_has R (z ∷ xs) (y ∷ ys) all x (inl here) = (y, subst (λ x. R x y) (sym here) all.0)
+zip_has R (z ∷ xs) (y ∷ ys) all x (inr there) = zip_has R xs ys all.1 x there
 
 pub some_there : {X : Type 0} (xs : List X) (x : X) → Has xs x → 1 ≤ length xs
 some_there [] x there = absurd there
@@ -233,16 +113,20 @@ module _ (rows : ℕ → List Row) (trees : Trees) (are : AllStored desk_schema 
       let parts = and_parts (guards i t) (clashes i.order i.columns (trees t.tree) row) clash in
       let mine : i.table ≡ t.tree = let it =
       (and_parts i.is_unique (i.table == t.tree) parts.0).1 in grind (arith, nat_tests) in
-      let k = all_has Guards desk_schema.indexes i all_guarded has in
-      let same : t ≡ k.table = same_table desk_schema.tables t k.table apart listed k.listed
-      (sym mine ∙ k.of) in
+      let found = zip_has (λ i g. Guards i g.0 g.1 g.2) desk_schema.indexes guarded all_guarded i
+      has in
+      let k = found.1 in
+      let table = found.0.0 in
+      let columns = found.0.2 in
+      let same : t ≡ table = same_table desk_schema.tables t table apart listed
+      (has_got desk_schema.tables found.0.1 table k.listed) (sym mine ∙ k.of) in
       let stored = all_has (λ t. AreStored t (rows t.tree) (trees t.tree)) desk_schema.tables t are
       listed in
-      let once = all_has (StandsOnce (rows t.tree)) (t.primary ∷ t.uniques) k.places
+      let once = all_has (StandsOnce (rows t.tree)) (t.primary ∷ t.uniques) columns
       (all_has (λ t. AllByRecursion (StandsOnce (rows t.tree)) (t.primary ∷ t.uniques))
       desk_schema.tables t keys listed)
-      (subst (λ (t : Table). Has (t.primary ∷ t.uniques) k.places) (sym same) k.among) in
-      let at = in_cells k.places in
+      (subst (λ (t : Table). Has (t.primary ∷ t.uniques) columns) (sym same) k.among) in
+      let at = in_cells columns in
       let agrees = subst (λ (t : Table). (a b : Row)
       → agree i.order i.columns a i.columns b ≡ agree plain at (cells t a) at (cells t b))
       (sym same) k.same in
