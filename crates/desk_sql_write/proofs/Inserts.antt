@@ -1,21 +1,26 @@
 -- What each INSERT adds to its table, and why it fails.
-use Rattle.std.proofs.Common.{◌≡◌, ◌≢◌, ℕ, ℤ, zero, suc, pos, ◌+◌, true, List, [], ◌∷◌, map}
+use Rattle.std.proofs.Common.{◌≡◌, ◌≢◌, ℕ, ℤ, zero, suc, pos, negsuc, ◌+◌, ◌<◌, ◌≤◌, true, List}
+use Rattle.std.proofs.Common.{[], ◌∷◌, map}
 use Rattle.std.proofs.Common.{flat_map, length, codes, Option, Some, None, IfErr, Result, refl, sym}
 use Rattle.std.proofs.Common.{subst, arith}
-use Rattle.std.specs.Prelude.{if◌then◌else◌, ◌/◌, slice_get}
+use Rattle.std.specs.Prelude.{if◌then◌else◌, ◌/◌, ◌&&◌, nat_le, nat_lt, slice_get}
+use Rattle.std.proofs.lemmas.Bool.Decides.{nat_tests}
 use Rattle.std.specs.List.{AllByRecursion}
 use Rattle.std.proofs.lemmas.List.{length-map}
-use Rattle.sqlite_value.specs.declared.keys.Order.{Order}
-use Rattle.sqlite_value.specs.declared.value.Value.TheVariants.{Null, Int, Text}
-use Rattle.sqlite_value.specs.Order.{Row}
+use Rattle.sqlite_value.specs.declared.value.Value.TheVariants.{Null, Int, Real, Text, Blob}
+use Rattle.sqlite_value.specs.Order.{Row, column}
 use Rattle.sqlite_trees.specs.Tree.{Trees}
+use Rattle.sqlite_trees.specs.View.{is_int}
 use Rattle.sqlite_sql.specs.Term.{Term, lit, col}
-use Rattle.sqlite_schema.specs.declared.schema.Column.{Column}
+use Rattle.sqlite_schema.specs.declared.schema.Table.{Table}
 use Rattle.sqlite_schema.specs.declared.schema.Constraint.TheVariants.{Datatype, NotNull}
 use Rattle.sqlite_schema.specs.declared.command.Command.TheVariants.{Insert}
 use Rattle.sqlite_schema.specs.declared.command.Source.TheVariants.{Values}
 use Rattle.sqlite_schema.specs.Rules.{passes, table_reals}
 use Rattle.sqlite_typing.specs.Types.{accepts_terms}
+use Rattle.sqlite_rules.specs.declared.error.Rowids.TheVariants.{Chosen}
+use Rattle.sqlite_rules.specs.Cast.{cast_row}
+use Rattle.sqlite_rules.specs.Edit.{next_rowid, with_rowid}
 use Rattle.sqlite_tied.specs.Compute.{everything}
 use Rattle.sqlite.specs.Effect.{value_rows}
 use Rattle.sqlite.specs.Listing.{understood}
@@ -36,11 +41,13 @@ use Rattle.desk_model.specs.declared.row.PackageRow.{PackageRow}
 use Rattle.desk_model.specs.declared.row.ReleaseRow.{ReleaseRow}
 use Rattle.desk_model.specs.declared.row.RuleRow.{RuleRow}
 use Rattle.desk_sql_layout.specs.Layout as d
-use Rattle.desk_sql_layout.specs.Cells.{number, text_or_null, catalogue_cells, rule_cells}
+use Rattle.desk_sql_layout.specs.Stored.{cells}
+use Rattle.desk_sql_layout.specs.Cells.{number, catalogue_cells, rule_cells}
 use Rattle.desk_sql_layout.specs.Cells.{document_cells, reading_cells, package_cells}
 use Rattle.desk_sql_layout.specs.Cells.{extracted_cells, conclusion_cells, adoption_cells}
 use Rattle.desk_sql_layout.specs.Cells.{release_cells, attached_cells, choice_cells, frozen_cells}
 use Rattle.desk_sql_layout.specs.Cells.{duty_cells, change_cells, waiver_cells}
+use Rattle.desk_sql_layout.proofs.Selecting.{as_declared}
 use Rattle.desk_sql_layout.proofs.Casts.{cast_null, cast_int, cast_text}
 use Rattle.desk_sql_write.specs.Taking.{IsSmall, RanInto}
 use Rattle.desk_sql_write.specs.Turning.{Adds, with_rows}
@@ -48,8 +55,8 @@ use Rattle.desk_sql_write.specs.Written.{Ran}
 use Rattle.desk_sql_write.proofs.Failing.{Reads}
 use Rattle.desk_sql_write.proofs.Inserting.{inserted_adds}
 use Rattle.desk_sql_write.proofs.Lists.{eight}
-use Rattle.desk_sql_write.proofs.Puts.{AreShown, IsFirst, Make, Suits}
-use Rattle.desk_sql_write.proofs.Storable.{all_light, int_light, null_light}
+use Rattle.desk_sql_write.proofs.Puts.{AreShown, IsFirst, IsNumber, Make, Suits, as_stored}
+use Rattle.desk_sql_write.proofs.Storable.{IsLight, all_light, int_light, null_light}
 
 -- a text adds rows to the table with this tree, at most this many
 abbrev pub AreAdded : List ℕ → Row → ℕ → List Row → ℕ → Type 1
@@ -77,513 +84,412 @@ eight_terms key n = flat_map (λ at. terms_of key at n)
     (0 ∷ n ∷ (n + n) ∷ (n + n + n) ∷ (n + n + n + n) ∷ (n + n + n + n + n) ∷ (n + n + n + n + n + n)
     ∷ (n + n + n + n + n + n + n) ∷ [])
 
+-- a text inserts one row, or eight, of this table at this place, which has so many columns
+abbrev InsertsOne : List ℕ → Table → ℕ → ℕ → Type 0
+InsertsOne text this place width =
+    Reads text width (Insert place (Values (terms_of this.key 0 width) (width + 1)))
+
+abbrev InsertsEight : List ℕ → Table → ℕ → ℕ → ℕ → Type 0
+InsertsEight text this place width count =
+    Reads text count (Insert place (Values (eight_terms this.key width) (width + 1)))
+
 abbrev source_of : Option ℕ → Row → Row
 source_of None cells = Null ∷ cells
 source_of (Some key) [] = []
 source_of (Some key) (number ∷ cells) = number ∷ Null ∷ cells
 
--- eight rows are added by one text
-module _ (name : List ℕ) (tree : ℕ) (columns : List Column) (key : Option ℕ) (primary : List ℕ)
-    (uniques : List (List ℕ)) (orders : List Order) {X : Type 0} (cells : X → Row) where
-  abbrev sources : List X → List Row
-  sources = map (λ x. source_of key (cells x))
+-- the first cell is a number, if it is the rowid
+abbrev StartsWhole : Option ℕ → Row → Type 0
+StartsWhole None cs = Unit {0}
+StartsWhole (Some at) cs = is_int (column cs 0) ≡ true
 
-  make_each : ((x : X) → Make name tree columns key primary uniques orders
-      (source_of key (cells x) ∷ []) (cells x ∷ [])) → (rows : List X)
-      → Make name tree columns key primary uniques orders (sources rows) (map cells rows)
-  make_each one [] = tt
-  make_each one (x ∷ rows) = ((one x).0, make_each one rows)
+number_of : (key : Option ℕ) (cs : Row) → AllByRecursion IsSmall cs → StartsWhole key cs
+    → IsNumber key cs
+number_of None cs small whole = tt
+number_of (Some at) [] small whole = absurd (cc)
+number_of (Some at) (Null ∷ cs) small whole = absurd (cc)
+number_of (Some at) (Int (pos n) ∷ cs) small whole = (n, cs, refl, small.0)
+number_of (Some at) (Int (negsuc n) ∷ cs) small whole = absurd small.0
+number_of (Some at) (Real x ∷ cs) small whole = absurd (cc)
+number_of (Some at) (Text t ∷ cs) small whole = absurd (cc)
+number_of (Some at) (Blob b ∷ cs) small whole = absurd (cc)
 
-  shown_each : ((x : X) → AreShown name tree columns key primary uniques orders (cells x ∷ []))
-      → (rows : List X) → AreShown name tree columns key primary uniques orders (map cells rows)
-  shown_each one [] = tt
-  shown_each one (x ∷ rows) = ((one x).0, shown_each one rows)
+light_stored : (key : Option ℕ) (id : ℤ) (cs : Row) → AllByRecursion IsSmall cs
+    → AllByRecursion IsLight (as_stored key id cs)
+light_stored None id cs small = (int_light id, all_light cs small)
+light_stored (Some at) id [] small = tt
+light_stored (Some at) id (c ∷ cs) small =
+    let all = all_light (c ∷ cs) small in (all.0, (null_light, all.1))
 
-  suit_each : (trees : Trees) → ((x : X) → AllByRecursion IsSmall (cells x)
-      → Suits name tree columns key primary uniques orders trees (cells x)) → (rows : List X)
-      → AllByRecursion (AllByRecursion IsSmall) (map cells rows)
-      → AllByRecursion (Suits name tree columns key primary uniques orders trees) (map cells rows)
-  suit_each trees one [] small = tt
-  suit_each trees one (x ∷ rows) small = (one x small.0, suit_each trees one rows small.1)
+length_stored : (key : Option ℕ) (id : ℤ) (cs : Row) → 0 < length cs
+    → length (as_stored key id cs) ≡ length cs + 1
+length_stored None id cs some = omega arith
+length_stored (Some at) id [] some = absurd (omega (arith, some))
+length_stored (Some at) id (c ∷ cs) some = omega arith
 
-  -- what the text gives for these rows
-  pub record Gives (terms : List Term) (width count : ℕ) (rows : List X) : Type 0 where
-    pub accepted : accepts_terms terms (flat_map cells rows) ≡ true
-    pub given : value_rows (flat_map cells rows) width (length terms / width) terms ≡ sources rows
-    pub counted : length (flat_map cells rows) ≡ count
+-- the table takes these cells from the parameters, and in each of its columns
+abbrev IsTaken : Table → ℕ → Row → Type 0
+IsTaken this width cs = (accepts_terms (terms_of this.key 0 width) cs ≡ true)
+    × ((trees : Trees) (id : ℤ)
+    → (passes Datatype d.desk_schema trees (as_declared this) (as_stored this.key id cs) ≡ true)
+    × (passes NotNull d.desk_schema trees (as_declared this) (as_stored this.key id cs) ≡ true))
 
-  eight_added : (place : ℕ) → slice_get d.desk_schema.tables place
-      ≡ Some (d.table_of name tree columns key primary uniques orders) → (text : List ℕ)
-      (terms : List Term) (width count : ℕ)
-      → Reads text count (Insert place (Values terms width))
-      → ((a b c d e f g h : X)
-      → Gives terms width count (a ∷ b ∷ c ∷ d ∷ e ∷ f ∷ g ∷ h ∷ []))
-      → table_reals (d.table_of name tree columns key primary uniques orders) ≡ 0
-      → IsFirst name tree columns key primary uniques orders key
-      → ((x : X) → Make name tree columns key primary uniques orders
-      (source_of key (cells x) ∷ []) (cells x ∷ []))
-      → ((x : X) → AreShown name tree columns key primary uniques orders (cells x ∷ []))
-      → ((trees : Trees) (x : X) → AllByRecursion IsSmall (cells x)
-      → Suits name tree columns key primary uniques orders trees (cells x))
+-- what is plain of a table's rows, which have cells for so many columns
+pub record Fits (this : Table) {X : Type 0} (cells_of : X → Row) (place width : ℕ) : Type 0 where
+  listed : slice_get d.desk_schema.tables place ≡ Some (as_declared this)
+  reals : table_reals (as_declared this) ≡ 0
+  first : IsFirst this.name this.tree this.columns this.key this.primary this.uniques this.orders
+      this.key
+  narrow : (nat_lt 0 width && nat_le width 8) ≡ true
+  counted : (x : X) → length (cells_of x) ≡ width
+  whole : (x : X) → StartsWhole this.key (cells_of x)
+  taken : (x : X) → IsTaken this width (cells_of x)
+  shown : (x : X) (id : ℤ) → cells (as_declared this) (as_stored this.key id (cells_of x))
+      ≡ cells_of x
+
+-- a table takes these rows by INSERT
+pub record Takes (this : Table) {X : Type 0} (cells_of : X → Row) (place width : ℕ) : Type 0 where
+  fits : Fits this cells_of place width
+  makes : (x : X) (stored : List Row)
+      → with_rowid Chosen stored (cast_row (as_declared this) (source_of this.key (cells_of x)))
+      ≡ as_stored this.key (next_rowid stored) (cells_of x)
+
+-- what a text gives for these rows
+record Gives (this : Table) {X : Type 0} (cells_of : X → Row) (terms : List Term)
+    (width count : ℕ) (rows : List X) : Type 0 where
+  accepted : accepts_terms terms (flat_map cells_of rows) ≡ true
+  given : value_rows (flat_map cells_of rows) (width + 1) (length terms / (width + 1)) terms
+      ≡ map (λ x. source_of this.key (cells_of x)) rows
+  counted : length (flat_map cells_of rows) ≡ count
+
+module _ {this : Table} {X : Type 0} {cells_of : X → Row} {place width : ℕ}
+    (takes : Takes this cells_of place width) where
+  abbrev Suiting : Trees → Row → Type 0
+  Suiting = Suits this.name this.tree this.columns this.key this.primary this.uniques this.orders
+
+  suit : (trees : Trees) (x : X) → AllByRecursion IsSmall (cells_of x)
+      → Suiting trees (cells_of x)
+  suit trees x small =
+      let fits = takes.fits in
+      let cs = cells_of x in
+      let bounds : (0 < length cs) × (length cs ≤ 8) =
+      subst (λ n. (0 < n) × (n ≤ 8)) (sym (fits.counted x)) (within width fits.narrow) in
+      record {
+        number = number_of this.key cs small (fits.whole x);
+        right = λ id.
+            let size = length_stored this.key id cs bounds.0 in
+            let typed = (fits.taken x).1 trees id in
+            record {
+              typed = typed.0;
+              present = typed.1;
+              light = light_stored this.key id cs small;
+              some = omega (arith, size, bounds.0);
+              few = omega (arith, size, bounds.1);
+            };
+      }
+    where
+      within : (n : ℕ) → (nat_lt 0 n && nat_le n 8) ≡ true → (0 < n) × (n ≤ 8)
+      within n e = grind (arith, nat_tests)
+
+  pub suit_each : (trees : Trees) (rows : List X)
+      → AllByRecursion (AllByRecursion IsSmall) (map cells_of rows)
+      → AllByRecursion (Suiting trees) (map cells_of rows)
+  suit_each trees [] small = tt
+  suit_each trees (x ∷ rows) small = (suit trees x small.0, suit_each trees rows small.1)
+
+  make_each : (rows : List X)
+      → Make this.name this.tree this.columns this.key this.primary this.uniques this.orders
+      (map (λ x. source_of this.key (cells_of x)) rows) (map cells_of rows)
+  make_each [] = tt
+  make_each (x ∷ rows) = (takes.makes x, make_each rows)
+
+  shown_each : (rows : List X)
+      → AreShown this.name this.tree this.columns this.key this.primary this.uniques this.orders
+      (map cells_of rows)
+  shown_each [] = tt
+  shown_each (x ∷ rows) = (takes.fits.shown x, shown_each rows)
+
+  added : (text : List ℕ) (terms : List Term) (count : ℕ)
+      → Reads text count (Insert place (Values terms (width + 1))) → (rows : List X)
+      → Gives this cells_of terms width count rows
+      → AreAdded text (flat_map cells_of rows) this.tree (map cells_of rows) (length rows)
+  added text terms count reads rows gives old new r ran into survives =
+      let fits = takes.fits in
+      let it = inserted_adds this.name this.tree this.columns this.key this.primary this.uniques
+      this.orders place fits.listed text (flat_map cells_of rows) terms (width + 1)
+      (subst (λ n. Reads text n (Insert place (Values terms (width + 1)))) (sym gives.counted)
+      reads) gives.accepted (map (λ x. source_of this.key (cells_of x)) rows) (map cells_of rows)
+      gives.given fits.reals fits.first (make_each rows) (shown_each rows)
+      (λ trees. suit_each trees rows) old new r ran into survives in
+      subst (λ n. Adds (with_rows this.tree (map cells_of rows)) n old new r)
+      (length-map rows cells_of) it
+
+  one_added : (text : List ℕ) → InsertsOne text this place width → (row : X)
+      → Gives this cells_of (terms_of this.key 0 width) width width (row ∷ [])
+      → AreAdded text (flat_map cells_of (row ∷ [])) this.tree (map cells_of (row ∷ [])) 1
+  one_added text reads row = added text (terms_of this.key 0 width) width reads (row ∷ [])
+
+  -- eight rows by one text
+  eight_added : (text : List ℕ) (count : ℕ) → InsertsEight text this place width count
+      → ((a b c e f g h i : X)
+      → Gives this cells_of (eight_terms this.key width) width count
+      (a ∷ b ∷ c ∷ e ∷ f ∷ g ∷ h ∷ i ∷ []))
       → (rows : List X) → length rows ≡ 8
-      → AreAdded text (flat_map cells rows) tree (map cells rows) (length rows)
-  eight_added place listed text terms width count reads gives reals first make shown suits rows is
-      old new r ran into survives =
-      let all = eight (Gives terms width count) gives rows is in
-      let it = inserted_adds name tree columns key primary uniques orders place listed text
-      (flat_map cells rows) terms width
-      (subst (λ n. Reads text n (Insert place (Values terms width))) (sym all.counted) reads)
-      all.accepted (sources rows) (map cells rows) all.given reals first (make_each make rows)
-      (shown_each shown rows) (λ trees. suit_each trees (suits trees) rows) old new r ran into
-      survives in
-      subst (λ n. Adds (with_rows tree (map cells rows)) n old new r) (length-map rows cells) it
+      → AreAdded text (flat_map cells_of rows) this.tree (map cells_of rows) (length rows)
+  eight_added text count reads gives rows is =
+      let terms = eight_terms this.key width in
+      added text terms count reads rows (eight (Gives this cells_of terms width count) gives rows is)
 
 -- ---- catalogue
 
 abbrev pub add_revision_text : List ℕ
 add_revision_text = codes "INSERT INTO catalogue VALUES (?1, ?2)"
 
-add_revision_reads : Reads add_revision_text 2 (Insert 1 (Values (terms_of (Some 0) 0 2) 3))
+add_revision_reads : InsertsOne add_revision_text d.catalogue_table 1 2
 unfolding understood everything
 add_revision_reads = record { is = refl; plain = (refl, refl); fits = (refl, refl) }
 
+revisions : Takes d.catalogue_table catalogue_cells 1 2
+revisions = record {
+  fits = assumption;
+  makes = λ row stored. rw (cast_null, cast_int (pos row.revision)) refl;
+}
+
 pub revision_added : (row : CatalogueRow) → IsAdded add_revision_text 1 (catalogue_cells row)
-revision_added row old new =
-    let this = d.catalogue_table in
-    inserted_adds this.name 1 this.columns this.key this.primary this.uniques this.orders 1 refl
-    add_revision_text (catalogue_cells row) (terms_of (Some 0) 0 2) 3 add_revision_reads refl
-    (source_of (Some 0) (catalogue_cells row) ∷ []) (catalogue_cells row ∷ []) refl refl
-    (refl, λ r. refl) ((λ stored. rw (cast_null, cast_int (pos row.revision)) refl), tt)
-    (λ id. refl, tt)
-    (λ trees small. (
-      record {
-        number = (row.revision, _, refl, small.0.0);
-        right = λ id. record {
-          typed = refl;
-          present = refl;
-          light = (
-            (all_light (catalogue_cells row) small.0).0,
-            (null_light, (all_light (catalogue_cells row) small.0).1),
-          );
-          some = omega arith;
-          few = omega arith;
-        };
-      },
-      tt,
-    )) old new
+revision_added row = one_added revisions add_revision_text add_revision_reads row assumption
 
 -- ---- rule
 
 abbrev pub add_rule_text : List ℕ
 add_rule_text = codes "INSERT INTO rule VALUES (?1, ?2, ?3, ?4, ?5)"
 
-add_rule_reads : Reads add_rule_text 5 (Insert 2 (Values (terms_of None 0 5) 6))
+add_rule_reads : InsertsOne add_rule_text d.rule_table 2 5
 unfolding understood everything
 add_rule_reads = record { is = refl; plain = (refl, refl); fits = (refl, refl) }
 
+rules : Takes d.rule_table rule_cells 2 5
+rules = record {
+  fits = assumption;
+  makes = λ row stored. rw (cast_null, cast_int (pos row.revision)) refl;
+}
+
 pub rule_added : (row : RuleRow) → IsAdded add_rule_text 2 (rule_cells row)
-rule_added row old new =
-    let this = d.rule_table in
-    inserted_adds this.name 2 this.columns this.key this.primary this.uniques this.orders 2 refl
-    add_rule_text (rule_cells row) (terms_of None 0 5) 6 add_rule_reads refl
-    (source_of None (rule_cells row) ∷ []) (rule_cells row ∷ []) refl refl tt
-    ((λ stored. rw (cast_null, cast_int (pos row.revision)) refl), tt) (λ id. refl, tt)
-    (λ trees small. (
-      record {
-        number = tt;
-        right = λ id. record {
-          typed = refl;
-          present = refl;
-          light = (int_light id, all_light (rule_cells row) small.0);
-          some = omega arith;
-          few = omega arith;
-        };
-      },
-      tt,
-    )) old new
+rule_added row = one_added rules add_rule_text add_rule_reads row assumption
 
 -- ---- document
 
 abbrev pub add_document_text : List ℕ
 add_document_text = codes "INSERT INTO document VALUES (?1, ?2, ?3)"
 
-add_document_reads : Reads add_document_text 3 (Insert 3 (Values (terms_of (Some 0) 0 3) 4))
+add_document_reads : InsertsOne add_document_text d.document_table 3 3
 unfolding understood everything
 add_document_reads = record { is = refl; plain = (refl, refl); fits = (refl, refl) }
 
+documents : Takes d.document_table document_cells 3 3
+documents = record {
+  fits = assumption;
+  makes = λ row stored. rw (cast_null, cast_int (pos row.number)) refl;
+}
+
 pub document_added : (row : DocumentRow) → IsAdded add_document_text 4 (document_cells row)
-document_added row old new =
-    let this = d.document_table in
-    inserted_adds this.name 4 this.columns this.key this.primary this.uniques this.orders 3 refl
-    add_document_text (document_cells row) (terms_of (Some 0) 0 3) 4 add_document_reads refl
-    (source_of (Some 0) (document_cells row) ∷ []) (document_cells row ∷ []) refl refl
-    (refl, λ r. refl) ((λ stored. rw (cast_null, cast_int (pos row.number)) refl), tt)
-    (λ id. refl, tt)
-    (λ trees small. (
-      record {
-        number = (row.number, _, refl, small.0.0);
-        right = λ id. record {
-          typed = refl;
-          present = refl;
-          light = (
-            (all_light (document_cells row) small.0).0,
-            (null_light, (all_light (document_cells row) small.0).1),
-          );
-          some = omega arith;
-          few = omega arith;
-        };
-      },
-      tt,
-    )) old new
+document_added row = one_added documents add_document_text add_document_reads row assumption
 
 -- ---- reading
 
 abbrev pub add_reading_text : List ℕ
 add_reading_text = codes "INSERT INTO reading VALUES (?1, ?2)"
 
-add_reading_reads : Reads add_reading_text 2 (Insert 14 (Values (terms_of (Some 0) 0 2) 3))
+add_reading_reads : InsertsOne add_reading_text d.reading_table 14 2
 unfolding understood everything
 add_reading_reads = record { is = refl; plain = (refl, refl); fits = (refl, refl) }
 
+readings : Takes d.reading_table reading_cells 14 2
+readings = record {
+  fits = assumption;
+  makes = λ row stored. rw (
+    cast_null,
+    cast_int (pos row.number),
+    cast_int (pos (profile_number row.profile)),
+  ) refl;
+}
+
 pub reading_added : (row : DocumentRow) → IsAdded add_reading_text 27 (reading_cells row)
-reading_added row old new =
-    let this = d.reading_table in
-    inserted_adds this.name 27 this.columns this.key this.primary this.uniques this.orders 14 refl
-    add_reading_text (reading_cells row) (terms_of (Some 0) 0 2) 3 add_reading_reads refl
-    (source_of (Some 0) (reading_cells row) ∷ []) (reading_cells row ∷ []) refl refl (
-      refl,
-      λ r. refl,
-    ) (
-      (λ stored. rw (
-        cast_null,
-        cast_int (pos row.number),
-        cast_int (pos (profile_number row.profile)),
-      ) refl),
-      tt,
-    ) (λ id. refl, tt)
-    (λ trees small. (
-      record {
-        number = (row.number, _, refl, small.0.0);
-        right = λ id. record {
-          typed = refl;
-          present = refl;
-          light = (
-            (all_light (reading_cells row) small.0).0,
-            (null_light, (all_light (reading_cells row) small.0).1),
-          );
-          some = omega arith;
-          few = omega arith;
-        };
-      },
-      tt,
-    )) old new
+reading_added row = one_added readings add_reading_text add_reading_reads row assumption
 
 -- ---- package
 
 abbrev pub add_package_text : List ℕ
 add_package_text = codes "INSERT INTO package VALUES (?1, ?2, ?3, ?4, ?5, ?6, ?7)"
 
-add_package_reads : Reads add_package_text 7 (Insert 4 (Values (terms_of None 0 7) 8))
+add_package_reads : InsertsOne add_package_text d.package_table 4 7
 unfolding understood everything
 add_package_reads = record { is = refl; plain = (refl, refl); fits = (refl, refl) }
 
-add_package_accepts : (row : PackageRow) (a b c : Option (List ℕ))
-    → accepts_terms (terms_of None 0 7)
-    (number row.document ∷ Text row.id ∷ Text row.name ∷ text_or_null a ∷ text_or_null b
-    ∷ text_or_null c ∷ number (if row.shipped then 1 else 0) ∷ []) ≡ true
-add_package_accepts row None None None = refl
-add_package_accepts row None None (Some u) = refl
-add_package_accepts row None (Some t) None = refl
-add_package_accepts row None (Some t) (Some u) = refl
-add_package_accepts row (Some s) None None = refl
-add_package_accepts row (Some s) None (Some u) = refl
-add_package_accepts row (Some s) (Some t) None = refl
-add_package_accepts row (Some s) (Some t) (Some u) = refl
+package_taken : (row : PackageRow) → IsTaken d.package_table 7 (package_cells row)
+package_taken row = go row.version row.concluded row.copyright
+  where
+    go : (a b c : Option (List ℕ)) → IsTaken d.package_table 7
+        (package_cells (record row { version = a; concluded = b; copyright = c }))
+    go None None None = assumption
+    go None None (Some u) = assumption
+    go None (Some t) None = assumption
+    go None (Some t) (Some u) = assumption
+    go (Some s) None None = assumption
+    go (Some s) None (Some u) = assumption
+    go (Some s) (Some t) None = assumption
+    go (Some s) (Some t) (Some u) = assumption
 
-add_package_typed : (trees : Trees) (id : ℤ) (row : PackageRow) (a b c : Option (List ℕ))
-    → (passes Datatype d.desk_schema trees d.package_table
-    (Int id ∷ number row.document ∷ Text row.id ∷ Text row.name ∷ text_or_null a ∷ text_or_null b
-    ∷ text_or_null c ∷ number (if row.shipped then 1 else 0) ∷ []) ≡ true)
-    × (passes NotNull d.desk_schema trees d.package_table
-    (Int id ∷ number row.document ∷ Text row.id ∷ Text row.name ∷ text_or_null a ∷ text_or_null b
-    ∷ text_or_null c ∷ number (if row.shipped then 1 else 0) ∷ []) ≡ true)
-add_package_typed trees id row None None None = (refl, refl)
-add_package_typed trees id row None None (Some u) = (refl, refl)
-add_package_typed trees id row None (Some t) None = (refl, refl)
-add_package_typed trees id row None (Some t) (Some u) = (refl, refl)
-add_package_typed trees id row (Some s) None None = (refl, refl)
-add_package_typed trees id row (Some s) None (Some u) = (refl, refl)
-add_package_typed trees id row (Some s) (Some t) None = (refl, refl)
-add_package_typed trees id row (Some s) (Some t) (Some u) = (refl, refl)
+packages : Takes d.package_table package_cells 4 7
+packages = record {
+  fits = assumption package_taken;
+  makes = λ row stored. rw (
+    cast_null,
+    cast_int (pos row.document),
+    cast_int (pos (if row.shipped then 1 else 0)),
+    cast_text row.version,
+    cast_text row.concluded,
+    cast_text row.copyright,
+  ) refl;
+}
 
 pub package_added : (row : PackageRow) → IsAdded add_package_text 6 (package_cells row)
-package_added row old new =
-    let this = d.package_table in
-    inserted_adds this.name 6 this.columns this.key this.primary this.uniques this.orders 4 refl
-    add_package_text (package_cells row) (terms_of None 0 7) 8 add_package_reads
-    (add_package_accepts row row.version row.concluded row.copyright)
-    (source_of None (package_cells row) ∷ []) (package_cells row ∷ []) refl refl tt (
-      (λ stored. rw (
-        cast_null,
-        cast_int (pos row.document),
-        cast_int (pos (if row.shipped then 1 else 0)),
-        cast_text row.version,
-        cast_text row.concluded,
-        cast_text row.copyright,
-      ) refl),
-      tt,
-    ) (λ id. refl, tt)
-    (λ trees small. (
-      record {
-        number = tt;
-        right = λ id. record {
-          typed = (add_package_typed trees id row row.version row.concluded row.copyright).0;
-          present = (add_package_typed trees id row row.version row.concluded row.copyright).1;
-          light = (int_light id, all_light (package_cells row) small.0);
-          some = omega arith;
-          few = omega arith;
-        };
-      },
-      tt,
-    )) old new
+package_added row =
+    one_added packages add_package_text add_package_reads row (assumption (package_taken row).0)
 
 -- ---- extracted
 
 abbrev pub add_reference_text : List ℕ
 add_reference_text = codes "INSERT INTO extracted VALUES (?1, ?2, ?3)"
 
-add_reference_reads : Reads add_reference_text 3 (Insert 5 (Values (terms_of None 0 3) 4))
+add_reference_reads : InsertsOne add_reference_text d.extracted_table 5 3
 unfolding understood everything
 add_reference_reads = record { is = refl; plain = (refl, refl); fits = (refl, refl) }
 
-add_reference_accepts : (row : ExtractedRow) (a : Option (List ℕ))
-    → accepts_terms (terms_of None 0 3)
-    (number row.document ∷ Text row.reference ∷ text_or_null a ∷ []) ≡ true
-add_reference_accepts row None = refl
-add_reference_accepts row (Some s) = refl
+reference_taken : (row : ExtractedRow) → IsTaken d.extracted_table 3 (extracted_cells row)
+reference_taken row = go row.body
+  where
+    go : (a : Option (List ℕ)) → IsTaken d.extracted_table 3
+        (extracted_cells (record row { body = a }))
+    go None = assumption
+    go (Some s) = assumption
 
-add_reference_typed : (trees : Trees) (id : ℤ) (row : ExtractedRow) (a : Option (List ℕ))
-    → (passes Datatype d.desk_schema trees d.extracted_table
-    (Int id ∷ number row.document ∷ Text row.reference ∷ text_or_null a ∷ []) ≡ true)
-    × (passes NotNull d.desk_schema trees d.extracted_table
-    (Int id ∷ number row.document ∷ Text row.reference ∷ text_or_null a ∷ []) ≡ true)
-add_reference_typed trees id row None = (refl, refl)
-add_reference_typed trees id row (Some s) = (refl, refl)
+references : Takes d.extracted_table extracted_cells 5 3
+references = record {
+  fits = assumption reference_taken;
+  makes = λ row stored. rw (cast_null, cast_int (pos row.document), cast_text row.body) refl;
+}
 
 pub reference_added : (row : ExtractedRow) → IsAdded add_reference_text 8 (extracted_cells row)
-reference_added row old new =
-    let this = d.extracted_table in
-    inserted_adds this.name 8 this.columns this.key this.primary this.uniques this.orders 5 refl
-    add_reference_text (extracted_cells row) (terms_of None 0 3) 4 add_reference_reads
-    (add_reference_accepts row row.body)
-    (source_of None (extracted_cells row) ∷ []) (extracted_cells row ∷ []) refl refl tt
-    ((λ stored. rw (cast_null, cast_int (pos row.document), cast_text row.body) refl), tt)
-    (λ id. refl, tt)
-    (λ trees small. (
-      record {
-        number = tt;
-        right = λ id. record {
-          typed = (add_reference_typed trees id row row.body).0;
-          present = (add_reference_typed trees id row row.body).1;
-          light = (int_light id, all_light (extracted_cells row) small.0);
-          some = omega arith;
-          few = omega arith;
-        };
-      },
-      tt,
-    )) old new
+reference_added row =
+    one_added references add_reference_text add_reference_reads row (assumption (reference_taken row).0)
 
 -- ---- conclusion
 
 abbrev pub add_conclusion_text : List ℕ
 add_conclusion_text = codes "INSERT INTO conclusion VALUES (?1, ?2, ?3)"
 
-add_conclusion_reads : Reads add_conclusion_text 3 (Insert 6 (Values (terms_of None 0 3) 4))
+add_conclusion_reads : InsertsOne add_conclusion_text d.conclusion_table 6 3
 unfolding understood everything
 add_conclusion_reads = record { is = refl; plain = (refl, refl); fits = (refl, refl) }
 
+conclusions : Takes d.conclusion_table conclusion_cells 6 3
+conclusions = record {
+  fits = assumption;
+  makes = λ row stored. rw (cast_null, cast_int (pos row.document)) refl;
+}
+
 pub conclusion_added : (row : ConclusionRow) → IsAdded add_conclusion_text 10 (conclusion_cells row)
-conclusion_added row old new =
-    let this = d.conclusion_table in
-    inserted_adds this.name 10 this.columns this.key this.primary this.uniques this.orders 6 refl
-    add_conclusion_text (conclusion_cells row) (terms_of None 0 3) 4 add_conclusion_reads refl
-    (source_of None (conclusion_cells row) ∷ []) (conclusion_cells row ∷ []) refl refl tt
-    ((λ stored. rw (cast_null, cast_int (pos row.document)) refl), tt) (λ id. refl, tt)
-    (λ trees small. (
-      record {
-        number = tt;
-        right = λ id. record {
-          typed = refl;
-          present = refl;
-          light = (int_light id, all_light (conclusion_cells row) small.0);
-          some = omega arith;
-          few = omega arith;
-        };
-      },
-      tt,
-    )) old new
+conclusion_added row = one_added conclusions add_conclusion_text add_conclusion_reads row assumption
 
 -- ---- adoption
 
 abbrev pub add_adoption_text : List ℕ
 add_adoption_text = codes "INSERT INTO adoption VALUES (?1, ?2, ?3)"
 
-add_adoption_reads : Reads add_adoption_text 3 (Insert 7 (Values (terms_of None 0 3) 4))
+add_adoption_reads : InsertsOne add_adoption_text d.adoption_table 7 3
 unfolding understood everything
 add_adoption_reads = record { is = refl; plain = (refl, refl); fits = (refl, refl) }
 
+adoptions : Takes d.adoption_table adoption_cells 7 3
+adoptions = record {
+  fits = assumption;
+  makes = λ row stored. rw (cast_null, cast_int (pos row.document)) refl;
+}
+
 pub adoption_added : (row : AdoptionRow) → IsAdded add_adoption_text 12 (adoption_cells row)
-adoption_added row old new =
-    let this = d.adoption_table in
-    inserted_adds this.name 12 this.columns this.key this.primary this.uniques this.orders 7 refl
-    add_adoption_text (adoption_cells row) (terms_of None 0 3) 4 add_adoption_reads refl
-    (source_of None (adoption_cells row) ∷ []) (adoption_cells row ∷ []) refl refl tt
-    ((λ stored. rw (cast_null, cast_int (pos row.document)) refl), tt) (λ id. refl, tt)
-    (λ trees small. (
-      record {
-        number = tt;
-        right = λ id. record {
-          typed = refl;
-          present = refl;
-          light = (int_light id, all_light (adoption_cells row) small.0);
-          some = omega arith;
-          few = omega arith;
-        };
-      },
-      tt,
-    )) old new
+adoption_added row = one_added adoptions add_adoption_text add_adoption_reads row assumption
 
 -- ---- releases
 
 abbrev pub add_release_text : List ℕ
 add_release_text = codes "INSERT INTO releases VALUES (?1, ?2, ?3, ?4, ?5)"
 
-add_release_reads : Reads add_release_text 5 (Insert 8 (Values (terms_of None 0 5) 6))
+add_release_reads : InsertsOne add_release_text d.releases_table 8 5
 unfolding understood everything
 add_release_reads = record { is = refl; plain = (refl, refl); fits = (refl, refl) }
 
+pub releases : Takes d.releases_table release_cells 8 5
+releases = record {
+  fits = assumption;
+  makes = λ row stored. rw (cast_null, cast_int (pos row.place), cast_int (pos row.revision)) refl;
+}
+
 pub release_added : (row : ReleaseRow) → IsAdded add_release_text 14 (release_cells row)
-release_added row old new =
-    let this = d.releases_table in
-    inserted_adds this.name 14 this.columns this.key this.primary this.uniques this.orders 8 refl
-    add_release_text (release_cells row) (terms_of None 0 5) 6 add_release_reads refl
-    (source_of None (release_cells row) ∷ []) (release_cells row ∷ []) refl refl tt
-    ((λ stored. rw (cast_null, cast_int (pos row.place), cast_int (pos row.revision)) refl), tt)
-    (λ id. refl, tt)
-    (λ trees small. (
-      record {
-        number = tt;
-        right = λ id. record {
-          typed = refl;
-          present = refl;
-          light = (int_light id, all_light (release_cells row) small.0);
-          some = omega arith;
-          few = omega arith;
-        };
-      },
-      tt,
-    )) old new
+release_added row = one_added releases add_release_text add_release_reads row assumption
 
 -- ---- attached
 
 abbrev pub add_attached_text : List ℕ
 add_attached_text = codes "INSERT INTO attached VALUES (?1, ?2)"
 
-add_attached_reads : Reads add_attached_text 2 (Insert 9 (Values (terms_of None 0 2) 3))
+add_attached_reads : InsertsOne add_attached_text d.attached_table 9 2
 unfolding understood everything
 add_attached_reads = record { is = refl; plain = (refl, refl); fits = (refl, refl) }
 
+attached : Takes d.attached_table attached_cells 9 2
+attached = record {
+  fits = assumption;
+  makes = λ row stored. rw (cast_null, cast_int (pos row.document)) refl;
+}
+
 pub attached_added : (row : AttachedRow) → IsAdded add_attached_text 17 (attached_cells row)
-attached_added row old new =
-    let this = d.attached_table in
-    inserted_adds this.name 17 this.columns this.key this.primary this.uniques this.orders 9 refl
-    add_attached_text (attached_cells row) (terms_of None 0 2) 3 add_attached_reads refl
-    (source_of None (attached_cells row) ∷ []) (attached_cells row ∷ []) refl refl tt
-    ((λ stored. rw (cast_null, cast_int (pos row.document)) refl), tt) (λ id. refl, tt)
-    (λ trees small. (
-      record {
-        number = tt;
-        right = λ id. record {
-          typed = refl;
-          present = refl;
-          light = (int_light id, all_light (attached_cells row) small.0);
-          some = omega arith;
-          few = omega arith;
-        };
-      },
-      tt,
-    )) old new
+attached_added row = one_added attached add_attached_text add_attached_reads row assumption
 
 -- ---- choice
 
 abbrev pub add_choice_text : List ℕ
 add_choice_text = codes "INSERT INTO choice VALUES (?1, ?2, ?3, ?4)"
 
-add_choice_reads : Reads add_choice_text 4 (Insert 10 (Values (terms_of None 0 4) 5))
+add_choice_reads : InsertsOne add_choice_text d.choice_table 10 4
 unfolding understood everything
 add_choice_reads = record { is = refl; plain = (refl, refl); fits = (refl, refl) }
 
+choices : Takes d.choice_table choice_cells 10 4
+choices = record {
+  fits = assumption;
+  makes = λ row stored. rw (cast_null, cast_int (pos row.document)) refl;
+}
+
 pub choice_added : (row : ChoiceRow) → IsAdded add_choice_text 19 (choice_cells row)
-choice_added row old new =
-    let this = d.choice_table in
-    inserted_adds this.name 19 this.columns this.key this.primary this.uniques this.orders 10 refl
-    add_choice_text (choice_cells row) (terms_of None 0 4) 5 add_choice_reads refl
-    (source_of None (choice_cells row) ∷ []) (choice_cells row ∷ []) refl refl tt
-    ((λ stored. rw (cast_null, cast_int (pos row.document)) refl), tt) (λ id. refl, tt)
-    (λ trees small. (
-      record {
-        number = tt;
-        right = λ id. record {
-          typed = refl;
-          present = refl;
-          light = (int_light id, all_light (choice_cells row) small.0);
-          some = omega arith;
-          few = omega arith;
-        };
-      },
-      tt,
-    )) old new
+choice_added row = one_added choices add_choice_text add_choice_reads row assumption
 
 -- ---- frozen
 
 abbrev pub add_frozen_text : List ℕ
 add_frozen_text = codes "INSERT INTO frozen VALUES (?1, ?2, ?3, ?4, ?5)"
 
-add_frozen_reads : Reads add_frozen_text 5 (Insert 11 (Values (terms_of None 0 5) 6))
+add_frozen_reads : InsertsOne add_frozen_text d.frozen_table 11 5
 unfolding understood everything
 add_frozen_reads = record { is = refl; plain = (refl, refl); fits = (refl, refl) }
 
-frozen_makes : (row : FrozenRow) → let this = d.frozen_table in
-    Make this.name 21 this.columns this.key this.primary this.uniques this.orders
-    (source_of None (frozen_cells row) ∷ []) (frozen_cells row ∷ [])
-frozen_makes row = (
-  (λ stored. rw (cast_null, cast_int (pos row.document)) refl),
-  tt,
-)
-
-frozen_suits : (trees : Trees) (row : FrozenRow) → AllByRecursion IsSmall (frozen_cells row)
-    → let this = d.frozen_table in
-    Suits this.name 21 this.columns this.key this.primary this.uniques this.orders trees
-    (frozen_cells row)
-frozen_suits trees row small = record {
-  number = tt;
-  right = λ id. record {
-    typed = refl;
-    present = refl;
-    light = (int_light id, all_light (frozen_cells row) small);
-    some = omega arith;
-    few = omega arith;
-  };
+frozen_terms : Takes d.frozen_table frozen_cells 11 5
+frozen_terms = record {
+  fits = assumption;
+  makes = λ row stored. rw (cast_null, cast_int (pos row.document)) refl;
 }
 
 pub frozen_added : (row : FrozenRow) → IsAdded add_frozen_text 21 (frozen_cells row)
-frozen_added row old new =
-    let this = d.frozen_table in
-    inserted_adds this.name 21 this.columns this.key this.primary this.uniques this.orders 11 refl
-    add_frozen_text (frozen_cells row) (terms_of None 0 5) 6 add_frozen_reads refl
-    (source_of None (frozen_cells row) ∷ []) (frozen_cells row ∷ []) refl refl tt
-    (frozen_makes row) (λ id. refl, tt)
-    (λ trees small. (frozen_suits trees row small.0, tt)) old new
+frozen_added row = one_added frozen_terms add_frozen_text add_frozen_reads row assumption
 
 -- ---- eight frozen terms
 
@@ -591,63 +497,33 @@ abbrev pub add_eight_frozen_text : List ℕ
 add_eight_frozen_text = codes
     "INSERT INTO frozen VALUES (?, ?, ?, ?, ?), (?, ?, ?, ?, ?), (?, ?, ?, ?, ?), (?, ?, ?, ?, ?), (?, ?, ?, ?, ?), (?, ?, ?, ?, ?), (?, ?, ?, ?, ?), (?, ?, ?, ?, ?)"
 
-add_eight_frozen_reads : Reads add_eight_frozen_text 40 (Insert 11 (Values (eight_terms None 5) 6))
+add_eight_frozen_reads : InsertsEight add_eight_frozen_text d.frozen_table 11 5 40
 unfolding understood everything
 add_eight_frozen_reads = record { is = refl; plain = (refl, refl); fits = (refl, refl) }
 
 pub frozen_terms_added : (rows : List FrozenRow) → length rows ≡ 8
     → AreAdded add_eight_frozen_text (flat_map frozen_cells rows) 21 (map frozen_cells rows)
     (length rows)
-frozen_terms_added =
-    let this = d.frozen_table in
-    eight_added this.name 21 this.columns this.key this.primary this.uniques this.orders
-    frozen_cells 11 refl add_eight_frozen_text (eight_terms None 5) 6 40 add_eight_frozen_reads
-    (λ a b c d e f g h. record { accepted = refl; given = refl; counted = refl }) refl tt
-    frozen_makes (λ row. ((λ id. refl), tt)) frozen_suits
+frozen_terms_added = eight_added frozen_terms add_eight_frozen_text 40 add_eight_frozen_reads
+    (λ a b c e f g h i. assumption)
 
 -- ---- duty
 
 abbrev pub add_duty_text : List ℕ
 add_duty_text = codes "INSERT INTO duty VALUES (?1, ?2, ?3, ?4, ?5, ?6, ?7, ?8)"
 
-add_duty_reads : Reads add_duty_text 8 (Insert 12 (Values (terms_of (Some 0) 0 8) 9))
+add_duty_reads : InsertsOne add_duty_text d.duty_table 12 8
 unfolding understood everything
 add_duty_reads = record { is = refl; plain = (refl, refl); fits = (refl, refl) }
 
-duty_makes : (row : DutyRow) → let this = d.duty_table in
-    Make this.name 23 this.columns this.key this.primary this.uniques this.orders
-    (source_of (Some 0) (duty_cells row) ∷ []) (duty_cells row ∷ [])
-duty_makes row = (
-  (λ stored. rw (cast_null, cast_int (pos row.number), cast_int (pos row.document)) refl),
-  tt,
-)
-
-duty_suits : (trees : Trees) (row : DutyRow) → AllByRecursion IsSmall (duty_cells row)
-    → let this = d.duty_table in
-    Suits this.name 23 this.columns this.key this.primary this.uniques this.orders trees
-    (duty_cells row)
-duty_suits trees row small = record {
-  number = (row.number, _, refl, small.0);
-  right = λ id. record {
-    typed = refl;
-    present = refl;
-    light = (
-      (all_light (duty_cells row) small).0,
-      (null_light, (all_light (duty_cells row) small).1),
-    );
-    some = omega arith;
-    few = omega arith;
-  };
+pub duties : Takes d.duty_table duty_cells 12 8
+duties = record {
+  fits = assumption;
+  makes = λ row stored. rw (cast_null, cast_int (pos row.number), cast_int (pos row.document)) refl;
 }
 
 pub duty_added : (row : DutyRow) → IsAdded add_duty_text 23 (duty_cells row)
-duty_added row old new =
-    let this = d.duty_table in
-    inserted_adds this.name 23 this.columns this.key this.primary this.uniques this.orders 12 refl
-    add_duty_text (duty_cells row) (terms_of (Some 0) 0 8) 9 add_duty_reads refl
-    (source_of (Some 0) (duty_cells row) ∷ []) (duty_cells row ∷ []) refl refl (refl, λ r. refl)
-    (duty_makes row) (λ id. refl, tt)
-    (λ trees small. (duty_suits trees row small.0, tt)) old new
+duty_added row = one_added duties add_duty_text add_duty_reads row assumption
 
 -- ---- eight duties
 
@@ -655,70 +531,33 @@ abbrev pub add_eight_duties_text : List ℕ
 add_eight_duties_text = codes
     "INSERT INTO duty VALUES (?, ?, ?, ?, ?, ?, ?, ?), (?, ?, ?, ?, ?, ?, ?, ?), (?, ?, ?, ?, ?, ?, ?, ?), (?, ?, ?, ?, ?, ?, ?, ?), (?, ?, ?, ?, ?, ?, ?, ?), (?, ?, ?, ?, ?, ?, ?, ?), (?, ?, ?, ?, ?, ?, ?, ?), (?, ?, ?, ?, ?, ?, ?, ?)"
 
-add_eight_duties_reads : Reads add_eight_duties_text 64
-    (Insert 12 (Values (eight_terms (Some 0) 8) 9))
+add_eight_duties_reads : InsertsEight add_eight_duties_text d.duty_table 12 8 64
 unfolding understood everything
 add_eight_duties_reads = record { is = refl; plain = (refl, refl); fits = (refl, refl) }
 
 pub duties_added : (rows : List DutyRow) → length rows ≡ 8
     → AreAdded add_eight_duties_text (flat_map duty_cells rows) 23 (map duty_cells rows)
     (length rows)
-duties_added =
-    let this = d.duty_table in
-    eight_added this.name 23 this.columns this.key this.primary this.uniques this.orders
-    duty_cells 12 refl add_eight_duties_text (eight_terms (Some 0) 8) 9 64 add_eight_duties_reads
-    (λ a b c d e f g h. record { accepted = refl; given = refl; counted = refl }) refl
-    (refl, λ r. refl) duty_makes (λ row. ((λ id. refl), tt)) duty_suits
-
-pub duties_suit : (trees : Trees) (rows : List DutyRow)
-    → AllByRecursion (AllByRecursion IsSmall) (map duty_cells rows) → let this = d.duty_table in
-    AllByRecursion (Suits this.name 23 this.columns this.key this.primary this.uniques this.orders
-    trees) (map duty_cells rows)
-duties_suit trees =
-    let this = d.duty_table in
-    suit_each this.name 23 this.columns this.key this.primary this.uniques this.orders duty_cells
-    trees (duty_suits trees)
+duties_added = eight_added duties add_eight_duties_text 64 add_eight_duties_reads
+    (λ a b c e f g h i. assumption)
 
 -- ---- change
 
 abbrev pub add_change_text : List ℕ
 add_change_text = codes "INSERT INTO change VALUES (?1, ?2, ?3, ?4, ?5)"
 
-add_change_reads : Reads add_change_text 5 (Insert 13 (Values (terms_of None 0 5) 6))
+add_change_reads : InsertsOne add_change_text d.change_table 13 5
 unfolding understood everything
 add_change_reads = record { is = refl; plain = (refl, refl); fits = (refl, refl) }
 
-change_makes : (row : ChangeRow) → let this = d.change_table in
-    Make this.name 25 this.columns this.key this.primary this.uniques this.orders
-    (source_of None (change_cells row) ∷ []) (change_cells row ∷ [])
-change_makes row = (
-  (λ stored. rw (cast_null, cast_int (pos row.duty), cast_int (pos row.step)) refl),
-  tt,
-)
-
-change_suits : (trees : Trees) (row : ChangeRow) → AllByRecursion IsSmall (change_cells row)
-    → let this = d.change_table in
-    Suits this.name 25 this.columns this.key this.primary this.uniques this.orders trees
-    (change_cells row)
-change_suits trees row small = record {
-  number = tt;
-  right = λ id. record {
-    typed = refl;
-    present = refl;
-    light = (int_light id, all_light (change_cells row) small);
-    some = omega arith;
-    few = omega arith;
-  };
+changes : Takes d.change_table change_cells 13 5
+changes = record {
+  fits = assumption;
+  makes = λ row stored. rw (cast_null, cast_int (pos row.duty), cast_int (pos row.step)) refl;
 }
 
 pub change_added : (row : ChangeRow) → IsAdded add_change_text 25 (change_cells row)
-change_added row old new =
-    let this = d.change_table in
-    inserted_adds this.name 25 this.columns this.key this.primary this.uniques this.orders 13 refl
-    add_change_text (change_cells row) (terms_of None 0 5) 6 add_change_reads refl
-    (source_of None (change_cells row) ∷ []) (change_cells row ∷ []) refl refl tt
-    (change_makes row) (λ id. refl, tt)
-    (λ trees small. (change_suits trees row small.0, tt)) old new
+change_added row = one_added changes add_change_text add_change_reads row assumption
 
 -- ---- eight changes
 
@@ -726,70 +565,49 @@ abbrev pub add_eight_changes_text : List ℕ
 add_eight_changes_text = codes
     "INSERT INTO change VALUES (?, ?, ?, ?, ?), (?, ?, ?, ?, ?), (?, ?, ?, ?, ?), (?, ?, ?, ?, ?), (?, ?, ?, ?, ?), (?, ?, ?, ?, ?), (?, ?, ?, ?, ?), (?, ?, ?, ?, ?)"
 
-add_eight_changes_reads : Reads add_eight_changes_text 40
-    (Insert 13 (Values (eight_terms None 5) 6))
+add_eight_changes_reads : InsertsEight add_eight_changes_text d.change_table 13 5 40
 unfolding understood everything
 add_eight_changes_reads = record { is = refl; plain = (refl, refl); fits = (refl, refl) }
 
 pub changes_added : (rows : List ChangeRow) → length rows ≡ 8
     → AreAdded add_eight_changes_text (flat_map change_cells rows) 25 (map change_cells rows)
     (length rows)
-changes_added =
-    let this = d.change_table in
-    eight_added this.name 25 this.columns this.key this.primary this.uniques this.orders
-    change_cells 13 refl add_eight_changes_text (eight_terms None 5) 6 40 add_eight_changes_reads
-    (λ a b c d e f g h. record { accepted = refl; given = refl; counted = refl }) refl tt
-    change_makes (λ row. ((λ id. refl), tt)) change_suits
+changes_added = eight_added changes add_eight_changes_text 40 add_eight_changes_reads
+    (λ a b c e f g h i. assumption)
 
 -- ---- waiver
 
 abbrev pub add_waiver_text : List ℕ
 add_waiver_text = codes "INSERT INTO waiver VALUES (?1, ?2, ?3)"
 
-add_waiver_reads : Reads add_waiver_text 3 (Insert 15 (Values (terms_of None 0 3) 4))
+add_waiver_reads : InsertsOne add_waiver_text d.waiver_table 15 3
 unfolding understood everything
 add_waiver_reads = record { is = refl; plain = (refl, refl); fits = (refl, refl) }
 
-add_waiver_accepts : (row : ChangeRow) (a : Option (List ℕ)) → a ≢ None
-    → accepts_terms (terms_of None 0 3) (number row.duty ∷ number row.step ∷ text_or_null a ∷ [])
-    ≡ true
-add_waiver_accepts row (Some s) some = refl
-add_waiver_accepts row None some = absurd (some refl)
+-- a change that has a last day
+abbrev Waiving : Type 0
+Waiving = (row : ChangeRow) × (row.last_day ≢ None)
 
-add_waiver_typed : (trees : Trees) (id : ℤ) (row : ChangeRow) (a : Option (List ℕ)) → a ≢ None
-    → (passes Datatype d.desk_schema trees d.waiver_table
-    (Int id ∷ number row.duty ∷ number row.step ∷ text_or_null a ∷ []) ≡ true)
-    × (passes NotNull d.desk_schema trees d.waiver_table
-    (Int id ∷ number row.duty ∷ number row.step ∷ text_or_null a ∷ []) ≡ true)
-add_waiver_typed trees id row (Some s) some = (refl, refl)
-add_waiver_typed trees id row None some = absurd (some refl)
+waiver_taken : (x : Waiving) → IsTaken d.waiver_table 3 (waiver_cells x.0)
+waiver_taken x = go x.0.last_day x.1
+  where
+    go : (a : Option (List ℕ)) → a ≢ None → IsTaken d.waiver_table 3
+        (waiver_cells (record (x.0) { last_day = a }))
+    go None some = absurd (some refl)
+    go (Some s) some = assumption
+
+waivers : Takes d.waiver_table {X = Waiving} (λ x. waiver_cells x.0) 15 3
+waivers = record {
+  fits = assumption waiver_taken;
+  makes = λ x stored. rw (
+    cast_null,
+    cast_int (pos x.0.duty),
+    cast_int (pos x.0.step),
+    cast_text x.0.last_day,
+  ) refl;
+}
 
 pub waiver_added : (row : ChangeRow) (some : row.last_day ≢ None)
     → IsAdded add_waiver_text 28 (waiver_cells row)
-waiver_added row some old new =
-    let this = d.waiver_table in
-    inserted_adds this.name 28 this.columns this.key this.primary this.uniques this.orders 15 refl
-    add_waiver_text (waiver_cells row) (terms_of None 0 3) 4 add_waiver_reads
-    (add_waiver_accepts row row.last_day some)
-    (source_of None (waiver_cells row) ∷ []) (waiver_cells row ∷ []) refl refl tt (
-      (λ stored. rw (
-        cast_null,
-        cast_int (pos row.duty),
-        cast_int (pos row.step),
-        cast_text row.last_day,
-      ) refl),
-      tt,
-    ) (λ id. refl, tt)
-    (λ trees small. (
-      record {
-        number = tt;
-        right = λ id. record {
-          typed = (add_waiver_typed trees id row row.last_day some).0;
-          present = (add_waiver_typed trees id row row.last_day some).1;
-          light = (int_light id, all_light (waiver_cells row) small.0);
-          some = omega arith;
-          few = omega arith;
-        };
-      },
-      tt,
-    )) old new
+waiver_added row some =
+    one_added waivers add_waiver_text add_waiver_reads (row, some) (assumption (waiver_taken (row, some)).0)

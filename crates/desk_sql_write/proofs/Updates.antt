@@ -1,13 +1,12 @@
 -- What each UPDATE does to the tables, and why it fails.
 use Rattle.std.proofs.Common.{◌≡◌, ◌∙◌, ℕ, pos, Bool, true, false, cond, List, [], ◌∷◌, map, codes}
-use Rattle.std.proofs.Common.{refl, sym, ap, arith}
+use Rattle.std.proofs.Common.{refl, sym, ap}
 use Rattle.std.specs.Prelude.{◌&&◌, ◌==◌, nat_le, bytes_eq, if◌then◌else◌}
 use Rattle.sqlite_value.specs.declared.keys.Collation.TheVariants.{Binary}
-use Rattle.std.specs.List.{AllByRecursion}
 use Rattle.sqlite_value.specs.declared.value.Value.{Value}
 use Rattle.sqlite_value.specs.declared.value.Value.TheVariants.{Null, Int, Text}
 use Rattle.sqlite_value.specs.Order.{Row, column}
-use Rattle.sqlite_trees.specs.Tree.{Trees, rowid}
+use Rattle.sqlite_trees.specs.Tree.{rowid}
 use Rattle.sqlite_trees.specs.View.{is_int}
 use Rattle.sqlite_trees.proofs.ListLemmas.{IsPermutation-same}
 use Rattle.sqlite_sql.specs.declared.ops.BinaryOp.TheVariants.{Compare}
@@ -36,12 +35,9 @@ use Rattle.desk_sql_layout.proofs.Casts.{cast_int, cast_null, int_test, text_tes
 use Rattle.desk_sql_layout.proofs.Edits.{changed_where}
 use Rattle.desk_sql_layout.proofs.Queries.{query_on}
 use Rattle.desk_sql_write.specs.Runs.{is_numbered}
-use Rattle.desk_sql_write.specs.Taking.{IsSmall}
 use Rattle.desk_sql_write.proofs.Failing.{Makes, Reads}
 use Rattle.desk_sql_write.proofs.Behind.{not_other}
-use Rattle.desk_sql_write.proofs.Inserts.{duties_suit}
-use Rattle.desk_sql_write.proofs.Puts.{Suits}
-use Rattle.desk_sql_write.proofs.Storable.{all_light, int_light}
+use Rattle.desk_sql_write.proofs.Inserts.{duties, releases, suit_each}
 use Rattle.desk_sql_write.proofs.Updating.{updated_turns}
 
 -- a change of rows as a change of their cells
@@ -55,26 +51,6 @@ changed_cells cells test change q u agree (x ∷ xs) = (λ i. sym (agree x) i
 
 cast_rowid : (v : Value) → is_int v ≡ true → cast Integer v ≡ Int (id_in v)
 cast_rowid v whole = ap (cast Integer) (int_is v whole) ∙ cast_int (id_in v)
-
-releases_suit : (trees : Trees) (rows : List ReleaseRow)
-    → AllByRecursion (AllByRecursion IsSmall) (map release_cells rows)
-    → let this = d.releases_table in
-    AllByRecursion (Suits this.name 14 this.columns this.key this.primary this.uniques this.orders
-    trees) (map release_cells rows)
-releases_suit trees [] small = tt
-releases_suit trees (row ∷ rows) small = (
-  record {
-    number = tt;
-    right = λ id. record {
-      typed = refl;
-      present = refl;
-      light = (int_light id, all_light (release_cells row) small.0);
-      some = omega arith;
-      few = omega arith;
-    };
-  },
-  releases_suit trees rows small.1,
-)
 
 -- ---- freeze_release
 
@@ -135,7 +111,7 @@ release_frozen name revision old new =
     (λ t. IsPermutation-same _ _ (changed_cells release_cells (is_release name)
     (with_release_state Frozen revision) q u (λ row. freeze_release_one name revision row)
     t.releases))
-    (λ t trees small. releases_suit trees
+    (λ t trees small. suit_each releases trees
     (changed (is_release name) (with_release_state Frozen revision) t.releases) small) old new
 
 -- ---- withdraw_release
@@ -191,7 +167,7 @@ release_withdrawn name old new =
     (λ t. search not_other)
     (λ t. IsPermutation-same _ _ (changed_cells release_cells (is_release name) (withdrawn_release)
     q u (λ row. withdraw_release_one name row) t.releases))
-    (λ t trees small. releases_suit trees (changed (is_release name) (withdrawn_release) t.releases)
+    (λ t trees small. suit_each releases trees (changed (is_release name) (withdrawn_release) t.releases)
     small) old new
 
 -- ---- set_duty
@@ -249,7 +225,7 @@ duty_set n to old new =
     (λ t. search not_other)
     (λ t. IsPermutation-same _ _ (changed_cells duty_cells (is_duty n) (with_duty_state to) q u
     (λ row. set_duty_one n to row) t.duty))
-    (λ t trees small. duties_suit trees (changed (is_duty n) (with_duty_state to) t.duty) small) old
+    (λ t trees small. suit_each duties trees (changed (is_duty n) (with_duty_state to) t.duty) small) old
     new
 
 -- ---- set_run
@@ -305,5 +281,5 @@ run_set first last to old new =
     (λ t. search not_other)
     (λ t. IsPermutation-same _ _ (changed_cells duty_cells (is_numbered first last)
     (with_duty_state to) q u (λ row. set_run_one first last to row) t.duty))
-    (λ t trees small. duties_suit trees
+    (λ t trees small. suit_each duties trees
     (changed (is_numbered first last) (with_duty_state to) t.duty) small) old new
