@@ -1,147 +1,127 @@
 -- What each DELETE does to the tables, and why it fails.
-use Rattle.std.proofs.Common.{◌≡◌, ℕ, pos, Bool, true, not, List, [], ◌∷◌, filter, map, codes, refl, sym, ◌∙◌}
-use Rattle.std.specs.Prelude.{◌&&◌, ◌==◌, bytes_eq}
-use Rattle.sqlite_value.specs.declared.keys.Collation.TheVariants.{Binary}
-use Rattle.sqlite_value.specs.declared.value.Value.TheVariants.{Int, Text}
-use Rattle.sqlite_value.specs.Order.{Row, column}
+use Rattle.std.proofs.Common.{◌≡◌, ◌≢◌, ℕ, ◌+◌, Bool, true, not, List, [], ◌∷◌, filter, map, length}
+use Rattle.std.proofs.Common.{codes, refl, sym, ap, ◌∙◌}
+use Rattle.std.specs.Prelude.{◌==◌, bytes_eq}
+use Rattle.std.specs.List.{AllByRecursion}
 use Rattle.std.specs.List.Sorted.{IsPermutation}
+use Rattle.sqlite_value.specs.declared.value.Value.{Value}
+use Rattle.sqlite_value.specs.declared.value.Value.TheVariants.{Text}
+use Rattle.sqlite_value.specs.Order.{Row}
 use Rattle.sqlite_trees.proofs.ListLemmas.{filter-map, IsPermutation-same}
-use Rattle.sqlite_sql.specs.declared.ops.BinaryOp.TheVariants.{Compare}
-use Rattle.sqlite_sql.specs.declared.ops.CompareOp.TheVariants.{Eq}
-use Rattle.sqlite_sql.specs.Ops.{binary, is_true}
-use Rattle.sqlite_sql.specs.Term.{col}
+use Rattle.sqlite_sql.specs.Term.{Term, col}
 use Rattle.sqlite_schema.specs.declared.command.Command.TheVariants.{Delete}
+use Rattle.sqlite_typing.specs.Types.{accepts_program}
 use Rattle.sqlite_tied.specs.Compute.{everything}
 use Rattle.sqlite.specs.Listing.{understood}
 use Rattle.desk_model.specs.Keys.{is_choice_of, is_choice_in, is_conclusion, is_adoption}
-use Rattle.desk_model.specs.Tables.{is_other_choice, is_choice_elsewhere}
-use Rattle.desk_model.specs.declared.row.ChoiceRow.{ChoiceRow}
-use Rattle.desk_model.specs.declared.row.ConclusionRow.{ConclusionRow}
-use Rattle.desk_model.specs.declared.row.AdoptionRow.{AdoptionRow}
+use Rattle.desk_model.specs.Tables.{Tables, is_other_choice, is_choice_elsewhere}
 use Rattle.desk_sql_layout.specs.Layout as d
-use Rattle.desk_sql_layout.specs.Cells.{number, choice_cells, conclusion_cells, adoption_cells}
+use Rattle.desk_sql_layout.specs.Cells.{number}
 use Rattle.desk_sql_layout.specs.Held.{rows_of}
-use Rattle.desk_sql_layout.proofs.Casts.{int_test, text_test, and_true, same}
-use Rattle.desk_sql_layout.proofs.Queries.{query_on}
+use Rattle.desk_sql_layout.specs.Stored.{cells}
+use Rattle.desk_sql_layout.proofs.Casts.{same}
+use Rattle.desk_sql_layout.proofs.Queries.{query_on, passes}
+use Rattle.desk_sql_layout.proofs.Selecting.{as_declared}
+use Rattle.desk_sql_layout.proofs.Tests.{equals, last_text_test, number_then, text_then}
+use Rattle.desk_sql_layout.proofs.Views.{View, adoption_view, choice_view, conclusion_view}
+use Rattle.desk_sql_write.proofs.Behind.{not_other}
 use Rattle.desk_sql_write.proofs.Deleting.{deleted_turns}
 use Rattle.desk_sql_write.proofs.Failing.{Makes, Reads}
-use Rattle.desk_sql_write.proofs.Behind.{not_other}
 use Rattle.desk_base.proofs.Bools.{together}
 
--- the rows that are dropped are those whose cells are
-dropped : {X : Type 0} (cells : X → Row) (q : Row → Bool) (goes : X → Bool)
-    → ((x : X) → q (cells x) ≡ goes x) → (xs : List X)
-    → IsPermutation (map cells (filter (λ x. not (goes x)) xs))
-    (filter (λ c. not (q c)) (map cells xs))
-dropped cells q goes agree xs = IsPermutation-same _ _
-    (sym (filter-map (λ c. not (q c)) cells xs
-    ∙ (λ i. map cells (filter (λ x. not (agree x i)) xs))))
+-- the first of these cells equals this parameter, the next one the next
+abbrev tests_of : ℕ → List ℕ → List Term
+tests_of param [] = []
+tests_of param (at ∷ more) = same (at + 1) param ∷ tests_of (param + 1) more
+
+-- a text drops the rows of a table whose cells equal its parameters
+abbrev IsDrop : List ℕ → ℕ → ℕ → ℕ → List ℕ → Type 0
+IsDrop text count place tree columns = Reads text count (Delete place (record {
+  lets = [];
+  body = query_on tree (tests_of 0 columns) (col 1 0 ∷ []) [];
+}))
+
+module _ {X : Type 0} (view : View X) (goes : X → Bool) (made : Tables → Tables)
+    (mine : (t : Tables) → view.held (made t) ≡ filter (λ x. not (goes x)) (view.held t))
+    (others : (t : Tables) → AllByRecursion
+    (λ u. u.tree ≢ view.table.tree → rows_of (made t) u.tree ≡ rows_of t u.tree)
+    d.desk_schema.tables) where
+  left : (q : Row → Bool) → ((x : X) → q (view.cells_of x) ≡ goes x) → (t : Tables)
+      → IsPermutation (rows_of (made t) view.table.tree)
+      (filter (λ c. not (q c)) (rows_of t view.table.tree))
+  left q agree t =
+      let kept = λ (c : Row). not (q c) in
+      IsPermutation-same _ _ (view.here (made t) ∙ ap (map view.cells_of) (mine t)
+      ∙ sym (ap (filter kept) (view.here t) ∙ filter-map kept view.cells_of (view.held t)
+      ∙ (λ i. map view.cells_of (filter (λ x. not (agree x i)) (view.held t)))))
+
+  -- each of these cells equals its value
+  drops : (text : List ℕ) (by : List (ℕ × Value))
+      → IsDrop text (length (map (λ (p : ℕ × Value). p.1) by)) view.place view.table.tree
+      (map (λ (p : ℕ × Value). p.0) by)
+      → accepts_program d.desk_schema []
+      (query_on view.table.tree (tests_of 0 (map (λ (p : ℕ × Value). p.0) by)) (col 1 0 ∷ []) [])
+      (map (λ (p : ℕ × Value). p.1) by) ≡ true
+      → ((r : Row) → passes (tests_of 0 (map (λ (p : ℕ × Value). p.0) by))
+      (map (λ (p : ℕ × Value). p.1) by) r ≡ equals by (cells (as_declared view.table) r))
+      → ((x : X) → equals by (view.cells_of x) ≡ goes x)
+      → Makes text (map (λ (p : ℕ × Value). p.1) by) made
+  drops text by reads accepts agree tested old new =
+      let this = view.table in
+      deleted_turns this.name this.tree this.columns this.key this.primary this.uniques this.orders
+      rows_of made view.place view.listed text (map (λ (p : ℕ × Value). p.1) by)
+      (tests_of 0 (map (λ (p : ℕ × Value). p.0) by)) (equals by) reads accepts agree others
+      (left (equals by) tested) old new
 
 -- ---- drop_choices
 
 abbrev drop_choices_text : List ℕ
 drop_choices_text = codes "DELETE FROM choice WHERE release = ?1 AND document = ?2 AND package = ?3"
 
-drop_choices_reads : Reads drop_choices_text 3
-    (Delete 10 (record {
-      lets = [];
-      body = query_on 19 (same 1 0 ∷ same 2 1 ∷ same 3 2 ∷ []) (col 1 0 ∷ []) [];
-    }))
+drop_choices_reads : IsDrop drop_choices_text 3 10 19 (0 ∷ 1 ∷ 2 ∷ [])
 unfolding understood everything
 drop_choices_reads = record { is = refl; plain = (refl, refl); fits = (refl, refl) }
-
-abbrev drop_choices_test : List ℕ → ℕ → List ℕ → Row → Bool
-drop_choices_test release document package_id cs = is_true
-    (binary (Compare Eq Binary) (column cs 0) (Text release))
-    && (is_true (binary (Compare Eq Binary) (column cs 1) (Int (pos document)))
-    && (is_true (binary (Compare Eq Binary) (column cs 2) (Text package_id)) && true))
-
-drop_choices_test_is : (release : List ℕ) (document : ℕ) (package_id : List ℕ) (row : ChoiceRow)
-    → drop_choices_test release document package_id (choice_cells row)
-    ≡ is_choice_of release document package_id row
-drop_choices_test_is release document package_id row = rw (
-  text_test row.release release,
-  int_test row.document document,
-  text_test row.package_id package_id,
-  and_true (bytes_eq row.package_id package_id),
-) (together (bytes_eq row.release release) (row.document == document)
-    (bytes_eq row.package_id package_id))
 
 pub choices_dropped : (release : List ℕ) (document : ℕ) (package_id : List ℕ)
     → Makes drop_choices_text (Text release ∷ number document ∷ Text package_id ∷ [])
     (λ t. record t { choice = filter (is_other_choice release document package_id) t.choice })
-choices_dropped release document package_id old new =
-    let this = d.choice_table in
-    deleted_turns this.name 19 this.columns this.key this.primary this.uniques this.orders rows_of
-    (λ t. record t { choice = filter (is_other_choice release document package_id) t.choice }) 10
-    refl drop_choices_text (Text release ∷ number document ∷ Text package_id ∷ [])
-    (same 1 0 ∷ same 2 1 ∷ same 3 2 ∷ []) (drop_choices_test release document package_id)
-    drop_choices_reads refl (λ r. refl)
-    (λ t. search not_other)
-    (λ t. dropped choice_cells (drop_choices_test release document package_id)
-    (is_choice_of release document package_id) (drop_choices_test_is release document package_id)
-    t.choice) old new
+choices_dropped release document package_id =
+    drops choice_view (is_choice_of release document package_id)
+    (λ t. record t { choice = filter (is_other_choice release document package_id) t.choice })
+    (λ t. refl) (λ t. search not_other) drop_choices_text
+    ((0, Text release) ∷ (1, number document) ∷ (2, Text package_id) ∷ []) drop_choices_reads refl
+    (λ r. refl)
+    (λ row. text_then row.release release (number_then row.document document
+    (last_text_test row.package_id package_id))
+    ∙ together (bytes_eq row.release release) (row.document == document)
+    (bytes_eq row.package_id package_id))
 
 -- ---- drop_choices_in
 
 abbrev drop_choices_in_text : List ℕ
 drop_choices_in_text = codes "DELETE FROM choice WHERE release = ?1"
 
-drop_choices_in_reads : Reads drop_choices_in_text 1
-    (Delete 10 (record { lets = []; body = query_on 19 (same 1 0 ∷ []) (col 1 0 ∷ []) [] }))
+drop_choices_in_reads : IsDrop drop_choices_in_text 1 10 19 (0 ∷ [])
 unfolding understood everything
 drop_choices_in_reads = record { is = refl; plain = (refl, refl); fits = (refl, refl) }
-
-abbrev drop_choices_in_test : List ℕ → Row → Bool
-drop_choices_in_test release cs = is_true (binary (Compare Eq Binary) (column cs 0) (Text release))
-    && true
-
-drop_choices_in_test_is : (release : List ℕ) (row : ChoiceRow)
-    → drop_choices_in_test release (choice_cells row) ≡ is_choice_in release row
-drop_choices_in_test_is release row = rw (
-  text_test row.release release,
-  and_true (bytes_eq row.release release),
-) (refl)
 
 pub choices_dropped_in : (release : List ℕ)
     → Makes drop_choices_in_text (Text release ∷ [])
     (λ t. record t { choice = filter (is_choice_elsewhere release) t.choice })
-choices_dropped_in release old new =
-    let this = d.choice_table in
-    deleted_turns this.name 19 this.columns this.key this.primary this.uniques this.orders rows_of
-    (λ t. record t { choice = filter (is_choice_elsewhere release) t.choice }) 10 refl
-    drop_choices_in_text (Text release ∷ []) (same 1 0 ∷ []) (drop_choices_in_test release)
-    drop_choices_in_reads refl (λ r. refl)
-    (λ t. search not_other)
-    (λ t. dropped choice_cells (drop_choices_in_test release) (is_choice_in release)
-    (drop_choices_in_test_is release) t.choice) old new
+choices_dropped_in release =
+    drops choice_view (is_choice_in release)
+    (λ t. record t { choice = filter (is_choice_elsewhere release) t.choice })
+    (λ t. refl) (λ t. search not_other) drop_choices_in_text ((0, Text release) ∷ []) drop_choices_in_reads refl (λ r. refl)
+    (λ row. last_text_test row.release release)
 
 -- ---- drop_conclusion
 
 abbrev drop_conclusion_text : List ℕ
 drop_conclusion_text = codes "DELETE FROM conclusion WHERE document = ?1 AND package = ?2"
 
-drop_conclusion_reads : Reads drop_conclusion_text 2
-    (Delete 6 (record {
-      lets = [];
-      body = query_on 10 (same 1 0 ∷ same 2 1 ∷ []) (col 1 0 ∷ []) [];
-    }))
+drop_conclusion_reads : IsDrop drop_conclusion_text 2 6 10 (0 ∷ 1 ∷ [])
 unfolding understood everything
 drop_conclusion_reads = record { is = refl; plain = (refl, refl); fits = (refl, refl) }
-
-abbrev drop_conclusion_test : ℕ → List ℕ → Row → Bool
-drop_conclusion_test document package_id cs = is_true
-    (binary (Compare Eq Binary) (column cs 0) (Int (pos document)))
-    && (is_true (binary (Compare Eq Binary) (column cs 1) (Text package_id)) && true)
-
-drop_conclusion_test_is : (document : ℕ) (package_id : List ℕ) (row : ConclusionRow)
-    → drop_conclusion_test document package_id (conclusion_cells row)
-    ≡ is_conclusion document package_id row
-drop_conclusion_test_is document package_id row = rw (
-  int_test row.document document,
-  text_test row.package_id package_id,
-  and_true (bytes_eq row.package_id package_id),
-) (refl)
 
 pub conclusion_dropped : (document : ℕ) (package_id : List ℕ)
     → Makes drop_conclusion_text (number document ∷ Text package_id ∷ [])
@@ -149,46 +129,23 @@ pub conclusion_dropped : (document : ℕ) (package_id : List ℕ)
       conclusion = filter (λ row. not (is_conclusion document package_id row))
           t.conclusion;
     })
-conclusion_dropped document package_id old new =
-    let this = d.conclusion_table in
-    deleted_turns this.name 10 this.columns this.key this.primary this.uniques this.orders rows_of
+conclusion_dropped document package_id =
+    drops conclusion_view (is_conclusion document package_id)
     (λ t. record t {
       conclusion = filter (λ row. not (is_conclusion document package_id row))
           t.conclusion;
-    }) 6 refl drop_conclusion_text (number document ∷ Text package_id ∷ [])
-    (same 1 0 ∷ same 2 1 ∷ []) (drop_conclusion_test document package_id) drop_conclusion_reads refl
-    (λ r. refl)
-    (λ t. search not_other)
-    (λ t. dropped conclusion_cells (drop_conclusion_test document package_id)
-    (is_conclusion document package_id) (drop_conclusion_test_is document package_id) t.conclusion)
-    old new
+    }) (λ t. refl) (λ t. search not_other) drop_conclusion_text
+    ((0, number document) ∷ (1, Text package_id) ∷ []) drop_conclusion_reads refl (λ r. refl)
+    (λ row. number_then row.document document (last_text_test row.package_id package_id))
 
 -- ---- drop_adoption
 
 abbrev drop_adoption_text : List ℕ
 drop_adoption_text = codes "DELETE FROM adoption WHERE document = ?1 AND reference = ?2"
 
-drop_adoption_reads : Reads drop_adoption_text 2
-    (Delete 7 (record {
-      lets = [];
-      body = query_on 12 (same 1 0 ∷ same 2 1 ∷ []) (col 1 0 ∷ []) [];
-    }))
+drop_adoption_reads : IsDrop drop_adoption_text 2 7 12 (0 ∷ 1 ∷ [])
 unfolding understood everything
 drop_adoption_reads = record { is = refl; plain = (refl, refl); fits = (refl, refl) }
-
-abbrev drop_adoption_test : ℕ → List ℕ → Row → Bool
-drop_adoption_test document reference cs = is_true
-    (binary (Compare Eq Binary) (column cs 0) (Int (pos document)))
-    && (is_true (binary (Compare Eq Binary) (column cs 1) (Text reference)) && true)
-
-drop_adoption_test_is : (document : ℕ) (reference : List ℕ) (row : AdoptionRow)
-    → drop_adoption_test document reference (adoption_cells row)
-    ≡ is_adoption document reference row
-drop_adoption_test_is document reference row = rw (
-  int_test row.document document,
-  text_test row.reference reference,
-  and_true (bytes_eq row.reference reference),
-) (refl)
 
 pub adoption_dropped : (document : ℕ) (reference : List ℕ)
     → Makes drop_adoption_text (number document ∷ Text reference ∷ [])
@@ -196,14 +153,11 @@ pub adoption_dropped : (document : ℕ) (reference : List ℕ)
       adoption = filter (λ row. not (is_adoption document reference row))
           t.adoption;
     })
-adoption_dropped document reference old new =
-    let this = d.adoption_table in
-    deleted_turns this.name 12 this.columns this.key this.primary this.uniques this.orders rows_of
+adoption_dropped document reference =
+    drops adoption_view (is_adoption document reference)
     (λ t. record t {
       adoption = filter (λ row. not (is_adoption document reference row))
           t.adoption;
-    }) 7 refl drop_adoption_text (number document ∷ Text reference ∷ []) (same 1 0 ∷ same 2 1 ∷ [])
-    (drop_adoption_test document reference) drop_adoption_reads refl (λ r. refl)
-    (λ t. search not_other)
-    (λ t. dropped adoption_cells (drop_adoption_test document reference)
-    (is_adoption document reference) (drop_adoption_test_is document reference) t.adoption) old new
+    }) (λ t. refl) (λ t. search not_other) drop_adoption_text ((0, number document) ∷ (1, Text reference) ∷ []) drop_adoption_reads refl
+    (λ r. refl)
+    (λ row. number_then row.document document (last_text_test row.reference reference))
