@@ -137,7 +137,7 @@ IsTaken this width cs = (accepts_terms (terms_of this.key 0 width) cs ≡ true)
 -- what is plain of a table's rows, which have cells for so many columns
 pub record Fits (this : Table) {X : Type 0} (cells_of : X → Row) (place width : ℕ) : Type 0 where
   listed : slice_get d.desk_schema.tables place ≡ Some (as_declared this)
-  reals : table_reals (as_declared this) ≡ 0
+  pub reals : table_reals (as_declared this) ≡ 0
   first : IsFirst this.name this.tree this.columns this.key this.primary this.uniques this.orders
       this.key
   narrow : (nat_lt 0 width && nat_le width 8) ≡ true
@@ -149,7 +149,7 @@ pub record Fits (this : Table) {X : Type 0} (cells_of : X → Row) (place width 
 
 -- a table takes these rows by INSERT
 pub record Takes (this : Table) {X : Type 0} (cells_of : X → Row) (place width : ℕ) : Type 0 where
-  fits : Fits this cells_of place width
+  pub fits : Fits this cells_of place width
   makes : (x : X) (stored : List Row)
       → with_rowid Chosen stored (cast_row (as_declared this) (source_of this.key (cells_of x)))
       ≡ as_stored this.key (next_rowid stored) (cells_of x)
@@ -164,7 +164,7 @@ record Gives (this : Table) {X : Type 0} (cells_of : X → Row) (terms : List Te
 
 module _ {this : Table} {X : Type 0} {cells_of : X → Row} {place width : ℕ}
     (takes : Takes this cells_of place width) where
-  abbrev Suiting : Trees → Row → Type 0
+  abbrev pub Suiting : Trees → Row → Type 0
   Suiting = Suits this.name this.tree this.columns this.key this.primary this.uniques this.orders
 
   suit : (trees : Trees) (x : X) → AllByRecursion IsSmall (cells_of x)
