@@ -22,7 +22,7 @@ use Rattle.sqlite_rules.specs.Calls.{ids_of}
 use Rattle.sqlite_rules.specs.Action.{works, work_for}
 use Rattle.sqlite_rules.proofs.ActionLemmas.{no_works}
 use Rattle.sqlite.specs.Effect.{Database, value_rows, Answers}
-use Rattle.sqlite.specs.Rows.{Then, Gives, Queried, Edited, Written, Task}
+use Rattle.sqlite.specs.Rows.{Part, Then, Gives, Queried, Edited, Written, Task}
 use Rattle.sqlite.specs.Does.{Tally, Does, Concludes}
 use Rattle.sqlite.specs.State.{State, mode_of}
 use Rattle.sqlite.proofs.Callers.{one_step}
@@ -69,6 +69,14 @@ stepped schema old new edit done written now trees applies = record {
       (sym (ap (λ (d : Database). d.trees) now ∙ trees)) applies;
 }
 
+-- A query shows rows, and the edit that they make is written: a DELETE or an UPDATE.
+abbrev pub Editing : Schema → State → Row → Program → (List Row → Edit) → (List Row → List Row)
+    → Part Written
+Editing schema s params q edit out =
+    Then (Queried s.step_limit (at schema s.now.trees) q params)
+    (λ rows. Then (Edited schema Enforced s.now.trees (edit rows))
+    (λ next. Gives (record { trees = next; rows = out rows; last = None })))
+
 module _ (name : List ℕ) (tree : ℕ) (columns : List Column) (key : Option ℕ) (primary : List ℕ)
     (uniques : List (List ℕ)) (orders : List Order) where
   abbrev this : Table
@@ -111,10 +119,8 @@ module _ (name : List ℕ) (tree : ℕ) (columns : List Column) (key : Option �
 
     -- the edit that the rows of a query make
     edits : (q : Program) (edit : List Row → Edit) (out : List Row → List Row)
-        → Then (Then (Queried s.step_limit (at schema s.now.trees) q params)
-        (λ rows. Then (Edited schema Enforced s.now.trees (edit rows))
-        (λ next. Gives (record { trees = next; rows = out rows; last = None }))))
-        (Concludes doing (mode_of s) None) (Ok (tally, new))
+        → Then (Editing schema s params q edit out) (Concludes doing (mode_of s) None)
+        (Ok (tally, new))
         → (rows : List Row) × Answers (at schema s.now.trees) q params rows
         × Stepped schema s.now new (edit rows)
     edits q edit out it =

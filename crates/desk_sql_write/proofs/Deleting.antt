@@ -1,18 +1,14 @@
 -- A DELETE fails only for a cause, if the tables can hold the rows that it leaves.
 use Rattle.std.proofs.Common.{◌≡◌, ◌≢◌, ◌∙◌, inl, inr, ℕ, ◌+◌, Bool, true, false, not, List, []}
-use Rattle.std.proofs.Common.{◌∷◌, filter, map, length, slice_get, Option, Some, None, IfErr, Ok}
-use Rattle.std.proofs.Common.{Err, Result, refl, sym, ap, subst, subst₂, arith}
+use Rattle.std.proofs.Common.{◌∷◌, filter, length, slice_get, Option, Some, None, IfErr, Ok}
+use Rattle.std.proofs.Common.{Err, Result, refl, sym, subst, arith}
 use Rattle.std.specs.Prelude.{nat_lt}
 use Rattle.std.specs.List.{AllByRecursion}
 use Rattle.std.specs.List.Sorted.{IsPermutation}
-use Rattle.std.proofs.lemmas.List.Sorted.{IsPermutation-sym, IsPermutation-map}
 use Rattle.sqlite_value.specs.declared.keys.Order.{Order}
-use Rattle.sqlite_value.specs.declared.value.Value.TheVariants.{Null, Int}
 use Rattle.sqlite_value.specs.Order.{Row}
 use Rattle.sqlite_trees.specs.Tree.{Trees, rowid, with_tree}
-use Rattle.sqlite_trees.specs.View.{is_int}
-use Rattle.sqlite_trees.proofs.ListLemmas.{all-filter, map-map}
-use Rattle.sqlite_sql.specs.Query.{Output, output}
+use Rattle.sqlite_trees.proofs.ListLemmas.{all-filter}
 use Rattle.sqlite_sql.specs.Term.{Term, col}
 use Rattle.sqlite_schema.specs.declared.schema.Column.{Column}
 use Rattle.sqlite_schema.specs.declared.schema.Constraint.TheVariants.{Datatype, NotNull, Check}
@@ -27,15 +23,13 @@ use Rattle.sqlite_rules.specs.declared.error.Refusal.{Refusal}
 use Rattle.sqlite_rules.specs.declared.error.Refusal.TheVariants.{Violates, Mismatch, NoRowid, BadReference, TooDeep}
 use Rattle.sqlite_rules.specs.declared.error.Rowids.TheVariants.{Given}
 use Rattle.sqlite_rules.specs.Calls.{ids_of}
-use Rattle.sqlite_rules.specs.Edit.{id_in, edit_of, without_all, IsRefused}
+use Rattle.sqlite_rules.specs.Edit.{Edit, edit_of, taken_by, without_all, IsRefused}
 use Rattle.sqlite_rules.specs.Lists.{Has}
-use Rattle.sqlite_rules.proofs.ListLemmas.{all_has, has_filtered, has_kept, has_got}
-use Rattle.sqlite_rules.proofs.ProbeLemmas.{has_mapped, mapped_has}
-use Rattle.sqlite_rules.proofs.TableLemmas.{int_is}
+use Rattle.sqlite_rules.proofs.ListLemmas.{all_has, has_got}
 use Rattle.sqlite.specs.declared.error.Error.{Error}
 use Rattle.sqlite.specs.Effect.{Answers}
 use Rattle.sqlite.specs.Listing.{understood}
-use Rattle.sqlite.specs.Rows.{Then, Queried, Deletes, Task}
+use Rattle.sqlite.specs.Rows.{Then, Queried}
 use Rattle.sqlite.specs.Does.{Does, Concludes}
 use Rattle.sqlite.specs.State.{State, Executes, Survives, mode_of}
 use Rattle.sqlite.proofs.Callers.{statement_of, runs_as}
@@ -43,47 +37,18 @@ use Rattle.desk_model.specs.declared.command.Fault.{Fault}
 use Rattle.desk_sql_layout.specs.Held.{HasRows}
 use Rattle.desk_sql_layout.specs.Layout.{desk_schema, table_of}
 use Rattle.desk_sql_layout.specs.Stored.{cells, AreStored}
-use Rattle.desk_sql_layout.proofs.Edits.{AreIdsOf, left_is, has_permuted}
 use Rattle.desk_sql_layout.proofs.Keeps.{stored_less}
-use Rattle.desk_sql_layout.proofs.Queries.{query_on, passes, env, selected}
+use Rattle.desk_sql_layout.proofs.Queries.{query_on, passes}
 use Rattle.desk_sql_layout.proofs.Statements.{alone, deleted}
-use Rattle.desk_sql_layout.proofs.Steps.{at, deletes}
-use Rattle.desk_sql_layout.proofs.Writes.{stored_as}
+use Rattle.desk_sql_layout.proofs.Steps.{Editing, at, deletes}
+use Rattle.desk_sql_layout.proofs.Writes.{left_by, stored_as}
 use Rattle.desk_sql_write.specs.Taking.{HaveKeys, LeavesRoom, HasRoom, RanInto}
 use Rattle.desk_sql_write.specs.Turning.{Turns}
 use Rattle.desk_sql_write.specs.Written.{Ran}
 use Rattle.desk_sql_write.proofs.Failing.{Reads, caused, turns_by}
 use Rattle.desk_sql_write.proofs.Inserting.{rooms_after}
 use Rattle.desk_sql_write.proofs.Keyed.{unique_kept}
-use Rattle.desk_sql_write.proofs.Refusing.{IsFree, fits_none, never_stops, never_concludes, stored_with}
-
--- the rowids that a query showed first
-pub ids_are : (p : Row → Bool) (g : Row → Row) (stored rows : List Row)
-    → ((r : Row) → rowid (g r) ≡ rowid r) → AllByRecursion (λ r. is_int (rowid r) ≡ true) stored
-    → IsPermutation (map g (filter p stored)) rows → AreIdsOf p stored (ids_of rows)
-ids_are p g stored rows first keyed same = record {
-  sound = λ id there.
-      let x = has_mapped (λ r. id_in (rowid r)) rows id there in
-      let y = has_mapped g (filter p stored) x.0 (has_permuted _ _ x.0 same x.1) in
-      let z = has_filtered p stored y.0 y.1 in
-      let whole = int_is (rowid y.0)
-      (all_has (λ r. is_int (rowid r) ≡ true) stored y.0 keyed z.0) in (
-        y.0,
-        z.0,
-        z.1,
-        whole ∙ ap (λ v. Int (id_in v)) (sym (first y.0))
-            ∙ ap (λ r. Int (id_in (rowid r))) (sym y.2) ∙ ap Int (sym x.2),
-      );
-  complete = λ r there yes.
-      let shown = mapped_has g (filter p stored) r (has_kept p stored r there yes) in
-      let got = has_permuted rows (map g (filter p stored)) (g r) (IsPermutation-sym _ _ same)
-      shown in (
-        id_in (rowid (g r)),
-        mapped_has (λ x. id_in (rowid x)) rows (g r) got,
-        int_is (rowid r) (all_has (λ r. is_int (rowid r) ≡ true) stored r keyed there)
-            ∙ ap (λ v. Int (id_in v)) (sym (first r)),
-      );
-}
+use Rattle.desk_sql_write.proofs.Refusing.{IsFree, doing, fits_none, never_ends, never_stops, stored_with}
 
 -- a query of one table is never refused
 pub no_refusal : (trees : Trees) (tree : ℕ) (tests project : List Term) (params : Row)
@@ -104,6 +69,29 @@ no_refusal trees tree tests project params limit (Some e) none accepts (inr (inl
 ))) = any.4
 no_refusal trees tree tests project params limit (Some e) none accepts (inr (inr limited)) = absurd
     (let no = rw none at limited.1 in cc)
+
+-- a statement is not stopped if the rows that its query shows make an edit that nothing refuses
+pub never_edited : (this : Table) (s : State) (params : Row) (tree : ℕ)
+    (tests project : List Term) (edit : List Row → Edit) (out : List Row → List Row)
+    → let q : Program = record { lets = []; body = query_on tree tests project [] } in
+    s.step_limit ≡ None
+    → accepts_program desk_schema [] (query_on tree tests project []) params ≡ true
+    → ((found : List Row) → Answers (at desk_schema s.now.trees) q params found
+    → IsFree s.now.trees (edit found))
+    → (stop : Option Error) → Then (Editing desk_schema s params q edit out)
+    (Concludes (doing this s params) (mode_of s) None) (Err stop) → ⊥
+never_edited this s params tree tests project edit out none accepts free =
+    never_ends (doing this s params) (mode_of s)
+    (Editing desk_schema s params (record { lets = []; body = query_on tree tests project [] }) edit
+    out) refl edits
+  where
+    edits : (st : Option Error) → Editing desk_schema s params
+        (record { lets = []; body = query_on tree tests project [] }) edit out (Err st) → ⊥
+    edits st (inl (e, queried, told)) = no_refusal s.now.trees tree tests project params
+        s.step_limit e none accepts queried
+    edits st (inr (found, answers, inl (e, stopped, told))) = never_stops s.now.trees
+        (edit found) e (free found answers) stopped
+    edits st (inr (found, answers, inr (next, edited, gives))) = absurd (let no = gives in cc)
 
 module _ (name : List ℕ) (tree : ℕ) (columns : List Column) (key : Option ℕ) (primary : List ℕ)
     (uniques : List (List ℕ)) (orders : List Order) where
@@ -130,19 +118,8 @@ module _ (name : List ℕ) (tree : ℕ) (columns : List Column) (key : Option �
     left : (found : List Row) → Answers (at desk_schema s.now.trees) program params found
         → without_all (s.now.trees tree) (ids_of found)
         ≡ filter (λ r. not (passes tests params r)) (s.now.trees tree)
-    left found answers =
-        let stored = s.now.trees tree in
-        let sel = selected tree tests (col 1 0 ∷ []) [] s.now.trees params found
-        (answers.answer Null) in
-        let g = λ (r : Row). rowid r ∷ [] in
-        let shown : IsPermutation (map g (filter (passes tests params) stored)) found =
-        subst₂ (λ xs ys. IsPermutation xs ys)
-        (map-map (λ (o : Output). o.1)
-        (λ r. output (query_on tree tests (col 1 0 ∷ []) []) (env params r))
-        (filter (passes tests params) stored)) (sym sel.shown)
-        (IsPermutation-map (λ (o : Output). o.1) _ _ sel.same) in
-        left_is (passes tests params) stored (ids_of found) mine.rising
-        (ids_are (passes tests params) g stored found (λ r. refl) mine.keyed shown)
+    left found answers = left_by desk_schema s.now.trees tree tests [] params found answers this
+        (rows tree) mine
 
     free : HaveKeys after → (found : List Row)
         → Answers (at desk_schema s.now.trees) program params found
@@ -177,28 +154,11 @@ module _ (name : List ℕ) (tree : ℕ) (columns : List Column) (key : Option �
         → HaveKeys after
         → (stop : Option Error) → Does s.step_limit (mode_of s) params s.now text None
         (Delete place program) (Err stop) → ⊥
-    never_deleted none text accepts keys stop did = go (rw (has.declared, listed) at did)
-      where
-        doing : Task
-        doing = record {
-          limit = s.step_limit;
-          keys = Enforced;
-          schema = desk_schema;
-          table = this;
-          params = params;
-        }
-
-        removes : (st : Option Error) → Deletes doing program s.now.trees (Err st) → ⊥
-        removes st (inl (e, queried, told)) = no_refusal s.now.trees tree tests (col 1 0 ∷ [])
-            params s.step_limit e none accepts queried
-        removes st (inr (found, answers, inl (e, stopped, told))) = never_stops s.now.trees
-            (edit_of s.now.trees this (ids_of found) Given 0 []) e (free keys found answers) stopped
-        removes st (inr (found, answers, inr (next, edited, gives))) = absurd (let no = gives in cc)
-
-        go : Then (Deletes doing program s.now.trees) (Concludes doing (mode_of s) None) (Err stop)
-            → ⊥
-        go (inl (st, deleting, told)) = removes st deleting
-        go (inr (w, deleting, concludes)) = never_concludes doing (mode_of s) w stop refl concludes
+    never_deleted none text accepts keys stop did =
+        let edit = λ (found : List Row). edit_of s.now.trees this (ids_of found) Given 0 [] in
+        never_edited this s params tree tests (col 1 0 ∷ []) edit
+        (λ found. taken_by s.now.trees (edit found)) none accepts (free keys) stop
+        (rw (has.declared, listed) at did)
 
   module _ {A : Type 0} (rows : A → ℕ → List Row) (made : A → A) (place : ℕ)
       (listed : slice_get desk_schema.tables place ≡ Some this) (sql : List ℕ) (params : Row)

@@ -1,5 +1,5 @@
 -- A statement is refused only for its rows, and an INSERT for none that the tables can hold.
-use Rattle.std.proofs.Common.{◌≡◌, ◌≢◌, ◌∙◌, inl, inr, ℕ, zero, suc, Bool, true, false, not, cond}
+use Rattle.std.proofs.Common.{◌≡◌, ◌≢◌, ◌∙◌, inl, inr, ℕ, ℤ, zero, suc, Bool, true, false, not, cond}
 use Rattle.std.proofs.Common.{List, [], ◌∷◌, ◌++◌, length, slice_get, flat_map, Option, Some, None}
 use Rattle.std.proofs.Common.{Err, refl, sym, ap, subst, arith, append-nil, length-append}
 use Rattle.std.specs.Prelude.{nat_lt, ◌||◌, ◌==◌, ◌/◌}
@@ -9,6 +9,7 @@ use Rattle.std.proofs.lemmas.Bool.Decides.{nat_tests}
 use Rattle.sqlite_value.specs.declared.keys.Order.{Order}
 use Rattle.sqlite_value.specs.Order.{Row}
 use Rattle.sqlite_trees.specs.Tree.{Trees, rowid, with_tree}
+use Rattle.sqlite_sql.specs.Ops.{fits_i64}
 use Rattle.sqlite_sql.specs.Term.{Term}
 use Rattle.sqlite_schema.specs.declared.schema.Among.{Among}
 use Rattle.sqlite_schema.specs.declared.schema.Column.{Column}
@@ -24,16 +25,18 @@ use Rattle.sqlite_schema.specs.Rules.{Refers, has_parent, is_among, passes, refe
 use Rattle.sqlite_typing.specs.Types.{accepts_terms}
 use Rattle.sqlite_rules.specs.declared.error.Refusal.{Refusal}
 use Rattle.sqlite_rules.specs.declared.error.Refusal.TheVariants.{Violates, Mismatch, NoRowid, BadReference, TooDeep}
+use Rattle.sqlite_rules.specs.declared.error.Rowids.{Rowids}
 use Rattle.sqlite_rules.specs.declared.error.Rowids.TheVariants.{Chosen}
 use Rattle.sqlite_rules.specs.Action.{Writes, works, work_for}
-use Rattle.sqlite_rules.specs.Edit.{Edit, edit_of, edited, taken_by, IsRefused, IsOversized}
+use Rattle.sqlite_rules.specs.Edit.{Edit, id_in, edit_of, edited, taken_by, IsRefused, IsOversized}
+use Rattle.sqlite_rules.specs.Edit.{are_fresh, have_rowids, without_all}
 use Rattle.sqlite_rules.specs.Lists.{Has}
 use Rattle.sqlite_rules.proofs.ListLemmas.{all_from, all_has, has_got, test_from}
 use Rattle.sqlite_rules.proofs.RuleLemmas.{same_table}
 use Rattle.sqlite.specs.declared.run.Mode.{Mode}
 use Rattle.sqlite.specs.declared.error.Error.{Error}
 use Rattle.sqlite.specs.Effect.{Database, value_rows}
-use Rattle.sqlite.specs.Rows.{Then, Edited, Sourced, Inserts, Written, Task}
+use Rattle.sqlite.specs.Rows.{Part, Then, Edited, Sourced, Inserts, Written, Task}
 use Rattle.sqlite.specs.Does.{Does, Concludes, due}
 use Rattle.sqlite.specs.State.{State, mode_of}
 use Rattle.desk_sql_layout.specs.Layout.{desk_schema, table_of}
@@ -45,7 +48,7 @@ use Rattle.desk_sql_layout.specs.Held.{HasRows}
 use Rattle.desk_sql_layout.proofs.Writes.{stored_as}
 use Rattle.desk_sql_write.specs.Taking.{HaveKeys, StandsOnce, HasRoom, LeavesRoom}
 use Rattle.desk_sql_write.proofs.Keyed.{unique_kept}
-use Rattle.desk_sql_write.proofs.Puts.{AreShown, IsRight, IsFirst, Make, Suits, ArePut, puts, once_permuted}
+use Rattle.desk_sql_write.proofs.Puts.{AreShown, IsRight, IsFirst, Make, Suits, puts, once_permuted}
 use Rattle.desk_sql_write.proofs.Storable.{never_oversized}
 
 -- ---- foreign keys, of which there are none
@@ -104,6 +107,24 @@ never_concludes task mode w stop is (inr (d, tested, inl (s, e, told))) = absurd
 never_concludes task mode w stop is (inr (d, tested, inr (shown, e, gives))) = absurd (let no =
     gives in cc)
 
+-- nor does the statement, if its writing does not
+pub never_ends : (task : Task) (mode : Mode) (writing : Part Written) → task.schema ≡ desk_schema
+    → ((stop : Option Error) → writing (Err stop) → ⊥) → (stop : Option Error)
+    → Then writing (Concludes task mode None) (Err stop) → ⊥
+never_ends task mode writing is never stop (inl (st, written, told)) = never st written
+never_ends task mode writing is never stop (inr (w, written, concludes)) =
+    never_concludes task mode w stop is concludes
+
+-- a statement on a table of the desk
+abbrev pub doing : Table → State → Row → Task
+doing table s params = record {
+  limit = s.step_limit;
+  keys = Enforced;
+  schema = desk_schema;
+  table = table;
+  params = params;
+}
+
 -- ---- the other tables are as they were
 
 pub stored_with : (rows after : ℕ → List Row) (trees : Trees) (this : Table) (es : List Row)
@@ -148,46 +169,51 @@ module _ (name : List ℕ) (tree : ℕ) (columns : List Column) (key : Option �
   abbrev this : Table
   this = table_of name tree columns key primary uniques orders
 
-  insert_free : (after : ℕ → List Row) (trees : Trees) (shown sources wanted : List Row)
-      → table_reals this ≡ 0 → ArePut name tree columns key primary uniques orders trees
-      (trees tree) shown sources wanted
-      → AllStored desk_schema after
-      (with_tree trees tree (edited trees (edit_of trees this [] Chosen 0 sources)))
-      → HaveKeys after → IsFree trees (edit_of trees this [] Chosen 0 sources)
-  insert_free after trees shown sources wanted none put stored keys = record {
+  -- an edit whose rows the table can hold
+  pub rows_free : (after : ℕ → List Row) (trees : Trees) (gone : List ℤ) (rowids : Rowids)
+      (from : ℕ) (sources : List Row) → let edit = edit_of trees this gone rowids from sources in
+      table_reals this ≡ 0
+      → AllByRecursion (IsRight name tree columns key primary uniques orders trees) edit.news
+      → have_rowids edit.news ≡ true
+      → list_all (λ r. fits_i64 (id_in (rowid r))) edit.news ≡ true
+      → are_fresh (without_all (trees tree) gone) edit.news ≡ true
+      → AllStored desk_schema after (with_tree trees tree (edited trees edit)) → HaveKeys after
+      → IsFree trees edit
+  rows_free after trees gone rowids from sources none right keyed fits fresh stored keys = record {
     allowed = allowed;
-    stored = λ row has. let it = all_has Right news row put.right has in
+    stored = λ row has. let it = all_has Right news row right has in
         never_oversized this row none it.light it.some it.few;
   }
     where
       Right : Row → Type 0
       Right = IsRight name tree columns key primary uniques orders trees
 
-      news : List Row
-      news = (edit_of trees this [] Chosen 0 sources).news
+      edit : Edit
+      edit = edit_of trees this gone rowids from sources
 
-      allowed : (why : Refusal) → IsRefused desk_schema Enforced trees
-          (edit_of trees this [] Chosen 0 sources) why → ⊥
-      allowed (Violates Datatype) refused = contrary
-          (list_all (passes Datatype desk_schema trees this) news)
-          (test_from (passes Datatype desk_schema trees this) news
-          (λ r h. (all_has Right news r put.right h).typed)) refused
-      allowed (Violates NotNull) refused = contrary
-          (list_all (passes NotNull desk_schema trees this) news)
-          (test_from (passes NotNull desk_schema trees this) news
-          (λ r h. (all_has Right news r put.right h).present)) refused
-      allowed (Violates Check) refused = contrary
-          (list_all (passes Check desk_schema trees this) news)
-          (test_from (passes Check desk_schema trees this) news (λ r h. refl)) refused
-      allowed (Violates PrimaryKey) refused = absurd (let no = sym refused ∙ put.fresh in cc)
+      news : List Row
+      news = edit.news
+
+      passing : (c : Row → Bool) → ((r : Row) → Right r → c r ≡ true)
+          → list_all c news ≡ false → ⊥
+      passing c holds = contrary (list_all c news)
+          (test_from c news (λ r h. holds r (all_has Right news r right h)))
+
+      allowed : (why : Refusal) → IsRefused desk_schema Enforced trees edit why → ⊥
+      allowed (Violates Datatype) refused =
+          passing (passes Datatype desk_schema trees this) (λ r it. it.typed) refused
+      allowed (Violates NotNull) refused =
+          passing (passes NotNull desk_schema trees this) (λ r it. it.present) refused
+      allowed (Violates Check) refused =
+          passing (passes Check desk_schema trees this) (λ r it. refl) refused
+      allowed (Violates PrimaryKey) refused = absurd (let no = sym refused ∙ fresh in cc)
       allowed (Violates Unique) refused = refused
-          (unique_kept after (with_tree trees tree
-          (edited trees (edit_of trees this [] Chosen 0 sources))) stored keys)
+          (unique_kept after (with_tree trees tree (edited trees edit)) stored keys)
       allowed (Violates ForeignKey) refused = refused
-      allowed Mismatch refused = absurd (let no = sym refused ∙ put.keyed in cc)
-      allowed NoRowid refused = absurd (let no = sym refused ∙ put.fits in cc)
+      allowed Mismatch refused = absurd (let no = sym refused ∙ keyed in cc)
+      allowed NoRowid refused = absurd (let no = sym refused ∙ fits in cc)
       allowed BadReference refused = absurd (let no = sym refused
-          ∙ fits_none this refl (nat_lt 0 (length news)) false in cc)
+          ∙ fits_none this refl (nat_lt 0 (length news)) (nat_lt 0 (length gone)) in cc)
       allowed TooDeep refused = refused
 
   module _ (limit : Option ℕ) (none : limit ≡ None) (keys : Keys) (params : Row) (db : Trees)
@@ -232,22 +258,11 @@ module _ (name : List ℕ) (tree : ℕ) (columns : List Column) (key : Option �
     pub never_refused : (stop : Option Error)
         → Does s.step_limit (mode_of s) params s.now text None (Insert place (Values terms width))
         (Err stop) → ⊥
-    never_refused stop did = go (rw (has, listed) at did)
-      where
-        doing : Task
-        doing = record {
-          limit = s.step_limit;
-          keys = Enforced;
-          schema = desk_schema;
-          table = this;
-          params = params;
-        }
-
-        go : Then (Inserts doing (Values terms width) s.now.trees)
-            (Concludes doing (mode_of s) None) (Err stop) → ⊥
-        go (inl (st, inserts, told)) = never_inserts s.step_limit none Enforced params s.now.trees
-            terms width accepts free st inserts
-        go (inr (w, inserts, concludes)) = never_concludes doing (mode_of s) w stop refl concludes
+    never_refused stop did =
+        never_ends (doing this s params) (mode_of s) (Inserts (doing this s params)
+        (Values terms width) s.now.trees) refl
+        (never_inserts s.step_limit none Enforced params s.now.trees terms width accepts free) stop
+        (rw (has, listed) at did)
 
   -- ---- an INSERT of rows that the tables can hold
 
@@ -283,6 +298,7 @@ module _ (name : List ℕ) (tree : ℕ) (columns : List Column) (key : Option �
         (trees t.tree)) desk_schema.tables this room.room there) in
         let stored = stored_with rows after trees this _ there has.stored same
         (stored_as this (wanted ++ rows tree) (after tree) _ perm put.are) in
-        let free = insert_free after trees (rows tree) sources wanted reals put stored keys in
+        let free = rows_free after trees [] Chosen 0 sources reals put.right put.keyed put.fits
+        put.fresh stored keys in
         never_refused place listed s has.declared none params text terms width accepts
         (subst (λ rows. IsFree trees (edit_of trees this [] Chosen 0 rows)) (sym source) free)

@@ -3,7 +3,7 @@ use Rattle.std.proofs.Common.{◌≡◌, ◌≢◌, ◌∙◌, inl, inr, ℕ, �
 use Rattle.std.proofs.Common.{List, [], ◌∷◌, ◌++◌, filter, map, drop, length, length-append}
 use Rattle.std.proofs.Common.{slice_get, Option, Some, None, IfErr, Ok, Err, Result, refl, sym, ap}
 use Rattle.std.proofs.Common.{subst, subst₂, arith}
-use Rattle.std.specs.Prelude.{nat_lt, if◌then◌else◌}
+use Rattle.std.specs.Prelude.{if◌then◌else◌}
 use Rattle.std.specs.List.{AllByRecursion, list_all}
 use Rattle.std.specs.Ordering.{is_eq}
 use Rattle.std.specs.declared.cmp.Ordering.{Ordering}
@@ -16,31 +16,23 @@ use Rattle.std.proofs.lemmas.List.Sorted.{IsPermutation-sym, IsPermutation-map}
 use Rattle.std.proofs.lemmas.List.Sorted.{IsPermutation-middle, IsPermutation-trans}
 use Rattle.std.proofs.lemmas.List.Sorted.{IsPermutation-append_right, length_permutation}
 use Rattle.sqlite_value.specs.declared.keys.Order.{Order}
-use Rattle.sqlite_value.specs.declared.value.Value.TheVariants.{Null, Int}
+use Rattle.sqlite_value.specs.declared.value.Value.TheVariants.{Int}
 use Rattle.sqlite_value.specs.Order.{Row, value_cmp}
-use Rattle.sqlite_trees.specs.Tree.{Trees, rowid, has_rowid, put_row, with_tree, IsTable}
+use Rattle.sqlite_trees.specs.Tree.{Trees, rowid, has_rowid, put_row, IsTable}
 use Rattle.sqlite_trees.specs.View.{is_int}
 use Rattle.sqlite_trees.proofs.ListLemmas.{map-map, IsPermutation-filter, all-permutation}
 use Rattle.sqlite_sql.specs.Ops.{fits_i64}
-use Rattle.sqlite_sql.specs.Query.{Output, output}
 use Rattle.sqlite_sql.specs.Term.{Term, col, eval_all}
 use Rattle.sqlite_schema.specs.declared.schema.Column.{Column}
-use Rattle.sqlite_schema.specs.declared.schema.Constraint.TheVariants.{Datatype, NotNull, Check}
-use Rattle.sqlite_schema.specs.declared.schema.Constraint.TheVariants.{PrimaryKey, Unique}
-use Rattle.sqlite_schema.specs.declared.schema.Constraint.TheVariants.{ForeignKey}
-use Rattle.sqlite_schema.specs.declared.schema.Keys.TheVariants.{Enforced}
 use Rattle.sqlite_schema.specs.declared.schema.Table.{Table}
 use Rattle.sqlite_schema.specs.declared.program.Program.{Program}
 use Rattle.sqlite_schema.specs.declared.command.Command.TheVariants.{Update}
-use Rattle.sqlite_schema.specs.Rules.{Keeps, table_reals}
-use Rattle.sqlite_schema.specs.Rules.{passes as table_passes}
+use Rattle.sqlite_schema.specs.Rules.{table_reals}
 use Rattle.sqlite_typing.specs.Types.{accepts_program}
-use Rattle.sqlite_rules.specs.declared.error.Refusal.{Refusal}
-use Rattle.sqlite_rules.specs.declared.error.Refusal.TheVariants.{Violates, Mismatch, NoRowid, BadReference, TooDeep}
 use Rattle.sqlite_rules.specs.declared.error.Rowids.TheVariants.{Given}
 use Rattle.sqlite_rules.specs.Calls.{ids_of}
 use Rattle.sqlite_rules.specs.Cast.{cast_row}
-use Rattle.sqlite_rules.specs.Edit.{Edit, id_in, edit_of, is_taken, are_fresh, put_all, without_all, IsRefused}
+use Rattle.sqlite_rules.specs.Edit.{Edit, id_in, edit_of, is_taken, are_fresh, put_all, without_all}
 use Rattle.sqlite_rules.specs.Lists.{Has}
 use Rattle.sqlite_rules.proofs.ListLemmas.{all_from, all_has, has_filtered, has_kept, has_got}
 use Rattle.sqlite_rules.proofs.ListLemmas.{has_right, some_has, test_from}
@@ -50,32 +42,30 @@ use Rattle.sqlite_rules.proofs.TableLemmas.{int_is, put_all_has, taken_is}
 use Rattle.sqlite.specs.declared.error.Error.{Error}
 use Rattle.sqlite.specs.Effect.{Answers}
 use Rattle.sqlite.specs.Listing.{understood}
-use Rattle.sqlite.specs.Rows.{Then, Updates, Task}
-use Rattle.sqlite.specs.Does.{Does, Concludes}
+use Rattle.sqlite.specs.Does.{Does}
 use Rattle.sqlite.specs.State.{State, Executes, Survives, mode_of}
 use Rattle.sqlite.proofs.Callers.{statement_of, runs_as}
 use Rattle.desk_model.specs.declared.command.Fault.{Fault}
 use Rattle.desk_sql_layout.specs.Held.{HasRows}
 use Rattle.desk_sql_layout.specs.Layout.{desk_schema, table_of}
 use Rattle.desk_sql_layout.specs.Stored.{cells, AreStored}
-use Rattle.desk_sql_layout.proofs.Edits.{left_is, has_permuted, changed_where, put_fresh}
+use Rattle.desk_sql_layout.proofs.Edits.{has_permuted, changed_where, put_fresh}
 use Rattle.desk_sql_layout.proofs.Keeps.{stored_changed}
-use Rattle.desk_sql_layout.proofs.Queries.{query_on, passes, env, selected}
+use Rattle.desk_sql_layout.proofs.Queries.{query_on, passes, env}
 use Rattle.desk_sql_layout.proofs.Statements.{alone, updated}
 use Rattle.desk_sql_layout.proofs.Steps.{at, updates}
-use Rattle.desk_sql_layout.proofs.Writes.{stored_as}
+use Rattle.desk_sql_layout.proofs.Writes.{left_by, shown_by, stored_as}
 use Rattle.desk_sql_write.specs.Taking.{IsSmall, HaveKeys, LeavesRoom, HasRoom, RanInto}
 use Rattle.desk_sql_write.specs.Turning.{Turns}
 use Rattle.desk_sql_write.specs.Written.{Ran}
-use Rattle.desk_sql_write.proofs.Deleting.{ids_are, no_refusal}
+use Rattle.desk_sql_write.proofs.Deleting.{never_edited}
 use Rattle.desk_sql_write.proofs.Failing.{Reads, caused, turns_by}
 use Rattle.desk_sql_write.proofs.Inserting.{rooms_after}
-use Rattle.desk_sql_write.proofs.Keyed.{unique_kept, some_there}
+use Rattle.desk_sql_write.proofs.Keyed.{some_there}
 use Rattle.desk_sql_write.proofs.Lists.{filter_both}
 use Rattle.desk_sql_write.proofs.Puts.{as_stored, IsRight, Suits, fitting}
 use Rattle.desk_sql_write.proofs.Rooms.{fewer_left}
-use Rattle.desk_sql_write.proofs.Refusing.{IsFree, fits_none, never_stops, never_concludes, stored_with}
-use Rattle.desk_sql_write.proofs.Storable.{never_oversized}
+use Rattle.desk_sql_write.proofs.Refusing.{IsFree, rows_free, stored_with}
 
 -- ---- rowids that appear once
 
@@ -214,18 +204,11 @@ module _ (name : List ℕ) (tree : ℕ) (columns : List Column) (key : Option �
         found) where
       shown : IsPermutation (map (λ r. rowid r ∷ eval_all project (env params r)) (filter p stored))
           found
-      shown =
-          let query = query_on tree tests (col 1 0 ∷ project) [] in
-          let sel = selected tree tests (col 1 0 ∷ project) [] s.now.trees params found
-          (answers.answer Null) in
-          subst₂ (λ xs ys. IsPermutation xs ys)
-          (map-map (λ (o : Output). o.1) (λ r. output query (env params r)) (filter p stored))
-          (sym sel.shown) (IsPermutation-map (λ (o : Output). o.1) _ _ sel.same)
+      shown = shown_by desk_schema s.now.trees tree tests project params found answers
 
       left : without_all stored (ids_of found) ≡ kept
-      left = left_is p stored (ids_of found) mine.rising
-          (ids_are p (λ r. rowid r ∷ eval_all project (env params r)) stored found (λ r. refl)
-          mine.keyed shown)
+      left = left_by desk_schema s.now.trees tree tests project params found answers this
+          (rows tree) mine
 
       news_are : (edit_of s.now.trees this (ids_of found) Given 1 found).news ≡ map cast found
       news_are = given (without_all stored (ids_of found)) (map cast found)
@@ -323,48 +306,14 @@ module _ (name : List ℕ) (tree : ℕ) (columns : List Column) (key : Option �
             (λ r has_r. all_has (λ r. c r ≡ true) (map cast found) r all has_r))
 
         free : IsFree s.now.trees edit
-        free = record {
-          allowed = allowed;
-          stored = λ row has_row. let it =
-              all_has Right edit.news row (subst (AllByRecursion Right) (sym news_are) right)
-              has_row in never_oversized this row reals it.light it.some it.few;
-        }
-          where
-            rights : (Q : Row → Type 0) → ((r : Row) → Right r → Q r)
-                → AllByRecursion Q (map cast found)
-            rights Q holds = all_from Q (map cast found)
-                (λ r has_r. holds r (all_has Right (map cast found) r right has_r))
-
-            allowed : (why : Refusal) → IsRefused desk_schema Enforced s.now.trees edit why → ⊥
-            allowed (Violates Datatype) refused = absurd (let no = sym refused
-                ∙ passing_all (table_passes Datatype desk_schema s.now.trees this)
-                (rights (λ r. table_passes Datatype desk_schema s.now.trees this r ≡ true)
-                (λ r it. it.typed)) in cc)
-            allowed (Violates NotNull) refused = absurd (let no = sym refused
-                ∙ passing_all (table_passes NotNull desk_schema s.now.trees this)
-                (rights (λ r. table_passes NotNull desk_schema s.now.trees this r ≡ true)
-                (λ r it. it.present)) in cc)
-            allowed (Violates Check) refused = absurd (let no = sym refused
-                ∙ passing_all (table_passes Check desk_schema s.now.trees this)
-                (rights (λ r. table_passes Check desk_schema s.now.trees this r ≡ true)
-                (λ r it. refl)) in cc)
-            allowed (Violates PrimaryKey) refused = absurd (let no = sym refused
-                ∙ subst₂ (λ l n. are_fresh l n ≡ true) (sym left) (sym news_are) fresh in cc)
-            allowed (Violates Unique) refused = refused
-                (subst₂ (λ l n. Keeps Unique desk_schema (with_tree s.now.trees tree (put_all l n)))
-                (sym left) (sym news_are)
-                (unique_kept after (with_tree s.now.trees tree (put_all kept (map cast found)))
-                (stored_with rows after s.now.trees this (put_all kept (map cast found)) there
-                has.stored same are) keys))
-            allowed (Violates ForeignKey) refused = refused
-            allowed Mismatch refused = absurd (let no = sym refused
-                ∙ passing_all (λ r. is_int (rowid r)) keyed in cc)
-            allowed NoRowid refused = absurd (let no = sym refused
-                ∙ passing_all (λ r. fits_i64 (id_in (rowid r))) fits in cc)
-            allowed BadReference refused = absurd (let no = sym refused
-                ∙ fits_none this refl (nat_lt 0 (length edit.news)) (nat_lt 0 (length edit.gone)) in
-                cc)
-            allowed TooDeep refused = refused
+        free = rows_free name tree columns key primary uniques orders after s.now.trees
+            (ids_of found) Given 1 found reals (subst (AllByRecursion Right) (sym news_are) right)
+            (passing_all (λ r. is_int (rowid r)) keyed)
+            (passing_all (λ r. fits_i64 (id_in (rowid r))) fits)
+            (subst₂ (λ l n. are_fresh l n ≡ true) (sym left) (sym news_are) fresh)
+            (stored_with rows after s.now.trees this _ there has.stored same
+            (subst₂ (λ l n. AreStored this (after tree) (put_all l n)) (sym left) (sym news_are)
+            are)) keys
 
       rooms_kept : (n : ℕ) → AllByRecursion (λ r. LeavesRoom n (rowid r)) stored
           → AllByRecursion (λ r. LeavesRoom n (rowid r))
@@ -389,30 +338,11 @@ module _ (name : List ℕ) (tree : ℕ) (columns : List Column) (key : Option �
         (after tree) → HaveKeys after → HasRoom 0 s.now.trees
         → (stop : Option Error) → Does s.step_limit (mode_of s) params s.now text None
         (Update place program) (Err stop) → ⊥
-    never_updated none text accepts reals suits keys room stop did = go
+    never_updated none text accepts reals suits keys room stop did =
+        let edit = λ (found : List Row). edit_of s.now.trees this (ids_of found) Given 1 found in
+        never_edited this s params tree tests (col 1 0 ∷ project) edit (λ found. (edit found).news)
+        none accepts (λ found answers. free found answers reals suits keys room) stop
         (rw (has.declared, listed) at did)
-      where
-        doing : Task
-        doing = record {
-          limit = s.step_limit;
-          keys = Enforced;
-          schema = desk_schema;
-          table = this;
-          params = params;
-        }
-
-        sets : (st : Option Error) → Updates doing program params s.now.trees (Err st) → ⊥
-        sets st (inl (e, queried, told)) = no_refusal s.now.trees tree tests (col 1 0 ∷ project)
-            params s.step_limit e none accepts queried
-        sets st (inr (found, answers, inl (e, stopped, told))) = never_stops s.now.trees
-            (edit_of s.now.trees this (ids_of found) Given 1 found) e
-            (free found answers reals suits keys room) stopped
-        sets st (inr (found, answers, inr (next, edited, gives))) = absurd (let no = gives in cc)
-
-        go : Then (Updates doing program params s.now.trees) (Concludes doing (mode_of s) None)
-            (Err stop) → ⊥
-        go (inl (st, setting, told)) = sets st setting
-        go (inr (w, setting, concludes)) = never_concludes doing (mode_of s) w stop refl concludes
 
   module _ {A : Type 0} (rows : A → ℕ → List Row) (made : A → A) (place : ℕ)
       (listed : slice_get desk_schema.tables place ≡ Some this) (sql : List ℕ) (params : Row)
