@@ -49,7 +49,7 @@ went (inr on) = on
 abbrev pub HasNoKeys : Schema → Type 0
 HasNoKeys schema = AllByRecursion (λ t. t.references ≡ []) schema.tables
 
-no_actions : (schema : Schema) (keys : Keys) (depth tree : ℕ) (olds news : List Row)
+pub no_actions : (schema : Schema) (keys : Keys) (depth tree : ℕ) (olds news : List Row)
     → HasNoKeys schema → works schema keys depth tree olds news ≡ []
 no_actions schema keys depth tree olds news none = each schema.tables none
   where

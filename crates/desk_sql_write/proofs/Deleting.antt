@@ -1,7 +1,7 @@
 -- A DELETE fails only for a cause, if the tables can hold the rows that it leaves.
 use Rattle.std.proofs.Common.{◌≡◌, ◌≢◌, ◌∙◌, inl, inr, ℕ, ◌+◌, Bool, true, false, not, List, []}
 use Rattle.std.proofs.Common.{◌∷◌, filter, length, slice_get, Option, Some, None, IfErr, Ok}
-use Rattle.std.proofs.Common.{Err, Result, refl, sym, subst, arith}
+use Rattle.std.proofs.Common.{Err, Result, refl, sym, subst}
 use Rattle.std.specs.Prelude.{nat_lt}
 use Rattle.std.specs.List.{AllByRecursion}
 use Rattle.std.specs.List.Sorted.{IsPermutation}
@@ -46,7 +46,7 @@ use Rattle.desk_sql_write.specs.Taking.{HaveKeys, LeavesRoom, HasRoom, RanInto}
 use Rattle.desk_sql_write.specs.Turning.{Turns}
 use Rattle.desk_sql_write.specs.Written.{Ran}
 use Rattle.desk_sql_write.proofs.Failing.{Reads, caused, turns_by}
-use Rattle.desk_sql_write.proofs.Inserting.{rooms_after}
+use Rattle.desk_sql_write.proofs.Inserting.{rooms_left}
 use Rattle.desk_sql_write.proofs.Keyed.{unique_kept}
 use Rattle.desk_sql_write.proofs.Refusing.{IsFree, doing, fits_none, never_ends, never_stops, stored_with}
 
@@ -186,17 +186,13 @@ module _ (name : List ℕ) (tree : ℕ) (columns : List Column) (key : Option �
         w.tally program w.changed in
         let kept = left place listed (rows a) (rows (made a)) (same a) old has params tests q agree
         (perm a) step.0 step.1 in
-        let same_many : n + 0 ≡ n = omega arith in
-        rooms_after 0 n old.now.trees new.now.trees this
+        rooms_left n old.now.trees new.now.trees this
         (edit_of old.now.trees this (ids_of step.0) Given 0 []) refl
         (has_got desk_schema.tables place this listed) step.2.applies room
-        (λ r low. omega (arith, low))
-        (λ rs all. subst (λ m. AllByRecursion (λ r. LeavesRoom m (rowid r)) rs) same_many all)
         (λ none before. subst (AllByRecursion (λ r. LeavesRoom n (rowid r)))
         (sym (step.2.applies.rows ∙ kept))
         (all-filter (λ r. LeavesRoom n (rowid r)) (λ r. not (passes tests params r))
-        (old.now.trees tree) (subst (λ m. AllByRecursion (λ r. LeavesRoom m (rowid r))
-        (old.now.trees tree)) same_many before)))
+        (old.now.trees tree) before))
 
     pub deleted_turns : (r : Result (Unit {0}) Fault) → Ran sql params old new r
         → IfErr r (RanInto sql params old new) → Survives old new (λ _. ⊥)

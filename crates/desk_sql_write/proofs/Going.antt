@@ -1,6 +1,6 @@
 -- Writes, one after another, fail only for a cause if each does.
 use Rattle.std.proofs.Common.{◌≡◌, ◌∙◌, ◌⊎◌, inl, inr, ℕ, ◌+◌, ◌-◌, ◌≤◌, List, [], ◌∷◌, ◌++◌}
-use Rattle.std.proofs.Common.{filter, length, length-append, None, Ok, Err, Result, refl, sym, ap}
+use Rattle.std.proofs.Common.{None, Ok, Err, Result, refl, sym}
 use Rattle.std.proofs.Common.{subst, arith, rules}
 use Rattle.std.specs.List.{AllByRecursion}
 use Rattle.std.specs.Result.{IsErrAnd}
@@ -17,7 +17,7 @@ use Rattle.desk_sql_layout.specs.Layout.{desk_schema}
 use Rattle.desk_sql_write.specs.Taking.{IsSmall, StandsOnce, CanStand, HasRoom, LeavesRoom, IsCaused, in_cells}
 use Rattle.desk_sql_write.specs.Turning.{Turns}
 use Rattle.desk_sql_write.proofs.Inside.{clean_before, survives_both}
-use Rattle.desk_sql_write.proofs.Lists.{filter_both}
+use Rattle.desk_sql_write.proofs.Lists.{count_both}
 use Rattle.desk_sql_write.proofs.Rooms.{fewer_left, front_all}
 
 pub room_less : (n many : ℕ) (trees : Trees) → HasRoom (n + many) trees → HasRoom n trees
@@ -42,12 +42,7 @@ front_once : (xs ys : List Row) (places : List ℕ) → StandsOnce (xs ++ ys) pl
     → StandsOnce xs places
 front_once xs ys places once key =
     let p = λ (row : Row). agree plain (in_cells places) row (in_cells places) key in
-    omega (
-      arith,
-      once key,
-      ap length (filter_both p xs ys),
-      length-append (filter p xs) (filter p ys),
-    )
+    omega (arith, once key, count_both p xs ys)
 
 front_keys : (xs ys : List Row) (keys : List (List ℕ)) → AllByRecursion (StandsOnce (xs ++ ys)) keys
     → AllByRecursion (StandsOnce xs) keys

@@ -45,7 +45,7 @@ use Rattle.desk_sql_write.proofs.Refusing.{never_inserted}
 use Rattle.desk_sql_write.proofs.Rooms.{fewer_left, front_all}
 
 -- what an edit of one table leaves of the rowids of all tables
-pub rooms_after : (many n : ℕ) (old new : Trees) (this : Table) (edit : Edit) → edit.table ≡ this
+rooms_after : (many n : ℕ) (old new : Trees) (this : Table) (edit : Edit) → edit.table ≡ this
     → Has desk_schema.tables this → Applies desk_schema Enforced old edit new
     → HasRoom (n + many) old
     → ((r : ℕ) → n + many < r → n < r)
@@ -81,6 +81,16 @@ rooms_after many n old new this edit is listed applies room lower fewer mine = r
         (fewer (old t.tree) (all_has (λ t. t.key ≡ None
         → AllByRecursion (λ r. LeavesRoom (n + many) (rowid r)) (old t.tree)) desk_schema.tables t
         room.room there none))
+
+-- an edit that adds no row
+pub rooms_left : (n : ℕ) (old new : Trees) (this : Table) (edit : Edit) → edit.table ≡ this
+    → Has desk_schema.tables this → Applies desk_schema Enforced old edit new
+    → HasRoom (n + 0) old
+    → (this.key ≡ None → AllByRecursion (λ r. LeavesRoom n (rowid r)) (old this.tree)
+    → AllByRecursion (λ r. LeavesRoom n (rowid r)) (new this.tree)) → HasRoom n new
+rooms_left n old new this edit is listed applies room mine =
+    rooms_after 0 n old new this edit is listed applies room (λ r low. omega (arith, low))
+    (fewer_left n 0) (λ none before. mine none (fewer_left n 0 (old this.tree) before))
 
 module _ (name : List ℕ) (tree : ℕ) (columns : List Column) (key : Option ℕ) (primary : List ℕ)
     (uniques : List (List ℕ)) (orders : List Order) where

@@ -7,7 +7,7 @@ use Rattle.desk_model.specs.declared.row.ChangeRow.{ChangeRow}
 use Rattle.desk_sql_layout.specs.Cells.{is_waiver}
 use Rattle.std.proofs.Common.{◌≡◌, Bool, true, false, cond, drop, filter, flat_map, map, ℕ, zero}
 use Rattle.std.proofs.Common.{suc, ◌<◌, ◌≤◌, List, [], ◌∷◌, ◌++◌, take, length, get_or, refl, sym}
-use Rattle.std.proofs.Common.{ap, arith, add-one, ◌∙◌, ◌+◌}
+use Rattle.std.proofs.Common.{ap, arith, add-one, length-append, ◌∙◌, ◌+◌}
 
 pub append_nil : {X : Type 0} (xs : List X) → xs ++ [] ≡ xs
 append_nil [] = refl
@@ -51,6 +51,10 @@ filter_both p (x ∷ xs) ys = go (filter_both p xs ys) (p x)
         ≡ cond b (x ∷ filter p xs) (filter p xs) ++ filter p ys
     go more true = ap (λ l. x ∷ l) more
     go more false = more
+
+pub count_both : {X : Type 0} (p : X → Bool) (xs ys : List X)
+    → length (filter p (xs ++ ys)) ≡ length (filter p xs) + length (filter p ys)
+count_both p xs ys = ap length (filter_both p xs ys) ∙ length-append (filter p xs) (filter p ys)
 
 -- one more text after others that are joined
 pub join_more : (x : List ℕ) (xs : List (List ℕ)) (y : List ℕ)

@@ -1,7 +1,7 @@
 -- Rows that INSERT puts into a table, if the table can hold the rows after it.
 use Rattle.std.proofs.Common.{◌≡◌, inl, inr, ℕ, suc, ℤ, pos, ◌+◌, ◌^◌, ◌<◌, ◌≤◌, true, false, not}
 use Rattle.std.proofs.Common.{List, [], ◌∷◌, ◌++◌, map, filter, drop, length, Option, Some, None}
-use Rattle.std.proofs.Common.{length-append, refl, sym, ap, subst, arith}
+use Rattle.std.proofs.Common.{refl, sym, ap, subst, arith}
 use Rattle.std.specs.List.{AllByRecursion, list_all}
 use Rattle.std.specs.List.Sorted.{IsPermutation}
 use Rattle.std.specs.Ordering.{is_eq}
@@ -37,8 +37,8 @@ use Rattle.desk_sql_layout.proofs.Keeps.{stored_more}
 use Rattle.desk_sql_layout.proofs.Writes.{stored_as}
 use Rattle.desk_sql_write.specs.Taking.{StandsOnce, LeavesRoom, in_cells}
 use Rattle.desk_sql_write.proofs.Keyed.{some_there}
-use Rattle.desk_sql_write.proofs.Lists.{filter_both}
-use Rattle.desk_sql_write.proofs.Rooms.{less_rooms, next_room, room_fits}
+use Rattle.desk_sql_write.proofs.Lists.{count_both}
+use Rattle.desk_sql_write.proofs.Rooms.{fewer_left, next_room, room_fits}
 use Rattle.desk_sql_write.proofs.Storable.{IsLight}
 
 -- a row as it is stored: with an additional rowid, or with NULL in the column that is the rowid
@@ -68,16 +68,11 @@ once_permuted xs ys places same once key =
     omega (arith, once key, length_permutation _ _ (IsPermutation-filter p xs ys same))
 
 -- among fewer rows no key appears more often
-pub once_fewer : (xs ys : List Row) (places : List ℕ) → StandsOnce (xs ++ ys) places
+once_fewer : (xs ys : List Row) (places : List ℕ) → StandsOnce (xs ++ ys) places
     → StandsOnce ys places
 once_fewer xs ys places once key =
     let p = λ (row : Row). agree plain (in_cells places) row (in_cells places) key in
-    omega (
-      arith,
-      once key,
-      ap length (filter_both p xs ys),
-      length-append (filter p xs) (filter p ys),
-    )
+    omega (arith, once key, count_both p xs ys)
 
 once_behind : (w : Row) (wanted shown : List Row) (places : List ℕ)
     → StandsOnce (w ∷ wanted ++ shown) places → StandsOnce (w ∷ shown) places
@@ -229,7 +224,7 @@ module _ (name : List ℕ) (tree : ℕ) (columns : List Column) (key : Option �
       (stored_more this shown stored are new free keyed) in
       let later = λ (none : key ≡ None). all-put_row (λ r. LeavesRoom n (rowid r)) new stored
       (subst (λ r. LeavesRoom n (rowid r)) is (at_rowid_of key n id w none (leaves none)))
-      (less_rooms n stored (rooms none)) in
+      (fewer_left n 1 stored (rooms none)) in
       let rest = puts trees first sources wanted (w ∷ shown) (put_row new stored) here make.1
       shows.1 suits.1 (once_permuted _ _ primary
       (IsPermutation-sym _ _ (IsPermutation-middle wanted w shown)) once) low later in
@@ -269,4 +264,4 @@ module _ (name : List ℕ) (tree : ℕ) (columns : List Column) (key : Option �
       (subst (λ r. is_int (rowid r) ≡ true) is (keyed_row id w none)) keyed) low
       (all-put_row (λ r. LeavesRoom m (rowid r)) new stored
       (subst (λ r. LeavesRoom m (rowid r)) is (at_rowid_of key m id w none leaves))
-      (less_rooms m stored rooms))
+      (fewer_left m 1 stored rooms))

@@ -1,9 +1,9 @@
 -- A statement is refused only for its rows, and an INSERT for none that the tables can hold.
 use Rattle.std.proofs.Common.{◌≡◌, ◌≢◌, ◌∙◌, inl, inr, ℕ, ℤ, zero, suc, Bool, true, false, not, cond}
-use Rattle.std.proofs.Common.{List, [], ◌∷◌, ◌++◌, length, slice_get, flat_map, Option, Some, None}
+use Rattle.std.proofs.Common.{List, [], ◌∷◌, ◌++◌, length, slice_get, Option, Some, None}
 use Rattle.std.proofs.Common.{Err, refl, sym, ap, subst, arith, append-nil, length-append}
 use Rattle.std.specs.Prelude.{nat_lt, ◌||◌, ◌==◌, ◌/◌}
-use Rattle.std.specs.List.{AllByRecursion, filter_map, list_all}
+use Rattle.std.specs.List.{AllByRecursion, list_all}
 use Rattle.std.specs.List.Sorted.{IsPermutation}
 use Rattle.std.proofs.lemmas.Bool.Decides.{nat_tests}
 use Rattle.sqlite_value.specs.declared.keys.Order.{Order}
@@ -16,7 +16,6 @@ use Rattle.sqlite_schema.specs.declared.schema.Column.{Column}
 use Rattle.sqlite_schema.specs.declared.schema.Constraint.TheVariants.{Datatype, NotNull, Check}
 use Rattle.sqlite_schema.specs.declared.schema.Constraint.TheVariants.{PrimaryKey, Unique}
 use Rattle.sqlite_schema.specs.declared.schema.Constraint.TheVariants.{ForeignKey}
-use Rattle.sqlite_schema.specs.declared.schema.Keys.{Keys}
 use Rattle.sqlite_schema.specs.declared.schema.Keys.TheVariants.{Enforced}
 use Rattle.sqlite_schema.specs.declared.schema.Table.{Table}
 use Rattle.sqlite_schema.specs.declared.command.Command.TheVariants.{Insert}
@@ -45,6 +44,7 @@ use Rattle.desk_sql_layout.proofs.Keeps.{all_stored_after}
 use Rattle.desk_sql_layout.proofs.Statements.{alone, apart}
 use Rattle.desk_base.proofs.Bools.{contrary}
 use Rattle.desk_sql_layout.specs.Held.{HasRows}
+use Rattle.desk_sql_layout.proofs.Steps.{no_actions}
 use Rattle.desk_sql_layout.proofs.Writes.{stored_as}
 use Rattle.desk_sql_write.specs.Taking.{HaveKeys, StandsOnce, HasRoom, LeavesRoom}
 use Rattle.desk_sql_write.proofs.Keyed.{unique_kept}
@@ -52,16 +52,6 @@ use Rattle.desk_sql_write.proofs.Puts.{AreShown, IsRight, IsFirst, Make, Suits, 
 use Rattle.desk_sql_write.proofs.Storable.{never_oversized}
 
 -- ---- foreign keys, of which there are none
-
-pub no_works : (keys : Keys) (depth tree : ℕ) (olds news : List Row)
-    → works desk_schema keys depth tree olds news ≡ []
-no_works keys depth tree olds news = each desk_schema.tables alone
-  where
-    each : (tables : List Table) → AllByRecursion (λ t. t.references ≡ []) tables
-        → flat_map (λ child. filter_map (work_for desk_schema keys depth tree olds news child)
-        child.references) tables ≡ []
-    each [] h = refl
-    each (t ∷ tables) h = rw h.0 (each tables h.1)
 
 refers : (among : Among) (trees : Trees) → Refers among desk_schema trees
 refers among trees = all_from
@@ -91,7 +81,8 @@ pub never_stops : (trees : Trees) (edit : Edit) (stop : Option Error) → IsFree
 never_stops trees edit stop free (why, inl refused, told) = free.allowed refused.0 refused.1
 never_stops trees edit stop free (why, inr (inl big), told) = free.stored big.0 big.1 big.2
 never_stops trees edit stop free (why, inr (inr went), told) = settles went.2.0
-    (rw (no_works Enforced 0 edit.table.tree (taken_by trees edit) edit.news) at went.2.1)
+    (rw (no_actions desk_schema Enforced 0 edit.table.tree (taken_by trees edit) edit.news alone) at
+    went.2.1)
   where
     settles : (n : ℕ) → Rattle.sqlite_rules.specs.Action.Leads desk_schema Enforced n went.0 []
         (Err why) → ⊥
@@ -216,33 +207,27 @@ module _ (name : List ℕ) (tree : ℕ) (columns : List Column) (key : Option �
           ∙ fits_none this refl (nat_lt 0 (length news)) (nat_lt 0 (length gone)) in cc)
       allowed TooDeep refused = refused
 
-  module _ (limit : Option ℕ) (none : limit ≡ None) (keys : Keys) (params : Row) (db : Trees)
+  module _ (place : ℕ) (listed : slice_get desk_schema.tables place ≡ Some this) (s : State)
+      (has : s.now.schema ≡ desk_schema) (none : s.step_limit ≡ None) (params : Row) (text : List ℕ)
       (terms : List Term) (width : ℕ) (accepts : accepts_terms terms params ≡ true)
-      (free : IsFree db (edit_of db this [] Chosen 0
+      (free : IsFree s.now.trees (edit_of s.now.trees this [] Chosen 0
       (value_rows params width (length terms / width) terms))) where
-    abbrev task : Task
-    task = record {
-      limit = limit;
-      keys = Enforced;
-      schema = desk_schema;
-      table = this;
-      params = params;
-    }
-
-    never_inserts : (stop : Option Error) → Inserts task (Values terms width) db (Err stop) → ⊥
-    never_inserts stop (inl (s, sourced, told)) = no_source limit
-        (record { schema = desk_schema; trees = db }) (params ++ []) terms width s none
+    never_inserts : (stop : Option Error)
+        → Inserts (doing this s params) (Values terms width) s.now.trees (Err stop) → ⊥
+    never_inserts stop (inl (e, sourced, told)) = no_source s.step_limit
+        (record { schema = desk_schema; trees = s.now.trees }) (params ++ []) terms width e none
         (rw append-nil accepts) sourced
-    never_inserts stop (inr (rows, sourced, inl (s, e, told))) = absurd (let no = e in cc)
-    never_inserts stop (inr (rows, sourced, inr (counter, c, inl (s, stopped, told)))) =
+    never_inserts stop (inr (rows, sourced, inl (e, count, told))) = absurd (let no = count in cc)
+    never_inserts stop (inr (rows, sourced, inr (counter, c, inl (e, stopped, told)))) =
         let given : value_rows params width (length terms / width) terms ≡ rows =
         sym (sourced.1 ∙ rw append-nil refl) in
-        never_stops db (edit_of db this [] Chosen 0 rows) s
-        (subst (λ rows. IsFree db (edit_of db this [] Chosen 0 rows)) given free) stopped
+        never_stops s.now.trees (edit_of s.now.trees this [] Chosen 0 rows) e
+        (subst (λ rows. IsFree s.now.trees (edit_of s.now.trees this [] Chosen 0 rows)) given free)
+        stopped
     never_inserts stop (inr (
       rows,
       sourced,
-      inr (counter, c, inr (mid, e, inl (s, counts, told))),
+      inr (counter, c, inr (mid, e, inl (st, counts, told))),
     )) = absurd (let no = counts in cc)
     never_inserts stop (inr (
       rows,
@@ -250,19 +235,12 @@ module _ (name : List ℕ) (tree : ℕ) (columns : List Column) (key : Option �
       inr (counter, c, inr (mid, e, inr (next, counts, gives))),
     )) = absurd (let no = gives in cc)
 
-  module _ (place : ℕ) (listed : slice_get desk_schema.tables place ≡ Some this) (s : State)
-      (has : s.now.schema ≡ desk_schema) (none : s.step_limit ≡ None) (params : Row) (text : List ℕ)
-      (terms : List Term) (width : ℕ) (accepts : accepts_terms terms params ≡ true)
-      (free : IsFree s.now.trees (edit_of s.now.trees this [] Chosen 0
-      (value_rows params width (length terms / width) terms))) where
-    pub never_refused : (stop : Option Error)
+    never_refused : (stop : Option Error)
         → Does s.step_limit (mode_of s) params s.now text None (Insert place (Values terms width))
         (Err stop) → ⊥
     never_refused stop did =
         never_ends (doing this s params) (mode_of s) (Inserts (doing this s params)
-        (Values terms width) s.now.trees) refl
-        (never_inserts s.step_limit none Enforced params s.now.trees terms width accepts free) stop
-        (rw (has, listed) at did)
+        (Values terms width) s.now.trees) refl never_inserts stop (rw (has, listed) at did)
 
   -- ---- an INSERT of rows that the tables can hold
 

@@ -13,19 +13,6 @@ use Rattle.sqlite_sql.specs.Ops.{fits_i64}
 use Rattle.sqlite_rules.specs.Edit.{id_in, next_rowid}
 use Rattle.desk_sql_write.specs.Taking.{LeavesRoom}
 
-less_room : (n : ℕ) (v : Value) → LeavesRoom (n + 1) v → LeavesRoom n v
-less_room n Null h = h
-less_room n (Int (pos id)) h = omega (arith, h)
-less_room n (Int (negsuc id)) h = h
-less_room n (Real x) h = h
-less_room n (Text t) h = h
-less_room n (Blob b) h = h
-
-pub less_rooms : (n : ℕ) (rows : List Row) → AllByRecursion (λ r. LeavesRoom (n + 1) (rowid r)) rows
-    → AllByRecursion (λ r. LeavesRoom n (rowid r)) rows
-less_rooms n [] all = tt
-less_rooms n (r ∷ rows) all = (less_room n (rowid r) all.0, less_rooms n rows all.1)
-
 one_on : (n : ℕ) → n < 2 ^ 62 → (v : Value) → is_int v ≡ true → LeavesRoom (n + 1) v
     → LeavesRoom n (Int (id_in v +ℤ pos 1))
 one_on n few Null whole h = absurd (cc)

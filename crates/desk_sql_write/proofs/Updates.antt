@@ -14,12 +14,12 @@ use Rattle.sqlite_trees.proofs.ListLemmas.{IsPermutation-same}
 use Rattle.sqlite_sql.specs.declared.ops.BinaryOp.TheVariants.{Compare}
 use Rattle.sqlite_sql.specs.declared.ops.CompareOp.TheVariants.{Ge, Le}
 use Rattle.sqlite_sql.specs.Ops.{binary, is_true}
-use Rattle.sqlite_sql.specs.Term.{Term, lit, col, eval_all}
+use Rattle.sqlite_sql.specs.Term.{Term, lit, col}
 use Rattle.sqlite_schema.specs.declared.schema.Kind.TheVariants.{Integer, Text as Words}
 use Rattle.sqlite_schema.specs.declared.schema.Table.{Table}
 use Rattle.sqlite_schema.specs.declared.command.Command.TheVariants.{Update}
 use Rattle.sqlite_typing.specs.Types.{accepts_program}
-use Rattle.sqlite_rules.specs.Cast.{cast, cast_row}
+use Rattle.sqlite_rules.specs.Cast.{cast}
 use Rattle.sqlite_rules.specs.Edit.{id_in}
 use Rattle.sqlite_rules.proofs.TableLemmas.{int_is}
 use Rattle.sqlite_tied.specs.Compute.{everything}
@@ -37,7 +37,7 @@ use Rattle.desk_sql_layout.specs.Held.{rows_of}
 use Rattle.desk_sql_layout.specs.Stored.{cells}
 use Rattle.desk_sql_layout.proofs.Casts.{cast_int, cast_null, run_test, same, within}
 use Rattle.desk_sql_layout.proofs.Edits.{changed_where}
-use Rattle.desk_sql_layout.proofs.Queries.{env, passes, query_on}
+use Rattle.desk_sql_layout.proofs.Queries.{query_on}
 use Rattle.desk_sql_layout.proofs.Selecting.{as_declared}
 use Rattle.desk_sql_layout.proofs.Tests.{equals, last_text_test, number_test}
 use Rattle.desk_sql_layout.proofs.Views.{View, duty_view, release_view}
@@ -46,8 +46,7 @@ use Rattle.desk_sql_write.specs.Taking.{IsSmall}
 use Rattle.desk_sql_write.proofs.Failing.{Makes, Reads}
 use Rattle.desk_sql_write.proofs.Behind.{not_other}
 use Rattle.desk_sql_write.proofs.Inserts.{Suiting, Takes, duties, releases, suit_each}
-use Rattle.desk_sql_write.proofs.Puts.{as_stored}
-use Rattle.desk_sql_write.proofs.Updating.{updated_turns}
+use Rattle.desk_sql_write.proofs.Updating.{Remakes, updated_turns}
 
 -- a change of rows as a change of their cells
 changed_cells : {X : Type 0} (cells : X → Row) (test : X → Bool) (change : X → X) (q : Row → Bool)
@@ -75,6 +74,10 @@ IsChange text count place tree tests project = Reads text count (Update place (r
   lets = [];
   body = query_on tree tests (col 1 0 ∷ project) [];
 }))
+
+abbrev IsMade : Table → Row → List Term → List Term → (Row → Bool) → (Row → Row) → Type 0
+IsMade at =
+    Remakes at.name at.tree at.columns at.key at.primary at.uniques at.orders
 
 module _ {X : Type 0} (view : View X) {width : ℕ}
     (takes : Takes view.table view.cells_of view.place width) (test : X → Bool) (change : X → X)
@@ -107,19 +110,14 @@ module _ {X : Type 0} (view : View X) {width : ℕ}
   changes : (text : List ℕ) (params : Row) (tests project : List Term) (q : Row → Bool)
       (u : Row → Row) → IsChange text (length params) view.place tree tests project
       → accepts_program d.desk_schema [] (query_on tree tests (col 1 0 ∷ project) []) params ≡ true
-      → ((r : Row) → passes tests params r ≡ q (cells this r))
-      → ((r : Row) → is_int (rowid r) ≡ true → cast_row this (eval_all project (env params r))
-      ≡ as_stored view.table.key (id_in (rowid r)) (u (cells this r)))
-      → ((r : Row) → cells this (cast_row this (eval_all project (env params r))) ≡ u (cells this r))
-      → ((r : Row) → is_int (rowid r) ≡ true
-      → rowid (cast_row this (eval_all project (env params r))) ≡ rowid r)
+      → IsMade view.table params tests project q u
       → ((x : X) → q (view.cells_of x) ≡ test x)
       → ((x : X) → u (view.cells_of x) ≡ view.cells_of (change x)) → Makes text params made
-  changes text params tests project q u reads accepts agree form acts stays tested turns old new =
+  changes text params tests project q u reads accepts it tested turns old new =
       let at = view.table in
       updated_turns at.name at.tree at.columns at.key at.primary at.uniques at.orders rows_of made
-      view.place view.listed text params tests project q u reads accepts takes.fits.reals agree form
-      acts stays others (now_is q u tested turns) suits old new
+      view.place view.listed text params tests project q u reads accepts takes.fits.reals it others
+      (now_is q u tested turns) suits old new
 
 -- ---- freeze_release
 
@@ -151,9 +149,13 @@ release_frozen name revision =
     }) (λ t. refl) (λ t. search not_other) freeze_release_text
     (Text name ∷ Text (release_state_name Frozen) ∷ number revision ∷ []) (same 1 0 ∷ [])
     freeze_release_project (equals ((0, Text name) ∷ [])) (freeze_release_cells revision)
-    freeze_release_reads refl (λ r. refl)
-    (λ r whole. rw (cast_rowid (rowid r) whole, cast_int (pos revision)) refl)
-    (λ r. rw (cast_int (pos revision)) refl) (λ r. rowid_stays (rowid r))
+    freeze_release_reads refl
+    (record {
+      agree = λ r. refl;
+      form = λ r whole. rw (cast_rowid (rowid r) whole, cast_int (pos revision)) refl;
+      acts = λ r. rw (cast_int (pos revision)) refl;
+      stays = λ r. rowid_stays (rowid r);
+    })
     (λ row. last_text_test row.name name) (λ row. rw (cast_int (pos row.place)) refl)
 
 -- ---- withdraw_release
@@ -182,8 +184,13 @@ release_withdrawn name =
     (λ t. refl) (λ t. search not_other) withdraw_release_text
     (Text name ∷ Text (release_state_name Withdrawn) ∷ []) (same 1 0 ∷ [])
     withdraw_release_project (equals ((0, Text name) ∷ [])) withdraw_release_cells
-    withdraw_release_reads refl (λ r. refl)
-    (λ r whole. rw (cast_rowid (rowid r) whole) refl) (λ r. refl) (λ r. rowid_stays (rowid r))
+    withdraw_release_reads refl
+    (record {
+      agree = λ r. refl;
+      form = λ r whole. rw (cast_rowid (rowid r) whole) refl;
+      acts = λ r. refl;
+      stays = λ r. rowid_stays (rowid r);
+    })
     (λ row. last_text_test row.name name)
     (λ row. rw (cast_int (pos row.place), cast_int (pos row.revision)) refl)
 
@@ -218,8 +225,14 @@ duty_set n to =
     (λ t. record t { duty = changed (is_duty n) (with_duty_state to) t.duty }) (λ t. refl)
     (λ t. search not_other) set_duty_text (number n ∷ Text (duty_state_name to) ∷ [])
     (same 0 0 ∷ []) (duty_project 1) (equals ((0, number n) ∷ [])) (set_duty_cells to)
-    set_duty_reads refl (λ r. refl) (λ r whole. rw cast_null refl) (λ r. refl)
-    (λ r. rowid_stays (rowid r)) (λ row. number_test row.number n) (set_duty_turns to)
+    set_duty_reads refl
+    (record {
+      agree = λ r. refl;
+      form = λ r whole. rw cast_null refl;
+      acts = λ r. refl;
+      stays = λ r. rowid_stays (rowid r);
+    })
+    (λ row. number_test row.number n) (set_duty_turns to)
 
 -- ---- set_run
 
@@ -240,5 +253,11 @@ run_set first last to =
     (number first ∷ number last ∷ Text (duty_state_name to) ∷ []) (within 0) (duty_project 2)
     (λ cs. is_true (binary (Compare Ge Binary) (column cs 0) (Int (pos first)))
     && (is_true (binary (Compare Le Binary) (column cs 0) (Int (pos last))) && true))
-    (set_duty_cells to) set_run_reads refl (λ r. refl) (λ r whole. rw cast_null refl) (λ r. refl)
-    (λ r. rowid_stays (rowid r)) (λ row. run_test first last row.number) (set_duty_turns to)
+    (set_duty_cells to) set_run_reads refl
+    (record {
+      agree = λ r. refl;
+      form = λ r whole. rw cast_null refl;
+      acts = λ r. refl;
+      stays = λ r. rowid_stays (rowid r);
+    })
+    (λ row. run_test first last row.number) (set_duty_turns to)

@@ -1,6 +1,6 @@
 -- An UPDATE fails only for a cause, if the tables can hold the rows after it.
 use Rattle.std.proofs.Common.{◌≡◌, ◌≢◌, ◌∙◌, inl, inr, ℕ, ℤ, suc, ◌+◌, ◌≤◌, Bool, true, false, not}
-use Rattle.std.proofs.Common.{List, [], ◌∷◌, ◌++◌, filter, map, drop, length, length-append}
+use Rattle.std.proofs.Common.{List, [], ◌∷◌, ◌++◌, filter, map, drop, length}
 use Rattle.std.proofs.Common.{slice_get, Option, Some, None, IfErr, Ok, Err, Result, refl, sym, ap}
 use Rattle.std.proofs.Common.{subst, subst₂, arith}
 use Rattle.std.specs.Prelude.{if◌then◌else◌}
@@ -60,11 +60,10 @@ use Rattle.desk_sql_write.specs.Turning.{Turns}
 use Rattle.desk_sql_write.specs.Written.{Ran}
 use Rattle.desk_sql_write.proofs.Deleting.{never_edited}
 use Rattle.desk_sql_write.proofs.Failing.{Reads, caused, turns_by}
-use Rattle.desk_sql_write.proofs.Inserting.{rooms_after}
+use Rattle.desk_sql_write.proofs.Inserting.{rooms_left}
 use Rattle.desk_sql_write.proofs.Keyed.{some_there}
-use Rattle.desk_sql_write.proofs.Lists.{filter_both}
+use Rattle.desk_sql_write.proofs.Lists.{count_both}
 use Rattle.desk_sql_write.proofs.Puts.{as_stored, IsRight, Suits, fitting}
-use Rattle.desk_sql_write.proofs.Rooms.{fewer_left}
 use Rattle.desk_sql_write.proofs.Refusing.{IsFree, rows_free, stored_with}
 
 -- ---- rowids that appear once
@@ -162,18 +161,23 @@ module _ (name : List ℕ) (tree : ℕ) (columns : List Column) (key : Option �
   abbrev this : Table
   this = table_of name tree columns key primary uniques orders
 
+  -- which rows a text finds by these tests, and what these terms make of each
+  pub record Remakes (params : Row) (tests project : List Term) (q : Row → Bool)
+      (u : Row → Row) : Type 0 where
+    pub agree : (r : Row) → passes tests params r ≡ q (cells this r)
+    pub form : (r : Row) → is_int (rowid r) ≡ true
+        → cast_row this (eval_all project (env params r))
+        ≡ as_stored key (id_in (rowid r)) (u (cells this r))
+    pub acts : (r : Row) → cells this (cast_row this (eval_all project (env params r)))
+        ≡ u (cells this r)
+    pub stays : (r : Row) → is_int (rowid r) ≡ true
+        → rowid (cast_row this (eval_all project (env params r))) ≡ rowid r
+
   module _ (place : ℕ) (listed : slice_get desk_schema.tables place ≡ Some this)
       (rows after : ℕ → List Row) (same : AllByRecursion
       (λ t. t.tree ≢ tree → after t.tree ≡ rows t.tree) desk_schema.tables)
       (s : State) (has : HasRows rows s.now) (params : Row) (tests project : List Term)
-      (q : Row → Bool) (u : Row → Row)
-      (agree : (r : Row) → passes tests params r ≡ q (cells this r))
-      (form : (r : Row) → is_int (rowid r) ≡ true
-      → cast_row this (eval_all project (env params r))
-      ≡ as_stored key (id_in (rowid r)) (u (cells this r)))
-      (acts : (r : Row) → cells this (cast_row this (eval_all project (env params r)))
-      ≡ u (cells this r)) (stays : (r : Row) → is_int (rowid r) ≡ true
-      → rowid (cast_row this (eval_all project (env params r))) ≡ rowid r)
+      (q : Row → Bool) (u : Row → Row) (it : Remakes params tests project q u)
       (perm : IsPermutation (after tree) (changed_where q u (rows tree))) where
     abbrev program : Program
     program = record { lets = []; body = query_on tree tests (col 1 0 ∷ project) [] }
@@ -232,7 +236,7 @@ module _ (name : List ℕ) (tree : ℕ) (columns : List Column) (key : Option �
 
       keyed : AllByRecursion (λ r. is_int (rowid r) ≡ true) (map cast found)
       keyed = each_new (λ r. is_int (rowid r) ≡ true)
-          (λ r has_r yes_r. subst (λ v. is_int v ≡ true) (sym (stays r (whole_of r has_r)))
+          (λ r has_r yes_r. subst (λ v. is_int v ≡ true) (sym (it.stays r (whole_of r has_r)))
           (whole_of r has_r))
 
       fresh : are_fresh kept (map cast found) ≡ true
@@ -240,11 +244,10 @@ module _ (name : List ℕ) (tree : ℕ) (columns : List Column) (key : Option �
           let h = has_rowid id in
           let same_rows = all_from (λ r. h (f r) ≡ h r) (filter p stored)
           (λ r has_r. let was = has_filtered p stored r has_r in
-          ap (λ v. is_eq (value_cmp v (Int id))) (stays r (whole_of r was.0))) in
+          ap (λ v. is_eq (value_cmp v (Int id))) (it.stays r (whole_of r was.0))) in
           omega (
             arith,
-            ap length (filter_both h (map cast found) kept),
-            length-append (filter h (map cast found)) (filter h kept),
+            count_both h (map cast found) kept,
             length_permutation _ _ (IsPermutation-filter h _ _ made_of),
             mapped_count h f (filter p stored) same_rows,
             split_count h p stored,
@@ -253,7 +256,7 @@ module _ (name : List ℕ) (tree : ℕ) (columns : List Column) (key : Option �
 
       are : AreStored this (after tree) (put_all kept (map cast found))
       are = stored_as this _ (after tree) _ perm
-          (stored_changed this (rows tree) stored mine p q f u (map cast found) agree acts made_of
+          (stored_changed this (rows tree) stored mine p q f u (map cast found) it.agree it.acts made_of
           keyed fresh)
 
       cells_after : (r : Row) → Has stored r → p r ≡ true → Has (after tree) (u (cells this r))
@@ -263,7 +266,7 @@ module _ (name : List ℕ) (tree : ℕ) (columns : List Column) (key : Option �
           let changed = mapped_has (λ x. if q x then u x else x) (rows tree) (cells this r)
           in_rows in
           let is_u : (if q (cells this r) then u (cells this r)
-          else cells this r) ≡ u (cells this r) = rw (sym (agree r) ∙ yes_r) refl in
+          else cells this r) ≡ u (cells this r) = rw (sym (it.agree r) ∙ yes_r) refl in
           has_permuted (after tree) (changed_where q u (rows tree)) (u (cells this r)) perm
           (subst (Has (changed_where q u (rows tree))) is_u changed)
 
@@ -280,7 +283,7 @@ module _ (name : List ℕ) (tree : ℕ) (columns : List Column) (key : Option �
         Right = IsRight name tree columns key primary uniques orders s.now.trees
 
         right : AllByRecursion Right (map cast found)
-        right = each_new Right (λ r has_r yes_r. subst Right (sym (form r (whole_of r has_r)))
+        right = each_new Right (λ r has_r yes_r. subst Right (sym (it.form r (whole_of r has_r)))
             ((suited r has_r yes_r).right (id_in (rowid r))))
 
         leaving : key ≡ None → (r : Row) → Has stored r → LeavesRoom 0 (Int (id_in (rowid r)))
@@ -292,7 +295,7 @@ module _ (name : List ℕ) (tree : ℕ) (columns : List Column) (key : Option �
 
         fits : AllByRecursion (λ r. fits_i64 (id_in (rowid r)) ≡ true) (map cast found)
         fits = each_new (λ r. fits_i64 (id_in (rowid r)) ≡ true) (λ r has_r yes_r.
-            subst (λ r. fits_i64 (id_in (rowid r)) ≡ true) (sym (form r (whole_of r has_r)))
+            subst (λ r. fits_i64 (id_in (rowid r)) ≡ true) (sym (it.form r (whole_of r has_r)))
             (fitting name tree columns key primary uniques orders 0 (id_in (rowid r))
             (u (cells this r)) (λ none. leaving none r has_r) (suited r has_r yes_r).number))
 
@@ -325,7 +328,7 @@ module _ (name : List ℕ) (tree : ℕ) (columns : List Column) (key : Option �
           (λ x has_x. elim (put_all_has (map cast found) kept x has_x) [
             | inl new ↦ all_has (λ r. LeavesRoom n (rowid r)) (map cast found) x
                 (each_new (λ r. LeavesRoom n (rowid r))
-                (λ r has_r yes_r. subst (LeavesRoom n) (sym (stays r (whole_of r has_r)))
+                (λ r has_r yes_r. subst (LeavesRoom n) (sym (it.stays r (whole_of r has_r)))
                 (all_has (λ r. LeavesRoom n (rowid r)) stored r all has_r))) new
             | inr old ↦ all_has (λ r. LeavesRoom n (rowid r)) stored x all
                 (has_filtered (λ r. not (p r)) stored x old).0
@@ -351,13 +354,7 @@ module _ (name : List ℕ) (tree : ℕ) (columns : List Column) (key : Option �
       (Update place (record { lets = []; body = query_on tree tests (col 1 0 ∷ project) [] })))
       (accepts : accepts_program desk_schema [] (query_on tree tests (col 1 0 ∷ project) []) params
       ≡ true)
-      (reals : table_reals this ≡ 0) (agree : (r : Row) → passes tests params r ≡ q (cells this r))
-      (form : (r : Row) → is_int (rowid r) ≡ true
-      → cast_row this (eval_all project (env params r))
-      ≡ as_stored key (id_in (rowid r)) (u (cells this r)))
-      (acts : (r : Row) → cells this (cast_row this (eval_all project (env params r)))
-      ≡ u (cells this r)) (stays : (r : Row) → is_int (rowid r) ≡ true
-      → rowid (cast_row this (eval_all project (env params r))) ≡ rowid r)
+      (reals : table_reals this ≡ 0) (it : Remakes params tests project q u)
       (same : (a : A) → AllByRecursion (λ t. t.tree ≢ tree → rows (made a) t.tree ≡ rows a t.tree)
       desk_schema.tables) (perm : (a : A)
       → IsPermutation (rows (made a) tree) (changed_where q u (rows a tree)))
@@ -377,18 +374,14 @@ module _ (name : List ℕ) (tree : ℕ) (columns : List Column) (key : Option �
         let step = updates name tree columns key primary uniques orders desk_schema place listed
         alone old has.declared params (statement_of sql (understood desk_schema sql)) new.now
         w.tally program w.changed in
-        let same_many : n + 0 ≡ n = omega arith in
-        rooms_after 0 n old.now.trees new.now.trees this
+        rooms_left n old.now.trees new.now.trees this
         (edit_of old.now.trees this (ids_of step.0) Given 1 step.0) refl
         (has_got desk_schema.tables place this listed) step.2.applies room
-        (λ r low. omega (arith, low))
-        (fewer_left n 0)
         (λ none before. subst (AllByRecursion (λ r. LeavesRoom n (rowid r)))
         (sym step.2.applies.rows)
         (rooms_kept place listed (rows a) (rows (made a)) (same a) old has params tests project q u
-        agree form acts stays (perm a) step.0 step.1 n
-        (subst (λ m. AllByRecursion (λ r. LeavesRoom m (rowid r)) (old.now.trees tree)) same_many
-        before)))
+        it (perm a) step.0 step.1 n
+        before))
 
     pub updated_turns : (r : Result (Unit {0}) Fault) → Ran sql params old new r
         → IfErr r (RanInto sql params old new) → Survives old new (λ _. ⊥)
@@ -396,7 +389,7 @@ module _ (name : List ℕ) (tree : ℕ) (columns : List Column) (key : Option �
     updated_turns = turns_by rows (λ a. rows (made a)) 0 sql params old new
         (λ count a executed has. updated name tree columns key primary uniques orders place listed
         sql reads.plain params (rows a) (rows (made a)) (same a) old new count executed has tests
-        project q u reads.is agree acts (perm a))
+        project q u reads.is it.agree it.acts (perm a))
         uses
         (λ opened unlimited a has before after room.
         let small = all_has (λ t. AllByRecursion (AllByRecursion IsSmall) (rows (made a) t.tree))
@@ -405,5 +398,5 @@ module _ (name : List ℕ) (tree : ℕ) (columns : List Column) (key : Option �
         (Update place (record { lets = []; body = query_on tree tests (col 1 0 ∷ project) [] }))
         reads.is refl
         (never_updated place listed (rows a) (rows (made a)) (same a) old has params tests project q
-        u agree form acts stays (perm a) unlimited (statement_of sql (understood desk_schema sql))
+        u it (perm a) unlimited (statement_of sql (understood desk_schema sql))
         accepts reals (suits a old.now.trees small) after.keys room))
