@@ -1,9 +1,9 @@
 -- What each INSERT adds to its table, and why it fails.
 use Rattle.std.proofs.Common.{◌≡◌, ◌≢◌, ℕ, ℤ, zero, suc, pos, negsuc, ◌+◌, ◌<◌, ◌≤◌, true, List}
-use Rattle.std.proofs.Common.{[], ◌∷◌, map}
+use Rattle.std.proofs.Common.{[], ◌∷◌, drop, map}
 use Rattle.std.proofs.Common.{flat_map, length, codes, Option, Some, None, IfErr, Result, refl, sym}
 use Rattle.std.proofs.Common.{subst, arith}
-use Rattle.std.specs.Prelude.{if◌then◌else◌, ◌/◌, ◌&&◌, nat_le, nat_lt, slice_get}
+use Rattle.std.specs.Prelude.{◌/◌, ◌&&◌, nat_le, nat_lt, slice_get}
 use Rattle.std.proofs.lemmas.Bool.Decides.{nat_tests}
 use Rattle.std.specs.List.{AllByRecursion}
 use Rattle.std.proofs.lemmas.List.{length-map}
@@ -19,13 +19,13 @@ use Rattle.sqlite_schema.specs.declared.command.Source.TheVariants.{Values}
 use Rattle.sqlite_schema.specs.Rules.{passes, table_reals}
 use Rattle.sqlite_typing.specs.Types.{accepts_terms}
 use Rattle.sqlite_rules.specs.declared.error.Rowids.TheVariants.{Chosen}
-use Rattle.sqlite_rules.specs.Cast.{cast_row}
-use Rattle.sqlite_rules.specs.Edit.{next_rowid, with_rowid}
+use Rattle.sqlite_rules.specs.Cast.{cast_all, cast_row}
+use Rattle.sqlite_rules.specs.Edit.{id_in, next_rowid, with_rowid}
+use Rattle.sqlite_rules.proofs.TableLemmas.{int_is}
 use Rattle.sqlite_tied.specs.Compute.{everything}
 use Rattle.sqlite.specs.Effect.{value_rows}
 use Rattle.sqlite.specs.Listing.{understood}
 use Rattle.sqlite.specs.State.{State, Survives}
-use Rattle.desk_base.specs.Profiles.{profile_number}
 use Rattle.desk_model.specs.declared.command.Fault.{Fault}
 use Rattle.desk_model.specs.declared.row.AdoptionRow.{AdoptionRow}
 use Rattle.desk_model.specs.declared.row.AttachedRow.{AttachedRow}
@@ -127,6 +127,22 @@ length_stored None id cs some = omega arith
 length_stored (Some at) id [] some = absurd (omega (arith, some))
 length_stored (Some at) id (c ∷ cs) some = omega arith
 
+-- the columns leave these cells as they are
+abbrev StayCast : Table → Row → Type 0
+StayCast this row = cast_all this.columns (drop 1 row) ≡ drop 1 row
+
+-- so a row is stored as its source says
+made_of : (this : Table) (key : Option ℕ) (cs : Row) → StartsWhole key cs
+    → StayCast this (as_stored key (pos 0) cs) → (stored : List Row)
+    → with_rowid Chosen stored (cast_row (as_declared this) (source_of key cs))
+    ≡ as_stored key (next_rowid stored) cs
+made_of this None cs whole stay stored = rw (cast_null, stay) refl
+made_of this (Some at) [] whole stay stored = absurd (cc)
+made_of this (Some at) (c ∷ cs) whole stay stored =
+    subst (λ v. with_rowid Chosen stored (cast_row (as_declared this) (v ∷ Null ∷ cs))
+    ≡ v ∷ Null ∷ cs) (sym (int_is c whole))
+    (rw (cast_int (id_in c), stay) refl)
+
 -- the table takes these cells from the parameters, and in each of its columns
 abbrev IsTaken : Table → ℕ → Row → Type 0
 IsTaken this width cs = (accepts_terms (terms_of this.key 0 width) cs ≡ true)
@@ -134,8 +150,8 @@ IsTaken this width cs = (accepts_terms (terms_of this.key 0 width) cs ≡ true)
     → (passes Datatype d.desk_schema trees (as_declared this) (as_stored this.key id cs) ≡ true)
     × (passes NotNull d.desk_schema trees (as_declared this) (as_stored this.key id cs) ≡ true))
 
--- what is plain of a table's rows, which have cells for so many columns
-pub record Fits (this : Table) {X : Type 0} (cells_of : X → Row) (place width : ℕ) : Type 0 where
+-- a table takes rows with these cells, for so many columns, by INSERT
+pub record Takes (this : Table) {X : Type 0} (cells_of : X → Row) (place width : ℕ) : Type 0 where
   listed : slice_get d.desk_schema.tables place ≡ Some (as_declared this)
   pub reals : table_reals (as_declared this) ≡ 0
   first : IsFirst this.name this.tree this.columns this.key this.primary this.uniques this.orders
@@ -143,16 +159,10 @@ pub record Fits (this : Table) {X : Type 0} (cells_of : X → Row) (place width 
   narrow : (nat_lt 0 width && nat_le width 8) ≡ true
   counted : (x : X) → length (cells_of x) ≡ width
   whole : (x : X) → StartsWhole this.key (cells_of x)
+  stay : (x : X) → StayCast this (as_stored this.key (pos 0) (cells_of x))
   taken : (x : X) → IsTaken this width (cells_of x)
   shown : (x : X) (id : ℤ) → cells (as_declared this) (as_stored this.key id (cells_of x))
       ≡ cells_of x
-
--- a table takes these rows by INSERT
-pub record Takes (this : Table) {X : Type 0} (cells_of : X → Row) (place width : ℕ) : Type 0 where
-  pub fits : Fits this cells_of place width
-  makes : (x : X) (stored : List Row)
-      → with_rowid Chosen stored (cast_row (as_declared this) (source_of this.key (cells_of x)))
-      ≡ as_stored this.key (next_rowid stored) (cells_of x)
 
 -- what a text gives for these rows
 record Gives (this : Table) {X : Type 0} (cells_of : X → Row) (terms : List Term)
@@ -170,15 +180,14 @@ module _ {this : Table} {X : Type 0} {cells_of : X → Row} {place width : ℕ}
   suit : (trees : Trees) (x : X) → AllByRecursion IsSmall (cells_of x)
       → Suiting trees (cells_of x)
   suit trees x small =
-      let fits = takes.fits in
       let cs = cells_of x in
       let bounds : (0 < length cs) × (length cs ≤ 8) =
-      subst (λ n. (0 < n) × (n ≤ 8)) (sym (fits.counted x)) (within width fits.narrow) in
+      subst (λ n. (0 < n) × (n ≤ 8)) (sym (takes.counted x)) (within width takes.narrow) in
       record {
-        number = number_of this.key cs small (fits.whole x);
+        number = number_of this.key cs small (takes.whole x);
         right = λ id.
             let size = length_stored this.key id cs bounds.0 in
-            let typed = (fits.taken x).1 trees id in
+            let typed = (takes.taken x).1 trees id in
             record {
               typed = typed.0;
               present = typed.1;
@@ -201,25 +210,25 @@ module _ {this : Table} {X : Type 0} {cells_of : X → Row} {place width : ℕ}
       → Make this.name this.tree this.columns this.key this.primary this.uniques this.orders
       (map (λ x. source_of this.key (cells_of x)) rows) (map cells_of rows)
   make_each [] = tt
-  make_each (x ∷ rows) = (takes.makes x, make_each rows)
+  make_each (x ∷ rows) =
+      (made_of this this.key (cells_of x) (takes.whole x) (takes.stay x), make_each rows)
 
   shown_each : (rows : List X)
       → AreShown this.name this.tree this.columns this.key this.primary this.uniques this.orders
       (map cells_of rows)
   shown_each [] = tt
-  shown_each (x ∷ rows) = (takes.fits.shown x, shown_each rows)
+  shown_each (x ∷ rows) = (takes.shown x, shown_each rows)
 
   added : (text : List ℕ) (terms : List Term) (count : ℕ)
       → Reads text count (Insert place (Values terms (width + 1))) → (rows : List X)
       → Gives this cells_of terms width count rows
       → AreAdded text (flat_map cells_of rows) this.tree (map cells_of rows) (length rows)
   added text terms count reads rows gives old new r ran into survives =
-      let fits = takes.fits in
       let it = inserted_adds this.name this.tree this.columns this.key this.primary this.uniques
-      this.orders place fits.listed text (flat_map cells_of rows) terms (width + 1)
+      this.orders place takes.listed text (flat_map cells_of rows) terms (width + 1)
       (subst (λ n. Reads text n (Insert place (Values terms (width + 1)))) (sym gives.counted)
       reads) gives.accepted (map (λ x. source_of this.key (cells_of x)) rows) (map cells_of rows)
-      gives.given fits.reals fits.first (make_each rows) (shown_each rows)
+      gives.given takes.reals takes.first (make_each rows) (shown_each rows)
       (λ trees. suit_each trees rows) old new r ran into survives in
       subst (λ n. Adds (with_rows this.tree (map cells_of rows)) n old new r)
       (length-map rows cells_of) it
@@ -250,10 +259,7 @@ unfolding understood everything
 add_revision_reads = record { is = refl; plain = (refl, refl); fits = (refl, refl) }
 
 revisions : Takes d.catalogue_table catalogue_cells 1 2
-revisions = record {
-  fits = assumption;
-  makes = λ row stored. rw (cast_null, cast_int (pos row.revision)) refl;
-}
+revisions = search cast_null
 
 pub revision_added : (row : CatalogueRow) → IsAdded add_revision_text 1 (catalogue_cells row)
 revision_added row = one_added revisions add_revision_text add_revision_reads row assumption
@@ -268,10 +274,7 @@ unfolding understood everything
 add_rule_reads = record { is = refl; plain = (refl, refl); fits = (refl, refl) }
 
 rules : Takes d.rule_table rule_cells 2 5
-rules = record {
-  fits = assumption;
-  makes = λ row stored. rw (cast_null, cast_int (pos row.revision)) refl;
-}
+rules = search cast_int
 
 pub rule_added : (row : RuleRow) → IsAdded add_rule_text 2 (rule_cells row)
 rule_added row = one_added rules add_rule_text add_rule_reads row assumption
@@ -286,10 +289,7 @@ unfolding understood everything
 add_document_reads = record { is = refl; plain = (refl, refl); fits = (refl, refl) }
 
 documents : Takes d.document_table document_cells 3 3
-documents = record {
-  fits = assumption;
-  makes = λ row stored. rw (cast_null, cast_int (pos row.number)) refl;
-}
+documents = search cast_null
 
 pub document_added : (row : DocumentRow) → IsAdded add_document_text 4 (document_cells row)
 document_added row = one_added documents add_document_text add_document_reads row assumption
@@ -304,14 +304,7 @@ unfolding understood everything
 add_reading_reads = record { is = refl; plain = (refl, refl); fits = (refl, refl) }
 
 readings : Takes d.reading_table reading_cells 14 2
-readings = record {
-  fits = assumption;
-  makes = λ row stored. rw (
-    cast_null,
-    cast_int (pos row.number),
-    cast_int (pos (profile_number row.profile)),
-  ) refl;
-}
+readings = search (cast_null, cast_int)
 
 pub reading_added : (row : DocumentRow) → IsAdded add_reading_text 27 (reading_cells row)
 reading_added row = one_added readings add_reading_text add_reading_reads row assumption
@@ -340,17 +333,7 @@ package_taken row = go row.version row.concluded row.copyright
     go (Some s) (Some t) (Some u) = assumption
 
 packages : Takes d.package_table package_cells 4 7
-packages = record {
-  fits = assumption package_taken;
-  makes = λ row stored. rw (
-    cast_null,
-    cast_int (pos row.document),
-    cast_int (pos (if row.shipped then 1 else 0)),
-    cast_text row.version,
-    cast_text row.concluded,
-    cast_text row.copyright,
-  ) refl;
-}
+packages = search (package_taken, cast_int, cast_text)
 
 pub package_added : (row : PackageRow) → IsAdded add_package_text 6 (package_cells row)
 package_added row =
@@ -374,10 +357,7 @@ reference_taken row = go row.body
     go (Some s) = assumption
 
 references : Takes d.extracted_table extracted_cells 5 3
-references = record {
-  fits = assumption reference_taken;
-  makes = λ row stored. rw (cast_null, cast_int (pos row.document), cast_text row.body) refl;
-}
+references = search (reference_taken, cast_int, cast_text)
 
 pub reference_added : (row : ExtractedRow) → IsAdded add_reference_text 8 (extracted_cells row)
 reference_added row =
@@ -393,10 +373,7 @@ unfolding understood everything
 add_conclusion_reads = record { is = refl; plain = (refl, refl); fits = (refl, refl) }
 
 conclusions : Takes d.conclusion_table conclusion_cells 6 3
-conclusions = record {
-  fits = assumption;
-  makes = λ row stored. rw (cast_null, cast_int (pos row.document)) refl;
-}
+conclusions = search cast_int
 
 pub conclusion_added : (row : ConclusionRow) → IsAdded add_conclusion_text 10 (conclusion_cells row)
 conclusion_added row = one_added conclusions add_conclusion_text add_conclusion_reads row assumption
@@ -411,10 +388,7 @@ unfolding understood everything
 add_adoption_reads = record { is = refl; plain = (refl, refl); fits = (refl, refl) }
 
 adoptions : Takes d.adoption_table adoption_cells 7 3
-adoptions = record {
-  fits = assumption;
-  makes = λ row stored. rw (cast_null, cast_int (pos row.document)) refl;
-}
+adoptions = search cast_int
 
 pub adoption_added : (row : AdoptionRow) → IsAdded add_adoption_text 12 (adoption_cells row)
 adoption_added row = one_added adoptions add_adoption_text add_adoption_reads row assumption
@@ -429,10 +403,7 @@ unfolding understood everything
 add_release_reads = record { is = refl; plain = (refl, refl); fits = (refl, refl) }
 
 pub releases : Takes d.releases_table release_cells 8 5
-releases = record {
-  fits = assumption;
-  makes = λ row stored. rw (cast_null, cast_int (pos row.place), cast_int (pos row.revision)) refl;
-}
+releases = search cast_int
 
 pub release_added : (row : ReleaseRow) → IsAdded add_release_text 14 (release_cells row)
 release_added row = one_added releases add_release_text add_release_reads row assumption
@@ -447,10 +418,7 @@ unfolding understood everything
 add_attached_reads = record { is = refl; plain = (refl, refl); fits = (refl, refl) }
 
 attached : Takes d.attached_table attached_cells 9 2
-attached = record {
-  fits = assumption;
-  makes = λ row stored. rw (cast_null, cast_int (pos row.document)) refl;
-}
+attached = search cast_int
 
 pub attached_added : (row : AttachedRow) → IsAdded add_attached_text 17 (attached_cells row)
 attached_added row = one_added attached add_attached_text add_attached_reads row assumption
@@ -465,10 +433,7 @@ unfolding understood everything
 add_choice_reads = record { is = refl; plain = (refl, refl); fits = (refl, refl) }
 
 choices : Takes d.choice_table choice_cells 10 4
-choices = record {
-  fits = assumption;
-  makes = λ row stored. rw (cast_null, cast_int (pos row.document)) refl;
-}
+choices = search cast_int
 
 pub choice_added : (row : ChoiceRow) → IsAdded add_choice_text 19 (choice_cells row)
 choice_added row = one_added choices add_choice_text add_choice_reads row assumption
@@ -483,10 +448,7 @@ unfolding understood everything
 add_frozen_reads = record { is = refl; plain = (refl, refl); fits = (refl, refl) }
 
 frozen_terms : Takes d.frozen_table frozen_cells 11 5
-frozen_terms = record {
-  fits = assumption;
-  makes = λ row stored. rw (cast_null, cast_int (pos row.document)) refl;
-}
+frozen_terms = search cast_int
 
 pub frozen_added : (row : FrozenRow) → IsAdded add_frozen_text 21 (frozen_cells row)
 frozen_added row = one_added frozen_terms add_frozen_text add_frozen_reads row assumption
@@ -517,10 +479,7 @@ unfolding understood everything
 add_duty_reads = record { is = refl; plain = (refl, refl); fits = (refl, refl) }
 
 pub duties : Takes d.duty_table duty_cells 12 8
-duties = record {
-  fits = assumption;
-  makes = λ row stored. rw (cast_null, cast_int (pos row.number), cast_int (pos row.document)) refl;
-}
+duties = search (cast_null, cast_int)
 
 pub duty_added : (row : DutyRow) → IsAdded add_duty_text 23 (duty_cells row)
 duty_added row = one_added duties add_duty_text add_duty_reads row assumption
@@ -551,10 +510,7 @@ unfolding understood everything
 add_change_reads = record { is = refl; plain = (refl, refl); fits = (refl, refl) }
 
 changes : Takes d.change_table change_cells 13 5
-changes = record {
-  fits = assumption;
-  makes = λ row stored. rw (cast_null, cast_int (pos row.duty), cast_int (pos row.step)) refl;
-}
+changes = search cast_int
 
 pub change_added : (row : ChangeRow) → IsAdded add_change_text 25 (change_cells row)
 change_added row = one_added changes add_change_text add_change_reads row assumption
@@ -597,15 +553,7 @@ waiver_taken x = go x.0.last_day x.1
     go (Some s) some = assumption
 
 waivers : Takes d.waiver_table {X = Waiving} (λ x. waiver_cells x.0) 15 3
-waivers = record {
-  fits = assumption waiver_taken;
-  makes = λ x stored. rw (
-    cast_null,
-    cast_int (pos x.0.duty),
-    cast_int (pos x.0.step),
-    cast_text x.0.last_day,
-  ) refl;
-}
+waivers = search (waiver_taken, cast_int, cast_text)
 
 pub waiver_added : (row : ChangeRow) (some : row.last_day ≢ None)
     → IsAdded add_waiver_text 28 (waiver_cells row)

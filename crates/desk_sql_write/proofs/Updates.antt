@@ -116,7 +116,7 @@ module _ {X : Type 0} (view : View X) {width : ℕ}
   changes text params tests project q u reads accepts it tested turns old new =
       let at = view.table in
       updated_turns at.name at.tree at.columns at.key at.primary at.uniques at.orders rows_of made
-      view.place view.listed text params tests project q u reads accepts takes.fits.reals it others
+      view.place view.listed text params tests project q u reads accepts takes.reals it others
       (now_is q u tested turns) suits old new
 
 -- ---- freeze_release
