@@ -76,18 +76,21 @@ apart_by_rowid view t old holds =
     view.place view.listed
     view.cells_of (rows_of t) (view.held t) (view.here t) old.now holds.rows
 
--- by a key that is declared unique, which is in these columns of the cells
-apart_by_key : {X : Type 0} (view : View X) (nth : ℕ) (ps at : List ℕ)
-    → slice_get view.table.uniques nth ≡ Some ps
-    → get_or view.table.orders nth plain ≡ plain
-    → ((r : Row) → are_keys ps r ≡ are_keys at (cells (as_declared view.table) r))
-    → ((x : X) → are_keys at (view.cells_of x) ≡ true) → StandApart view ps
-apart_by_key view nth ps at unique order keyed are t old holds =
+-- the key is declared unique, and is in these columns of the cells
+record IsKey {X : Type 0} (view : View X) (nth : ℕ) (ps at : List ℕ) : Type 0 where
+  unique : slice_get view.table.uniques nth ≡ Some ps
+  order : get_or view.table.orders nth plain ≡ plain
+  keyed : (r : Row) → are_keys ps r ≡ are_keys at (cells (as_declared view.table) r)
+  are : (x : X) → are_keys at (view.cells_of x) ≡ true
+
+apart_by_key : {X : Type 0} (view : View X) (nth : ℕ) (ps at : List ℕ) → IsKey view nth ps at
+    → StandApart view ps
+apart_by_key view nth ps at is t old holds =
     let this = view.table in
     by_unique this.name this.tree this.columns this.key this.primary this.uniques this.orders
     view.place view.listed
-    view.cells_of (rows_of t) (view.held t) (view.here t) old.now holds.rows nth ps unique order
-    (are_keys at) keyed are
+    view.cells_of (rows_of t) (view.held t) (view.here t) old.now holds.rows nth ps is.unique
+    is.order (are_keys at) is.keyed is.are
 
 abbrev pub catalogue_view : View CatalogueRow
 catalogue_view = view_of d.catalogue_table 1 catalogue_cells (λ t. t.catalogue) refl (λ t. refl)
@@ -99,8 +102,7 @@ abbrev pub rule_view : View RuleRow
 rule_view = view_of d.rule_table 2 rule_cells (λ t. t.rule) refl (λ t. refl)
 
 pub rule_apart : StandApart rule_view (1 ∷ 2 ∷ 3 ∷ [])
-rule_apart = apart_by_key rule_view 0 (1 ∷ 2 ∷ 3 ∷ []) (0 ∷ 1 ∷ 2 ∷ []) refl refl (λ r. refl)
-    (λ x. refl)
+rule_apart = apart_by_key rule_view 0 (1 ∷ 2 ∷ 3 ∷ []) (0 ∷ 1 ∷ 2 ∷ []) assumption
 
 abbrev pub document_view : View DocumentRow
 document_view = view_of d.document_table 3 document_cells (λ t. t.document) refl (λ t. refl)
@@ -110,7 +112,7 @@ document_apart = apart_by_rowid document_view
 
 -- nor the same namespace
 pub namespace_apart : StandApart document_view (2 ∷ [])
-namespace_apart = apart_by_key document_view 0 (2 ∷ []) (1 ∷ []) refl refl (λ r. refl) (λ x. refl)
+namespace_apart = apart_by_key document_view 0 (2 ∷ []) (1 ∷ []) assumption
 
 abbrev pub reading_view : View DocumentRow
 reading_view = view_of d.reading_table 14 reading_cells (λ t. t.document) refl (λ t. refl)
@@ -122,56 +124,49 @@ abbrev pub package_view : View PackageRow
 package_view = view_of d.package_table 4 package_cells (λ t. t.packages) refl (λ t. refl)
 
 pub package_apart : StandApart package_view (1 ∷ 2 ∷ [])
-package_apart = apart_by_key package_view 0 (1 ∷ 2 ∷ []) (0 ∷ 1 ∷ []) refl refl (λ r. refl)
-    (λ x. refl)
+package_apart = apart_by_key package_view 0 (1 ∷ 2 ∷ []) (0 ∷ 1 ∷ []) assumption
 
 abbrev pub extracted_view : View ExtractedRow
 extracted_view = view_of d.extracted_table 5 extracted_cells (λ t. t.extracted) refl (λ t. refl)
 
 pub extracted_apart : StandApart extracted_view (1 ∷ 2 ∷ [])
-extracted_apart = apart_by_key extracted_view 0 (1 ∷ 2 ∷ []) (0 ∷ 1 ∷ []) refl refl (λ r. refl)
-    (λ x. refl)
+extracted_apart = apart_by_key extracted_view 0 (1 ∷ 2 ∷ []) (0 ∷ 1 ∷ []) assumption
 
 abbrev pub conclusion_view : View ConclusionRow
 conclusion_view = view_of d.conclusion_table 6 conclusion_cells (λ t. t.conclusion) refl (λ t. refl)
 
 pub conclusion_apart : StandApart conclusion_view (1 ∷ 2 ∷ [])
-conclusion_apart = apart_by_key conclusion_view 0 (1 ∷ 2 ∷ []) (0 ∷ 1 ∷ []) refl refl (λ r. refl)
-    (λ x. refl)
+conclusion_apart = apart_by_key conclusion_view 0 (1 ∷ 2 ∷ []) (0 ∷ 1 ∷ []) assumption
 
 abbrev pub adoption_view : View AdoptionRow
 adoption_view = view_of d.adoption_table 7 adoption_cells (λ t. t.adoption) refl (λ t. refl)
 
 pub adoption_apart : StandApart adoption_view (1 ∷ 2 ∷ [])
-adoption_apart = apart_by_key adoption_view 0 (1 ∷ 2 ∷ []) (0 ∷ 1 ∷ []) refl refl (λ r. refl)
-    (λ x. refl)
+adoption_apart = apart_by_key adoption_view 0 (1 ∷ 2 ∷ []) (0 ∷ 1 ∷ []) assumption
 
 abbrev pub release_view : View ReleaseRow
 release_view = view_of d.releases_table 8 release_cells (λ t. t.releases) refl (λ t. refl)
 
 pub release_apart : StandApart release_view (1 ∷ [])
-release_apart = apart_by_key release_view 1 (1 ∷ []) (0 ∷ []) refl refl (λ r. refl) (λ x. refl)
+release_apart = apart_by_key release_view 1 (1 ∷ []) (0 ∷ []) assumption
 
 abbrev pub attached_view : View AttachedRow
 attached_view = view_of d.attached_table 9 attached_cells (λ t. t.attached) refl (λ t. refl)
 
 pub attached_apart : StandApart attached_view (1 ∷ 2 ∷ [])
-attached_apart = apart_by_key attached_view 0 (1 ∷ 2 ∷ []) (0 ∷ 1 ∷ []) refl refl (λ r. refl)
-    (λ x. refl)
+attached_apart = apart_by_key attached_view 0 (1 ∷ 2 ∷ []) (0 ∷ 1 ∷ []) assumption
 
 abbrev pub choice_view : View ChoiceRow
 choice_view = view_of d.choice_table 10 choice_cells (λ t. t.choice) refl (λ t. refl)
 
 pub choice_apart : StandApart choice_view (1 ∷ 2 ∷ 3 ∷ 4 ∷ [])
-choice_apart = apart_by_key choice_view 0 (1 ∷ 2 ∷ 3 ∷ 4 ∷ []) (0 ∷ 1 ∷ 2 ∷ 3 ∷ []) refl refl
-    (λ r. refl) (λ x. refl)
+choice_apart = apart_by_key choice_view 0 (1 ∷ 2 ∷ 3 ∷ 4 ∷ []) (0 ∷ 1 ∷ 2 ∷ 3 ∷ []) assumption
 
 abbrev pub frozen_view : View FrozenRow
 frozen_view = view_of d.frozen_table 11 frozen_cells (λ t. t.frozen) refl (λ t. refl)
 
 pub frozen_apart : StandApart frozen_view (1 ∷ 2 ∷ 3 ∷ 4 ∷ [])
-frozen_apart = apart_by_key frozen_view 0 (1 ∷ 2 ∷ 3 ∷ 4 ∷ []) (0 ∷ 1 ∷ 2 ∷ 3 ∷ []) refl refl
-    (λ r. refl) (λ x. refl)
+frozen_apart = apart_by_key frozen_view 0 (1 ∷ 2 ∷ 3 ∷ 4 ∷ []) (0 ∷ 1 ∷ 2 ∷ 3 ∷ []) assumption
 
 abbrev pub duty_view : View DutyRow
 duty_view = view_of d.duty_table 12 duty_cells (λ t. t.duty) refl (λ t. refl)
@@ -183,13 +178,11 @@ abbrev pub change_view : View ChangeRow
 change_view = view_of d.change_table 13 change_cells (λ t. t.changes) refl (λ t. refl)
 
 pub change_apart : StandApart change_view (1 ∷ 2 ∷ [])
-change_apart = apart_by_key change_view 0 (1 ∷ 2 ∷ []) (0 ∷ 1 ∷ []) refl refl (λ r. refl)
-    (λ x. refl)
+change_apart = apart_by_key change_view 0 (1 ∷ 2 ∷ []) (0 ∷ 1 ∷ []) assumption
 
 abbrev pub waiver_view : View ChangeRow
 waiver_view = view_of d.waiver_table 15 waiver_cells (λ t. filter is_waiver t.changes) refl
     (λ t. refl)
 
 pub waiver_apart : StandApart waiver_view (1 ∷ 2 ∷ [])
-waiver_apart = apart_by_key waiver_view 0 (1 ∷ 2 ∷ []) (0 ∷ 1 ∷ []) refl refl (λ r. refl)
-    (λ x. refl)
+waiver_apart = apart_by_key waiver_view 0 (1 ∷ 2 ∷ []) (0 ∷ 1 ∷ []) assumption
