@@ -11,6 +11,8 @@ use Rattle.std.specs.List.Sorted.{IsPermutation}
 use Rattle.std.proofs.lemmas.List.Sorted.{IsPermutation-refl, IsPermutation-sym, IsPermutation-cons}
 use Rattle.std.proofs.lemmas.List.Sorted.{IsPermutation-middle, IsPermutation-trans}
 use Rattle.std.proofs.lemmas.List.Sorted.{IsPermutation-map}
+use Rattle.std.proofs.lemmas.List.{append-nil}
+use Rattle.std.proofs.lemmas.List.Elements.{filter-append}
 use Rattle.sqlite_value.specs.Order.{Row}
 use Rattle.std.proofs.lemmas.List.{map-append}
 use Rattle.sqlite_trees.proofs.ListLemmas.{all-permutation, IsPermutation-filter, IsPermutation-same}
@@ -57,7 +59,7 @@ use Rattle.desk_sql_write.specs.Taking.{IsSmall, StandsOnce, CanStand, FailsOnly
 use Rattle.desk_sql_write.specs.Turning.{Adds, Turns, with_rows, with_steps, with_raised, with_document, with_parts}
 use Rattle.desk_sql_write.specs.Written.{Writes, WritesAs}
 use Rattle.desk_sql_write.proofs.Going.{along}
-use Rattle.desk_sql_write.proofs.Lists.{append_nil, filter_both, none_out}
+use Rattle.desk_sql_write.proofs.Lists.{none_out}
 use Rattle.desk_sql_write.proofs.Puts.{once_permuted}
 
 -- each table has the same rows, in some order
@@ -218,12 +220,12 @@ waivers_added : (all changes : List ChangeRow)
     → IsPermutation (map waiver_cells (filter is_waiver (all ++ changes)))
     (map waiver_cells (filter is_waiver all) ++ map waiver_cells (filter is_waiver changes))
 waivers_added all changes = IsPermutation-same _ _
-    (ap (map waiver_cells) (filter_both is_waiver all changes)
+    (ap (map waiver_cells) (filter-append is_waiver all changes)
     ∙ map-append waiver_cells (filter is_waiver all) (filter is_waiver changes))
 
 behind : {X : Type 0} (x : X) (xs : List X) → IsPermutation (x ∷ xs) (xs ++ x ∷ [])
 behind x xs = IsPermutation-sym _ _
-    (subst (λ l. IsPermutation (xs ++ x ∷ []) (x ∷ l)) (append_nil xs)
+    (subst (λ l. IsPermutation (xs ++ x ∷ []) (x ∷ l)) (append-nil xs)
     (IsPermutation-middle xs x []))
 
 put_in : {X : Type 0} (below : X → X → Bool) (x : X) (xs : List X)
@@ -239,7 +241,7 @@ put_in {X} below x (y ∷ ys) = go (put_in below x ys) (below x y)
 
 put_all_in : {X : Type 0} (below : X → X → Bool) (xs ys : List X)
     → IsPermutation (put_all below xs ys) (ys ++ xs)
-put_all_in below [] ys = IsPermutation-same _ _ (sym (append_nil ys))
+put_all_in below [] ys = IsPermutation-same _ _ (sym (append-nil ys))
 put_all_in below (x ∷ xs) ys =
     IsPermutation-trans _ _ _ (put_in below x (put_all below xs ys))
     (IsPermutation-trans _ _ _ (IsPermutation-cons x _ _ (put_all_in below xs ys))

@@ -8,6 +8,8 @@ use Rattle.std.proofs.lemmas.Bool.Decides.{nat_tests}
 use Rattle.std.proofs.lemmas.Grind.{flat_map-append}
 use Rattle.std.proofs.lemmas.List.{map-append}
 use Rattle.std.proofs.lemmas.List.Concat.{flat_map_single}
+use Rattle.std.proofs.lemmas.List.{append-nil, append_assoc}
+use Rattle.std.proofs.lemmas.List.Elements.{filter-append}
 use Rattle.sqlite_value.specs.Order.{Row}
 use Rattle.sqlite.specs.State.{State}
 use Rattle.desk_model.specs.declared.command.Fault.{Fault}
@@ -16,7 +18,7 @@ use Rattle.desk_sql_layout.specs.Cells.{is_waiver, waiver_cells}
 use Rattle.desk_sql_write.specs.Turning.{Adds, with_rows}
 use Rattle.desk_sql_write.proofs.Extending.{never_extends, table_extends, then_extends}
 use Rattle.desk_sql_write.proofs.Going.{as_turns, more_turns, none_turns}
-use Rattle.desk_sql_write.proofs.Lists.{append_nil, append_all, filter_both, front_more}
+use Rattle.desk_sql_write.proofs.Lists.{front_more}
 
 module _ (tree : ℕ) where
   pub with_here : (more : List Row) (rows : ℕ → List Row)
@@ -40,7 +42,7 @@ module _ (tree : ℕ) where
   with_none rows other = go (other == tree)
     where
       go : (b : Bool) → rows other ≡ cond b (rows other ++ []) (rows other)
-      go true = sym (append_nil (rows other))
+      go true = sym (append-nil (rows other))
       go false = refl
 
   pub with_both : (xs ys : List Row) (rows : ℕ → List Row) (other : ℕ)
@@ -49,7 +51,7 @@ module _ (tree : ℕ) where
     where
       go : (b : Bool) → cond b (cond b (rows other ++ xs) (rows other) ++ ys)
           (cond b (rows other ++ xs) (rows other)) ≡ cond b (rows other ++ (xs ++ ys)) (rows other)
-      go true = append_all (rows other) xs ys
+      go true = append_assoc (rows other) xs ys
       go false = refl
 
   module _ {X : Type 0} (shown : List X → List Row)
@@ -113,7 +115,7 @@ waivers_put xs {many} {a} {b} {r} = subst (λ l. Adds (with_rows 28 l) many a b 
     each (x ∷ xs) =
         ap (λ l. map waiver_cells (filter is_waiver (x ∷ [])) ++ l) (each xs)
         ∙ sym (map-append waiver_cells (filter is_waiver (x ∷ [])) (filter is_waiver xs))
-        ∙ ap (map waiver_cells) (sym (filter_both is_waiver (x ∷ []) xs))
+        ∙ ap (map waiver_cells) (sym (filter-append is_waiver (x ∷ []) xs))
 
 -- those of the first rows, and then those of the next one
 pub next_put : {X : Type 0} (tree : ℕ) (f : X → List Row) (rows : List X) (n : ℕ) (row : X)
@@ -125,7 +127,7 @@ next_put {X} tree f rows n row {a} {b} {c} {r} is low v w =
     subst (λ (l : List X). Adds (with_rows tree (flat_map f l)) (length l) a c r)
     (front_more [] rows n row row is low)
     (more_put tree (flat_map f) (flat_map-append f) (take n rows) (row ∷ []) (omega arith) v
-    (subst (λ l. Adds (with_rows tree l) 1 b c r) (sym (append_nil (f row))) w))
+    (subst (λ l. Adds (with_rows tree l) 1 b c r) (sym (append-nil (f row))) w))
 
 -- no table is another than itself
 pub not_other : {n : ℕ} {xs ys : List Row} → n ≢ n → xs ≡ ys

@@ -5,6 +5,7 @@ use Rattle.std.proofs.Common.{arith}
 use Rattle.std.specs.Prelude.{◌==◌}
 use Rattle.std.specs.List.{AllByRecursion}
 use Rattle.std.specs.Result.{IsErrAnd}
+use Rattle.std.proofs.lemmas.List.{append-nil, append_assoc}
 use Rattle.sqlite_value.specs.Order.{Row}
 use Rattle.sqlite_schema.specs.declared.schema.Table.{Table}
 use Rattle.sqlite.specs.State.{State}
@@ -22,7 +23,6 @@ use Rattle.desk_sql_layout.specs.Layout.{desk_schema}
 use Rattle.desk_sql_write.specs.Taking.{CanStand}
 use Rattle.desk_sql_write.specs.Turning.{Adds, Turns, with_rows, with_steps, with_raised, with_parts}
 use Rattle.desk_sql_write.proofs.Going.{IsBetween, can_stand, along, first_fails, next_turns, then_turns}
-use Rattle.desk_sql_write.proofs.Lists.{append_nil, append_all}
 
 pub record Extends (more : (ℕ → List Row) → ℕ → List Row) : Type 0 where
   pub new : (rows : ℕ → List Row) (tree : ℕ) → (added : List Row)
@@ -36,7 +36,7 @@ table_extends tree added = record { new = λ rows other. go (rows other) (other 
     go : (had : List Row) (here : Bool) → (new : List Row)
         × (cond here (had ++ added) had ≡ had ++ new)
     go had true = (added, refl)
-    go had false = ([], sym (append_nil had))
+    go had false = ([], sym (append-nil had))
 
 pub both_extend : (first next : (ℕ → List Row) → ℕ → List Row) → Extends first → Extends next
     → Extends (λ rows. next (first rows))
@@ -45,7 +45,7 @@ both_extend first next a b = record {
       let was = a.new rows tree in
       let is = b.new (first rows) tree in (
         was.0 ++ is.0,
-        is.1 ∙ ap (λ l. l ++ is.0) was.1 ∙ append_all (rows tree) was.0 is.0,
+        is.1 ∙ ap (λ l. l ++ is.0) was.1 ∙ append_assoc (rows tree) was.0 is.0,
       );
 }
 

@@ -1,9 +1,10 @@
-use Rattle.std.proofs.Common.{◌∙◌, ◌+◌, ◌≤◌, take, drop, flat_map, length, List, Ok, Err, refl, subst, arith}
+use Rattle.std.proofs.Common.{◌∙◌, ◌+◌, ◌≤◌, take, drop, flat_map, length, List, Ok, Err, refl, sym}
+use Rattle.std.proofs.Common.{subst, arith}
 use Rattle.std.proofs.lemmas.Grind.{flat_map-append}
+use Rattle.std.proofs.lemmas.List.{take-append-drop, take_all}
 use Rattle.sqlite.specs.Held.{state}
 use Rattle.desk_sql_write.specs.Turning.{Adds, with_rows}
 use Rattle.desk_sql_write.proofs.Behind.{front_fails, next_put, none_put}
-use Rattle.desk_sql_write.proofs.Lists.{take_and_drop, take_whole}
 use Rattle.desk_sql_write.proofs.adding.add_all.Goals as goal
 
 pub loop-row-init : goal.loop-row-init
@@ -26,7 +27,7 @@ returns-clause-adds g c =
     let high : length rows ≤ n = omega (arith, c.loop-row-test.false) in
     subst (λ (l : List _). Adds (with_rows g.R.Added.tree (flat_map g.R.Added.rows l)) (length l)
     (state g.S.Store c.args.tx.now.conn.now) (state g.S.Store c.loop-row.tx.conn.now) (Ok tt))
-    (take_whole rows n high) c.loop-row.invariant.adds
+    (take_all n rows high) c.loop-row.invariant.adds
 
 pub returns-in_err-add-clause-adds : goal.returns-in_err-add-clause-adds
 returns-in_err-add-clause-adds g c =
@@ -35,6 +36,6 @@ returns-in_err-add-clause-adds g c =
     let tree = g.R.Added.tree in
     let f = g.R.Added.rows in
     front_fails tree (flat_map f) (flat_map-append f) rows (take (n + 1) rows) (drop (n + 1) rows)
-    c.from_residual.ensures.1 (take_and_drop (n + 1) rows)
+    c.from_residual.ensures.1 (sym (take-append-drop (n + 1) rows))
     (next_put tree f rows n c.row-item.result {r = Err c.in_err-add.field-0.0} c.row-item.is
     c.loop-row-test.true c.loop-row.invariant.adds c.in_err-add.ensures.adds)

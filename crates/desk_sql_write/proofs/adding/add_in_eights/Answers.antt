@@ -1,9 +1,10 @@
 use Rattle.std.proofs.Common.{◌≡◌, ◌∙◌, ◌++◌, ◌∷◌, [], map, length, List, Ok, Err, refl, sym, ap, subst, arith}
 use Rattle.std.proofs.lemmas.List.{map-append}
+use Rattle.std.proofs.lemmas.List.{append-nil, nil_from_length}
 use Rattle.sqlite.specs.Held.{state}
 use Rattle.desk_sql_write.specs.Turning.{Adds, with_rows}
 use Rattle.desk_sql_write.proofs.Behind.{front_fails, more_put, none_put}
-use Rattle.desk_sql_write.proofs.Lists.{append_nil, cut_in_two, more_added, none_left}
+use Rattle.desk_sql_write.proofs.Lists.{cut_in_two, more_added}
 use Rattle.desk_sql_write.proofs.adding.add_in_eights.Goals as goal
 
 pub loop-first-init : goal.loop-first-init
@@ -54,9 +55,9 @@ loop-first-preserved g c =
 pub returns-clause-adds : goal.returns-clause-adds
 returns-clause-adds g c =
     let had = c.loop-first.invariant in
-    let none = none_left c.loop-first.left.now c.in_default.ensures.cases in
+    let none = nil_from_length c.loop-first.left.now c.in_default.ensures.cases in
     let all : c.args.rows.now ≡ had.0 = had.1.before ∙ ap (λ l. had.0 ++ l) none
-    ∙ append_nil had.0 in
+    ∙ append-nil had.0 in
     subst (λ (l : List _). Adds (with_rows g.R.AddedInEights.tree (map g.R.AddedInEights.cells l))
     (length l) (state g.S.Store c.args.tx.now.conn.now) (state g.S.Store c.loop-first.tx.conn.now)
     (Ok tt)) (sym all) had.1.adds

@@ -1,6 +1,6 @@
 use Rattle.std.proofs.Common.{◌≡◌, ◌∙◌, ◌++◌, ◌∷◌, [], List, ap, arith, refl}
+use Rattle.std.proofs.lemmas.List.{append_assoc}
 use Rattle.desk_model.specs.declared.row.ChangeRow.{ChangeRow}
-use Rattle.desk_sql_write.proofs.Lists.{append_all}
 use Rattle.desk_sql_write.proofs.RunLemmas.{sets_next}
 use Rattle.desk_sql_write.proofs.duty.last_run.Goals as goal
 
@@ -17,7 +17,7 @@ loop-row-preserved c =
       is = record {
         run = row ∷ is.run;
         whole = is.whole ∙ (ap (λ (l : List ChangeRow). l ++ is.run) parts
-            ∙ append_all front (row ∷ []) is.run);
+            ∙ append_assoc front (row ∷ []) is.run);
         some = omega (arith, shorter, is.some);
         sets = sets_next row is.run c.loop-row.first c.in_ok-last.last.now.duty
             c.state_after-to.result next c.loop-row.invariant.low

@@ -1,10 +1,10 @@
 use Rattle.std.proofs.Common.{◌≡◌, ◌∙◌, ◌++◌, [], List, Ok, Err, ap, refl, subst, sym}
+use Rattle.std.proofs.lemmas.List.{append_assoc, append-nil}
 use Rattle.sqlite.specs.Held.{state}
 use Rattle.desk_model.specs.Tables.{moved_by}
 use Rattle.desk_model.specs.declared.row.ChangeRow.{ChangeRow}
 use Rattle.desk_sql_layout.specs.Held.{rows_of}
 use Rattle.desk_sql_write.specs.Turning.{Turns}
-use Rattle.desk_sql_write.proofs.Lists.{append_all, append_nil}
 use Rattle.desk_sql_write.proofs.Going.{none_turns}
 use Rattle.desk_sql_write.proofs.Moving.{moves_fail, run_moves}
 use Rattle.desk_sql_write.proofs.duty.set_duties.Goals as goal
@@ -13,7 +13,7 @@ pub loop-these-init : goal.loop-these-init
 loop-these-init g c = (
   [],
   record {
-    whole = sym (append_nil c.args.rows.now);
+    whole = sym (append-nil c.args.rows.now);
     same_reference = refl;
     sets = none_turns rows_of (state g.S.Store c.args.tx.now.conn.now);
   },
@@ -27,7 +27,7 @@ loop-these-preserved g c =
       is.run ++ had.0,
       record {
         whole = had.1.whole ∙ (ap (λ (l : List ChangeRow). l ++ had.0) is.whole
-            ∙ append_all run.before.now is.run had.0);
+            ∙ append_assoc run.before.now is.run had.0);
         same_reference = c.in_ok-set_run.ensures.same_reference ∙ had.1.same_reference;
         sets = run_moves is.run had.0 run.first run.last run.to {r = Ok tt} is.sets had.1.sets
             c.in_ok-set_run.ensures.sets;
