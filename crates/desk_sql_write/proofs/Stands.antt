@@ -1,16 +1,12 @@
 -- The tables can hold duties whose states are set if they could hold them before.
-use Rattle.std.proofs.Common.{◌≡◌, ◌≢◌, inl, ℕ, ◌^◌, ◌<◌, ◌≤◌, Bool, true, false, cond, List, []}
-use Rattle.std.proofs.Common.{◌∷◌, filter, map, length, refl, sym, subst, arith}
-use Rattle.std.specs.Prelude.{◌==◌}
+use Rattle.std.proofs.Common.{◌≡◌, inl, ℕ, ◌^◌, ◌<◌, ◌≤◌, Bool, true, false, cond, List, []}
+use Rattle.std.proofs.Common.{◌∷◌, filter, map, length, refl, arith}
 use Rattle.std.specs.List.{AllByRecursion}
-use Rattle.std.proofs.lemmas.Bool.Decides.{nat_tests}
 use Rattle.sqlite_value.specs.Keys.{plain}
 use Rattle.sqlite_value.specs.Order.{Row}
-use Rattle.sqlite_schema.specs.declared.schema.Table.{Table}
 use Rattle.sqlite_schema.specs.Rules.{agree}
 use Rattle.sqlite_rules.specs.Lists.{Has}
-use Rattle.sqlite_rules.proofs.ListLemmas.{all_from, all_has, has_got, has_right}
-use Rattle.sqlite_rules.proofs.RuleLemmas.{same_table}
+use Rattle.sqlite_rules.proofs.ListLemmas.{all_has, has_got, has_right}
 use Rattle.desk_model.specs.Keys.{is_duty}
 use Rattle.desk_model.specs.Lists.{updated}
 use Rattle.desk_model.specs.Names.{duty_state_name}
@@ -24,10 +20,8 @@ use Rattle.desk_model.specs.declared.state.DutyState.TheVariants as duty
 use Rattle.desk_sql_layout.specs.Cells.{duty_cells, release_cells}
 use Rattle.desk_sql_layout.specs.Held.{rows_of}
 use Rattle.desk_sql_layout.specs.Layout.{desk_schema, duty_table, releases_table}
-use Rattle.desk_sql_layout.proofs.Statements.{apart}
 use Rattle.desk_sql_write.specs.Taking.{IsSmall, StandsOnce, CanStand, in_cells}
 use Rattle.desk_sql_write.specs.Turning.{with_rows}
-use Rattle.desk_sql_write.proofs.Behind.{not_other}
 
 state_small : (s : DutyState) → length (duty_state_name s) ≤ 10 ^ 8
 state_small duty.IsOpen = omega arith
@@ -43,25 +37,7 @@ set_small n s [] small = tt
 set_small n s (d ∷ duties) small = (go (is_duty n d), set_small n s duties small.1)
   where
     go : (b : Bool) → AllByRecursion IsSmall (duty_cells (cond b (with_duty_state s d) d))
-    go true = (
-      small.0.0,
-      (
-        small.0.1.0,
-        (
-          small.0.1.1.0,
-          (
-            small.0.1.1.1.0,
-            (
-              small.0.1.1.1.1.0,
-              (
-                small.0.1.1.1.1.1.0,
-                (small.0.1.1.1.1.1.1.0, (state_small s, tt)),
-              ),
-            ),
-          ),
-        ),
-      ),
-    )
+    go true = assumption (state_small s)
     go false = small.0
 
 set_once : (n : ℕ) (s : DutyState) (h : Row → Bool)
@@ -89,76 +65,32 @@ set_all n s t = record t { duty = updated (is_duty n) (with_duty_state s) t.duty
 listed : Has desk_schema.tables duty_table
 listed = has_got desk_schema.tables 12 duty_table refl
 
-elsewhere : (n : ℕ) (s : DutyState) (it : Tables)
-    → AllByRecursion (λ t. t.tree ≢ 23 → rows_of (set_all n s it) t.tree ≡ rows_of it t.tree)
-    desk_schema.tables
-elsewhere n s it = search not_other
+-- a key in whose columns the state is not
+set_keeps : (n : ℕ) (s : DutyState) (duties : List DutyRow) (places : List ℕ)
+    → ((d : DutyRow) (key : Row) → agree plain (in_cells places) (duty_cells (with_duty_state s d))
+    (in_cells places) key ≡ agree plain (in_cells places) (duty_cells d) (in_cells places) key)
+    → StandsOnce (map duty_cells duties) places
+    → StandsOnce (map duty_cells (updated (is_duty n) (with_duty_state s) duties)) places
+set_keeps n s duties places same once key = omega (
+  arith,
+  once key,
+  set_once n s (λ row. agree plain (in_cells places) row (in_cells places) key) (λ d. same d key)
+      duties,
+)
 
 pub set_stand : (n : ℕ) (s : DutyState) (it : Tables) → CanStand (rows_of it)
     → CanStand (rows_of (set_all n s it))
-set_stand n s it can = record {
-  small = all_from (λ t. AllByRecursion (AllByRecursion IsSmall) (rows_of (set_all n s it) t.tree))
-      desk_schema.tables (λ t there. small t there (t.tree == 23) refl);
-  keys = all_from (λ t. AllByRecursion (StandsOnce (rows_of (set_all n s it) t.tree))
-      (t.primary ∷ t.uniques)) desk_schema.tables (λ t there. keys t there (t.tree == 23) refl);
-}
-  where
-    one : (t : Table) → Has desk_schema.tables t → (t.tree == 23) ≡ true → t ≡ duty_table
-    one t there is = same_table desk_schema.tables t duty_table apart there listed
-        (grind (arith, nat_tests))
-
-    kept : (t : Table) → Has desk_schema.tables t → (t.tree == 23) ≡ false
-        → rows_of (set_all n s it) t.tree ≡ rows_of it t.tree
-    kept t there is = all_has (λ t. t.tree ≢ 23
-        → rows_of (set_all n s it) t.tree ≡ rows_of it t.tree) desk_schema.tables t
-        (elsewhere n s it) there (λ e. grind (arith, nat_tests))
-
-    small : (t : Table) → Has desk_schema.tables t → (b : Bool) → (t.tree == 23) ≡ b
-        → AllByRecursion (AllByRecursion IsSmall) (rows_of (set_all n s it) t.tree)
-    small t there true is =
-        subst (λ (u : Table). AllByRecursion (AllByRecursion IsSmall)
-        (rows_of (set_all n s it) u.tree)) (sym (one t there is))
-        (set_small n s it.duty (all_has
-        (λ t. AllByRecursion (AllByRecursion IsSmall) (rows_of it t.tree)) desk_schema.tables
-        duty_table can.small listed))
-    small t there false is = subst (AllByRecursion (AllByRecursion IsSmall)) (sym (kept t there is))
-        (all_has (λ t. AllByRecursion (AllByRecursion IsSmall) (rows_of it t.tree))
-        desk_schema.tables t can.small there)
-
-    mine : AllByRecursion (StandsOnce (map duty_cells it.duty))
-        (duty_table.primary ∷ duty_table.uniques)
-    mine = all_has (λ t. AllByRecursion (StandsOnce (rows_of it t.tree)) (t.primary ∷ t.uniques))
-        desk_schema.tables duty_table can.keys listed
-
-    numbers : StandsOnce (map duty_cells (updated (is_duty n) (with_duty_state s) it.duty)) (0 ∷ [])
-    numbers key = omega (
-      arith,
-      mine.0 key,
-      set_once n s (λ row. agree plain (in_cells (0 ∷ [])) row (in_cells (0 ∷ [])) key) (λ d. refl)
-          it.duty,
+set_stand n s it can =
+    let small = all_has (λ t. AllByRecursion (AllByRecursion IsSmall) (rows_of it t.tree))
+    desk_schema.tables duty_table can.small listed in
+    let keys = all_has
+    (λ t. AllByRecursion (StandsOnce (rows_of it t.tree)) (t.primary ∷ t.uniques))
+    desk_schema.tables duty_table can.keys listed in
+    assumption (
+      set_small n s it.duty small,
+      set_keeps n s it.duty (0 ∷ []) (λ d key. refl) keys.0,
+      set_keeps n s it.duty (2 ∷ 3 ∷ 4 ∷ 5 ∷ 6 ∷ []) (λ d key. refl) keys.1.0,
     )
-
-    places : StandsOnce (map duty_cells (updated (is_duty n) (with_duty_state s) it.duty))
-        (2 ∷ 3 ∷ 4 ∷ 5 ∷ 6 ∷ [])
-    places key = omega (
-      arith,
-      mine.1.0 key,
-      set_once n s (λ row. agree plain (in_cells (2 ∷ 3 ∷ 4 ∷ 5 ∷ 6 ∷ [])) row
-          (in_cells (2 ∷ 3 ∷ 4 ∷ 5 ∷ 6 ∷ [])) key) (λ d. refl) it.duty,
-    )
-
-    keys : (t : Table) → Has desk_schema.tables t → (b : Bool) → (t.tree == 23) ≡ b
-        → AllByRecursion (StandsOnce (rows_of (set_all n s it) t.tree)) (t.primary ∷ t.uniques)
-    keys t there true is = subst (λ (u : Table). AllByRecursion
-        (StandsOnce (rows_of (set_all n s it) u.tree)) (u.primary ∷ u.uniques))
-        (sym (one t there is)) (
-          numbers,
-          (places, tt),
-        )
-    keys t there false is = subst (λ rows. AllByRecursion (StandsOnce rows) (t.primary ∷ t.uniques))
-        (sym (kept t there is)) (all_has
-        (λ t. AllByRecursion (StandsOnce (rows_of it t.tree)) (t.primary ∷ t.uniques))
-        desk_schema.tables t can.keys there)
 
 pub moved_stand : (changes : List ChangeRow) (it : Tables) → CanStand (rows_of it)
     → CanStand (rows_of (record it { duty = moved_by changes it.duty }))
