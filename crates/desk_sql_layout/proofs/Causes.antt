@@ -1,10 +1,10 @@
 -- A look-up fails only for a cause.
-use Rattle.std.proofs.Common.{◌≡◌, ◌≤◌, ◌⊎◌, inl, inr, ℕ, Bool, true, false, nat_le, List, [], ◌∷◌}
+use Rattle.std.proofs.Common.{◌≡◌, ◌⊎◌, inl, inr, ℕ, Bool, true, false, nat_le, List, [], ◌∷◌}
 use Rattle.std.proofs.Common.{length, map, filter, IfErr, None, Ok, Err, Result, IsTrue, append-nil}
 use Rattle.std.proofs.Common.{refl, sym, subst, ◌∙◌, ap, arith}
 use Rattle.std.specs.List.{AllByRecursion}
 use Rattle.std.specs.Result.{IsErrAnd}
-use Rattle.std.proofs.lemmas.Bool.Decides.{nat_tests}
+use Rattle.std.proofs.lemmas.Bool.{leb-true}
 use Rattle.std.proofs.lemmas.Result.{IfErr-weaker}
 use Rattle.sqlite_value.specs.declared.keys.Key.{Key}
 use Rattle.sqlite_value.specs.Order.{Row}
@@ -90,9 +90,6 @@ asked sql params tree tests project order names is plain suits accepts = go
         }
     go (Err e) known = absurd (subst (Suits sql (length params)) known suits)
 
-le_is : (a b : ℕ) → nat_le a b ≡ true → a ≤ b
-le_is a b h = grind (arith, nat_tests)
-
 module _ (sql : List ℕ) (params : Row) (old new : State) (has : old.now.schema ≡ desk_schema)
     (opened : IsTrue old.is_open) (unlimited : old.step_limit ≡ None)
     (asked : IsAsked sql params) where
@@ -117,7 +114,7 @@ module _ (sql : List ℕ) (params : Row) (old new : State) (has : old.now.schema
   no_statement : (e : Error) → ¬ IsNoStatement old sql params e
   no_statement e (inl (fault, is, told)) = let it = sym known ∙ is in cc
   no_statement e (inr (c, is, inl (more, told))) = let it = same_compiled c is in
-      more (le_is _ _ (rw it at asked.whole))
+      more (leb-true _ _ (rw it at asked.whole))
   no_statement e (inr (c, is, inr (inl (differ, told)))) = let it = same_compiled c is in
       differ (rw it at asked.given)
   no_statement e (inr (c, is, inr (inr (formats, told)))) = let it = same_compiled c is in

@@ -4,6 +4,7 @@ use Rattle.std.proofs.Common.{List, [], ◌∷◌, ◌++◌, map, filter, length
 use Rattle.std.proofs.Common.{length-append}
 use Rattle.std.specs.Prelude.{nat_lt, nat_le, ◌==◌, ◌&&◌, ◌||◌, not, find, Some, is_some}
 use Rattle.std.specs.List.{list_all}
+use Rattle.std.proofs.lemmas.Bool.{eqb-true, le-leb, leb-true}
 use Rattle.std.proofs.lemmas.Bool.Decides.{nat_tests}
 use Rattle.std.proofs.lemmas.List.{map-append, length-map}
 use Rattle.desk_model.specs.Lists.{put_all, IsIn}
@@ -67,15 +68,6 @@ all_both p xs ys old new = all_pass p (xs ++ ys)
     (λ x there. elim (in_cases x xs ys there)
     [ inl m ↦ each_passes p x xs old m | inr m ↦ each_passes p x ys new m ])
 
-le_is : (a b : ℕ) → nat_le a b ≡ true → a ≤ b
-le_is a b e = grind (arith, nat_tests)
-
-is_le : (a b : ℕ) → a ≤ b → nat_le a b ≡ true
-is_le a b e = grind (arith, nat_tests)
-
-eq_is : (a b : ℕ) → (a == b) ≡ true → a ≡ b
-eq_is a b e = grind (arith, nat_tests)
-
 after_any : (a b : ℕ) (s : Bool) → a < b → (nat_lt b a || ((b == a) && s)) ≡ false
 after_any a b true less = grind (arith, nat_tests)
 after_any a b false less = grind (arith, nat_tests)
@@ -101,7 +93,7 @@ are_numbers : (n : ℕ) (rows : List DutyRow) → are_numbered n rows ≡ true
     → AreNumbered n (map (λ (row : DutyRow). row.number) rows)
 are_numbers n [] e = tt
 are_numbers n (row ∷ rows) e = (
-  eq_is row.number n (and_left (row.number == n) (are_numbered (n + 1) rows) e),
+  eqb-true row.number n (and_left (row.number == n) (are_numbered (n + 1) rows) e),
   are_numbers (n + 1) rows (and_right (row.number == n) (are_numbered (n + 1) rows) e),
 )
 
@@ -130,7 +122,7 @@ found_in q (row ∷ rows) some = go (found_in q rows) (row.number == q) refl som
         → IsIn q (map (λ (row : DutyRow). row.number) rows)) → (b : Bool) → (row.number == q) ≡ b
         → is_some (cond b (Some row) (find (is_duty q) rows)) ≡ true
         → IsIn q (map (λ (row : DutyRow). row.number) (row ∷ rows))
-    go more true e some = inl (eq_is row.number q e)
+    go more true e some = inl (eqb-true row.number q e)
     go more false e some = inr (more some)
 
 from_put_all : (z : ChangeRow) (xs ys : List ChangeRow) → IsIn z (put_all change_below xs ys)
@@ -161,7 +153,7 @@ module _ (t : Tables) (o : AreOrderly t) where
       (all_pass (λ (row : ChangeRow). nat_le row.duty (length t.duty))
       (put_all change_below changes t.changes)
       (λ row there. elim (from_put_all row changes t.changes there) [
-        | inl new ↦ is_le row.duty (length t.duty)
+        | inl new ↦ le-leb row.duty (length t.duty)
             (stands row.duty (each_passes (λ (row : ChangeRow). is_some (duty_found t row.duty)) row
             changes next.2 new))
         | inr old ↦ each_passes (λ (row : ChangeRow). nat_le row.duty (length t.duty)) row t.changes
@@ -179,7 +171,7 @@ first_low n z (row ∷ rows) first (inl e) =
     omega (
       arith,
       ap (λ (r : ChangeRow). r.duty) e,
-      eq_is row.duty n (and_left (row.duty == n) ((row.step == 1) && are_first (n + 1) rows)
+      eqb-true row.duty n (and_left (row.duty == n) ((row.step == 1) && are_first (n + 1) rows)
           (and_out (row.duty == n) (row.step == 1) (are_first (n + 1) rows) first)),
     )
   where
@@ -199,7 +191,7 @@ first_high n z (row ∷ rows) first (inl e) =
     omega (
       arith,
       ap (λ (r : ChangeRow). r.duty) e,
-      eq_is row.duty n (and_left (row.duty == n) (row.step == 1)
+      eqb-true row.duty n (and_left (row.duty == n) (row.step == 1)
           (and_left ((row.duty == n) && (row.step == 1)) (are_first (n + 1) rows) first)),
     )
 first_high n z (row ∷ rows) first (inr there) = omega (
@@ -211,7 +203,7 @@ first_high n z (row ∷ rows) first (inr there) = omega (
 first_ascend : (n : ℕ) (rows : List ChangeRow) → are_first n rows ≡ true → Ascends change_below rows
 first_ascend n [] first = tt
 first_ascend n (row ∷ rows) first =
-    let here = eq_is row.duty n (and_left (row.duty == n) (row.step == 1)
+    let here = eqb-true row.duty n (and_left (row.duty == n) (row.step == 1)
     (and_left ((row.duty == n) && (row.step == 1)) (are_first (n + 1) rows) first)) in
     let rest = and_right ((row.duty == n) && (row.step == 1)) (are_first (n + 1) rows) first in (
       λ z there. after_any row.duty z.duty (nat_lt z.step row.step)
@@ -239,10 +231,10 @@ packages_ascend : (n : ℕ) (ps : List PackageRow) → are_of n ps ≡ true → 
     → Ascends package_below ps
 packages_ascend n [] of up = tt
 packages_ascend n (p ∷ ps) of up =
-    let mine = eq_is p.document n (and_left (p.document == n) (are_of n ps) of) in
+    let mine = eqb-true p.document n (and_left (p.document == n) (are_of n ps) of) in
     let rest = and_right (p.document == n) (are_of n ps) of in (
       λ z there. at_same z.document p.document (text_below z.id p.id)
-          (eq_is z.document n (each_passes (λ (q : PackageRow). q.document == n) z ps rest there)
+          (eqb-true z.document n (each_passes (λ (q : PackageRow). q.document == n) z ps rest there)
           ∙ sym mine) (text_is_order.asym p.id z.id (rise_all p z ps up there)),
       packages_ascend n ps rest (rise_rest p ps up),
     )
@@ -280,10 +272,10 @@ order_kept (Imported row packages references) t follows writable o =
     let up = and_right (are_of row.number packages) (rise packages) writable in
     let longer : length (t.document ++ row ∷ []) ≡ length t.document + 1 =
     length-append t.document (row ∷ []) in
-    let old_low = λ (p : PackageRow) (there : IsIn p t.packages). le_is p.document
+    let old_low = λ (p : PackageRow) (there : IsIn p t.packages). leb-true p.document
     (length t.document) (each_passes (λ (p : PackageRow). nat_le p.document (length t.document)) p
     t.packages o.of_documents there) in
-    let new_is = λ (p : PackageRow) (there : IsIn p packages). eq_is p.document row.number
+    let new_is = λ (p : PackageRow) (there : IsIn p packages). eqb-true p.document row.number
     (each_passes (λ (p : PackageRow). p.document == row.number) p packages of there) in
     assumption (
       documents,
@@ -294,7 +286,7 @@ order_kept (Imported row packages references) t follows writable o =
           (λ x y old new. after_any x.document y.document (text_below y.id x.id)
           (omega (arith, follows, old_low x old, new_is y new))),
       all_pass (λ (p : PackageRow). nat_le p.document (length (t.document ++ row ∷ [])))
-          (t.packages ++ packages) (λ p there. is_le p.document (length (t.document ++ row ∷ []))
+          (t.packages ++ packages) (λ p there. le-leb p.document (length (t.document ++ row ∷ []))
           (elim (in_cases p t.packages packages there) [
             | inl old ↦ omega (arith, longer, old_low p old)
             | inr new ↦ omega (arith, longer, follows, new_is p new)
@@ -319,7 +311,7 @@ order_kept (Froze release revision frozen duties changes) t follows writable o =
     (subst (λ k. AreNumbered k (map numbers duties)) (omega (arith, length-map t.duty numbers))
     (are_numbers (n + 1) duties follows.0))) in
     let longer : length (t.duty ++ duties) ≡ n + length duties = length-append t.duty duties in
-    let old_low = λ (row : ChangeRow) (there : IsIn row t.changes). le_is row.duty n
+    let old_low = λ (row : ChangeRow) (there : IsIn row t.changes). leb-true row.duty n
     (each_passes (λ (row : ChangeRow). nat_le row.duty n) row t.changes o.of_duties there) in
     assumption (
       numbered,
@@ -332,7 +324,7 @@ order_kept (Froze release revision frozen duties changes) t follows writable o =
           (λ x y old new. after_any x.duty y.duty (nat_lt y.step x.step)
           (omega (arith, old_low x old, first_low (n + 1) y changes follows.1 new))),
       all_pass (λ (row : ChangeRow). nat_le row.duty (length (t.duty ++ duties)))
-          (t.changes ++ changes) (λ row there. is_le row.duty (length (t.duty ++ duties))
+          (t.changes ++ changes) (λ row there. le-leb row.duty (length (t.duty ++ duties))
           (elim (in_cases row t.changes changes there) [
             | inl old ↦ omega (arith, longer, old_low row old)
             | inr new ↦ omega (

@@ -1,9 +1,9 @@
 -- A statement inside a transaction that is never refused fails only for a cause.
-use Rattle.std.proofs.Common.{◌≡◌, ◌∙◌, inl, inr, ℕ, ◌+◌, ◌≤◌, Bool, true, false, List, [], length}
+use Rattle.std.proofs.Common.{◌≡◌, ◌∙◌, inl, inr, ℕ, ◌+◌, Bool, true, false, List, [], length}
 use Rattle.std.proofs.Common.{Option, Some, None, IfErr, IsTrue, Ok, Err, Result, append-nil, refl}
-use Rattle.std.proofs.Common.{sym, subst, subst₂, ap, arith}
+use Rattle.std.proofs.Common.{sym, subst, subst₂, ap}
 use Rattle.std.specs.Prelude.{nat_le}
-use Rattle.std.proofs.lemmas.Bool.Decides.{nat_tests}
+use Rattle.std.proofs.lemmas.Bool.{leb-true}
 use Rattle.sqlite_value.specs.Order.{Row}
 use Rattle.sqlite_trees.specs.declared.error.StoreError.TheVariants as store
 use Rattle.sqlite_schema.specs.declared.schema.Schema.{Schema}
@@ -45,9 +45,6 @@ is_other Rollback = true
 is_other (Release name) = true
 is_other (RollbackTo name) = true
 is_other _ = false
-
-le_is : (a b : ℕ) → nat_le a b ≡ true → a ≤ b
-le_is a b h = grind (arith, nat_tests)
 
 quiet : (k : Command) → is_other k ≡ false → (c : Compiled) → c.command ≡ k → c.returning ≡ None
     → shows_rows false c ≡ false
@@ -91,7 +88,7 @@ module _ (schema : Schema) (sql : List ℕ) (params : Row) (old new : State)
   no_statement : (e : Error) → IsNoStatement old sql params e → ⊥
   no_statement e (inl (fault, understood_not, told)) = let no = sym understood_not
       ∙ ap (λ s. understood s sql) has in subst (Fits sql (length params)) (sym no) fits
-  no_statement e (inr (c, it, inl (more, told))) = more (le_is _ _ (whole c it).0)
+  no_statement e (inr (c, it, inl (more, told))) = more (leb-true _ _ (whole c it).0)
   no_statement e (inr (c, it, inr (inl (differ, told)))) = differ (whole c it).1
   no_statement e (inr (c, it, inr (inr (formats, told)))) = formats (bare c it).1
 
