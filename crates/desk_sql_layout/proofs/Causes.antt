@@ -1,7 +1,7 @@
 -- A look-up fails only for a cause.
 use Rattle.std.proofs.Common.{◌≡◌, ◌⊎◌, inl, inr, ℕ, Bool, true, false, nat_le, List, [], ◌∷◌}
-use Rattle.std.proofs.Common.{length, map, filter, IfErr, None, Ok, Err, Result, IsTrue, append-nil}
-use Rattle.std.proofs.Common.{refl, sym, subst, ◌∙◌, ap, arith}
+use Rattle.std.proofs.Common.{length, map, filter, IfErr, Option, None, Ok, Err, Result, IsTrue}
+use Rattle.std.proofs.Common.{append-nil, refl, sym, subst, ◌∙◌, ap, arith}
 use Rattle.std.specs.List.{AllByRecursion}
 use Rattle.std.specs.Result.{IsErrAnd}
 use Rattle.std.proofs.lemmas.Bool.{leb-true}
@@ -16,7 +16,7 @@ use Rattle.sqlite_schema.specs.declared.command.Command.TheVariants.{Select}
 use Rattle.sqlite_resolve.specs.declared.compiled.Compiled.{Compiled}
 use Rattle.sqlite_resolve.specs.declared.error.CompileError.{CompileError}
 use Rattle.sqlite.specs.declared.error.Error.{Error}
-use Rattle.sqlite.specs.Effect.{Database, RefusesToRead}
+use Rattle.sqlite.specs.Effect.{Database, RefusesQuery, RefusesToRead}
 use Rattle.sqlite.specs.Listing.{understood, reads_listing, IsSourceOf}
 use Rattle.sqlite.specs.State.{State, HasCleanDisk, Survives, IsNoStatement, IsNotRun, Fails, FailsToQuery}
 use Rattle.sqlite.proofs.Callers.{IsPlain, command_of}
@@ -38,24 +38,25 @@ abbrev pub Suits : List ℕ → ℕ → Result Compiled CompileError → Type 0
 Suits sql count (Ok c) = (nat_le (length sql) c.tail ≡ true) × (count ≡ length c.names)
 Suits sql count (Err e) = ⊥
 
-never_refused : (tree : ℕ) (tests project : List Term) (order : List (Term × Key))
-    (names : List (List ℕ)) (params : Row)
+-- a query of one table never is
+pub never_refused : (limit : Option ℕ) (tree : ℕ) (tests project : List Term)
+    (order : List (Term × Key)) (params : Row) → limit ≡ None
     → accepts_program desk_schema [] (query_on tree tests project order) params ≡ true
     → (db : Database) (e : Error) → db.schema ≡ desk_schema
-    → ¬ RefusesToRead None (Select (record { lets = []; body = query_on tree tests project order })
-    names) db params e
-never_refused tree tests project order names params accepts db e has (inl typed) = absurd (let no =
-    rw (has, accepts) at typed.1 in cc)
-never_refused tree tests project order names params accepts db e has (inr (inl (
+    → ¬ RefusesQuery limit db (record { lets = []; body = query_on tree tests project order })
+    params e
+never_refused limit tree tests project order params none accepts db e has (inl typed) = absurd
+    (let no = rw (has, accepts) at typed.1 in cc)
+never_refused limit tree tests project order params none accepts db e has (inr (inl (
   is,
-  inl none,
-))) = none
-never_refused tree tests project order names params accepts db e has (inr (inl (
+  inl over,
+))) = over
+never_refused limit tree tests project order params none accepts db e has (inr (inl (
   is,
   inr any,
 ))) = any.4
-never_refused tree tests project order names params accepts db e has (inr (inr limited)) = absurd
-    (let no = limited.1 in cc)
+never_refused limit tree tests project order params none accepts db e has (inr (inr limited)) =
+    absurd (let no = rw none at limited.1 in cc)
 
 pub asked : (sql : List ℕ) (params : Row) (tree : ℕ) (tests project : List Term)
     (order : List (Term × Key)) (names : List (List ℕ))
@@ -86,7 +87,7 @@ asked sql params tree tests project order names is plain suits accepts = go
           whole = fits.0;
           given = fits.1;
           answers = λ db e has. subst (λ k. ¬ RefusesToRead None k db params e) (sym command)
-              (never_refused tree tests project order names params accepts db e has);
+              (never_refused None tree tests project order params refl accepts db e has);
         }
     go (Err e) known = absurd (subst (Suits sql (length params)) known suits)
 

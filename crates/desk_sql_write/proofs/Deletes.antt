@@ -111,7 +111,8 @@ pub choices_dropped_in : (release : List ℕ)
 choices_dropped_in release =
     drops choice_view (is_choice_in release)
     (λ t. record t { choice = filter (is_choice_elsewhere release) t.choice })
-    (λ t. refl) (λ t. search not_other) drop_choices_in_text ((0, Text release) ∷ []) drop_choices_in_reads refl (λ r. refl)
+    (λ t. refl) (λ t. search not_other) drop_choices_in_text ((0, Text release) ∷ [])
+    drop_choices_in_reads refl (λ r. refl)
     (λ row. last_text_test row.release release)
 
 -- ---- drop_conclusion
@@ -158,6 +159,6 @@ adoption_dropped document reference =
     (λ t. record t {
       adoption = filter (λ row. not (is_adoption document reference row))
           t.adoption;
-    }) (λ t. refl) (λ t. search not_other) drop_adoption_text ((0, number document) ∷ (1, Text reference) ∷ []) drop_adoption_reads refl
-    (λ r. refl)
+    }) (λ t. refl) (λ t. search not_other) drop_adoption_text
+    ((0, number document) ∷ (1, Text reference) ∷ []) drop_adoption_reads refl (λ r. refl)
     (λ row. number_then row.document document (last_text_test row.reference reference))

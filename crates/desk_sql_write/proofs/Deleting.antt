@@ -7,7 +7,7 @@ use Rattle.std.specs.List.{AllByRecursion}
 use Rattle.std.specs.List.Sorted.{IsPermutation}
 use Rattle.sqlite_value.specs.declared.keys.Order.{Order}
 use Rattle.sqlite_value.specs.Order.{Row}
-use Rattle.sqlite_trees.specs.Tree.{Trees, rowid, with_tree}
+use Rattle.sqlite_trees.specs.Tree.{rowid, with_tree}
 use Rattle.sqlite_trees.proofs.ListLemmas.{all-filter}
 use Rattle.sqlite_sql.specs.Term.{Term, col}
 use Rattle.sqlite_schema.specs.declared.schema.Column.{Column}
@@ -29,7 +29,7 @@ use Rattle.sqlite_rules.proofs.ListLemmas.{all_has, has_got}
 use Rattle.sqlite.specs.declared.error.Error.{Error}
 use Rattle.sqlite.specs.Effect.{Answers}
 use Rattle.sqlite.specs.Listing.{understood}
-use Rattle.sqlite.specs.Rows.{Then, Queried}
+use Rattle.sqlite.specs.Rows.{Then}
 use Rattle.sqlite.specs.Does.{Does, Concludes}
 use Rattle.sqlite.specs.State.{State, Executes, Survives, mode_of}
 use Rattle.sqlite.proofs.Callers.{statement_of, runs_as}
@@ -37,6 +37,7 @@ use Rattle.desk_model.specs.declared.command.Fault.{Fault}
 use Rattle.desk_sql_layout.specs.Held.{HasRows}
 use Rattle.desk_sql_layout.specs.Layout.{desk_schema, table_of}
 use Rattle.desk_sql_layout.specs.Stored.{cells, AreStored}
+use Rattle.desk_sql_layout.proofs.Causes.{never_refused}
 use Rattle.desk_sql_layout.proofs.Keeps.{stored_less}
 use Rattle.desk_sql_layout.proofs.Queries.{query_on, passes}
 use Rattle.desk_sql_layout.proofs.Statements.{alone, deleted}
@@ -48,27 +49,8 @@ use Rattle.desk_sql_write.specs.Written.{Ran}
 use Rattle.desk_sql_write.proofs.Failing.{Reads, caused, turns_by}
 use Rattle.desk_sql_write.proofs.Inserting.{rooms_left}
 use Rattle.desk_sql_write.proofs.Keyed.{unique_kept}
-use Rattle.desk_sql_write.proofs.Refusing.{IsFree, doing, fits_none, never_ends, never_stops, stored_with}
-
--- a query of one table is never refused
-pub no_refusal : (trees : Trees) (tree : ℕ) (tests project : List Term) (params : Row)
-    (limit : Option ℕ) (stop : Option Error) → limit ≡ None
-    → accepts_program desk_schema [] (query_on tree tests project []) params ≡ true
-    → Queried limit (at desk_schema trees)
-    (record { lets = []; body = query_on tree tests project [] }) params (Err stop) → ⊥
-no_refusal trees tree tests project params limit None none accepts refused = refused
-no_refusal trees tree tests project params limit (Some e) none accepts (inl typed) = absurd
-    (let no = rw accepts at typed.1 in cc)
-no_refusal trees tree tests project params limit (Some e) none accepts (inr (inl (
-  is,
-  inl over,
-))) = over
-no_refusal trees tree tests project params limit (Some e) none accepts (inr (inl (
-  is,
-  inr any,
-))) = any.4
-no_refusal trees tree tests project params limit (Some e) none accepts (inr (inr limited)) = absurd
-    (let no = rw none at limited.1 in cc)
+use Rattle.desk_sql_write.proofs.Refusing.{IsFree, doing, fits_none, never_ends, never_stops}
+use Rattle.desk_sql_write.proofs.Refusing.{stored_with}
 
 -- a statement is not stopped if the rows that its query shows make an edit that nothing refuses
 pub never_edited : (this : Table) (s : State) (params : Row) (tree : ℕ)
@@ -87,8 +69,9 @@ never_edited this s params tree tests project edit out none accepts free =
   where
     edits : (st : Option Error) → Editing desk_schema s params
         (record { lets = []; body = query_on tree tests project [] }) edit out (Err st) → ⊥
-    edits st (inl (e, queried, told)) = no_refusal s.now.trees tree tests project params
-        s.step_limit e none accepts queried
+    edits st (inl (None, queried, told)) = queried
+    edits st (inl (Some e, queried, told)) = never_refused s.step_limit tree tests project [] params
+        none accepts (at desk_schema s.now.trees) e refl queried
     edits st (inr (found, answers, inl (e, stopped, told))) = never_stops s.now.trees
         (edit found) e (free found answers) stopped
     edits st (inr (found, answers, inr (next, edited, gives))) = absurd (let no = gives in cc)

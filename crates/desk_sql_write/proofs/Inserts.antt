@@ -247,7 +247,8 @@ module _ {this : Table} {X : Type 0} {cells_of : X → Row} {place width : ℕ}
       → AreAdded text (flat_map cells_of rows) this.tree (map cells_of rows) (length rows)
   eight_added text count reads gives rows is =
       let terms = eight_terms this.key width in
-      added text terms count reads rows (eight (Gives this cells_of terms width count) gives rows is)
+      added text terms count reads rows
+      (eight (Gives this cells_of terms width count) gives rows is)
 
 -- ---- catalogue
 
@@ -361,7 +362,8 @@ references = search (reference_taken, cast_int, cast_text)
 
 pub reference_added : (row : ExtractedRow) → IsAdded add_reference_text 8 (extracted_cells row)
 reference_added row =
-    one_added references add_reference_text add_reference_reads row (assumption (reference_taken row).0)
+    one_added references add_reference_text add_reference_reads row
+    (assumption (reference_taken row).0)
 
 -- ---- conclusion
 
@@ -558,4 +560,5 @@ waivers = search (waiver_taken, cast_int, cast_text)
 pub waiver_added : (row : ChangeRow) (some : row.last_day ≢ None)
     → IsAdded add_waiver_text 28 (waiver_cells row)
 waiver_added row some =
-    one_added waivers add_waiver_text add_waiver_reads (row, some) (assumption (waiver_taken (row, some)).0)
+    one_added waivers add_waiver_text add_waiver_reads (row, some)
+    (assumption (waiver_taken (row, some)).0)

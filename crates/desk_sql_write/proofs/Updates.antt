@@ -166,7 +166,8 @@ withdraw_release_text = codes "UPDATE releases SET state = ?2 WHERE name = ?1"
 abbrev withdraw_release_project : List Term
 withdraw_release_project = col 1 0 ∷ col 1 1 ∷ col 1 2 ∷ col 1 3 ∷ col 0 1 ∷ col 1 5 ∷ []
 
-withdraw_release_reads : IsChange withdraw_release_text 2 8 14 (same 1 0 ∷ []) withdraw_release_project
+withdraw_release_reads : IsChange withdraw_release_text 2 8 14 (same 1 0 ∷ [])
+    withdraw_release_project
 unfolding understood everything
 withdraw_release_reads = record { is = refl; plain = (refl, refl); fits = (refl, refl) }
 

@@ -256,8 +256,8 @@ module _ (name : List ℕ) (tree : ℕ) (columns : List Column) (key : Option �
 
       are : AreStored this (after tree) (put_all kept (map cast found))
       are = stored_as this _ (after tree) _ perm
-          (stored_changed this (rows tree) stored mine p q f u (map cast found) it.agree it.acts made_of
-          keyed fresh)
+          (stored_changed this (rows tree) stored mine p q f u (map cast found) it.agree it.acts
+          made_of keyed fresh)
 
       cells_after : (r : Row) → Has stored r → p r ≡ true → Has (after tree) (u (cells this r))
       cells_after r has_r yes_r =
