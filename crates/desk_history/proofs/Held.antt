@@ -11,19 +11,19 @@ use Rattle.desk_model.specs.Lists.{latest, or_else, IsIn}
 use Rattle.std.specs.Str.{bytes_eq}
 use Rattle.desk_model.specs.Readings.{Readings}
 use Rattle.desk_model.specs.Keys.{is_document, is_package, is_conclusion}
-use Rattle.desk_model.specs.Conclusions.{adoptions, conclusion_row, text_given}
+use Rattle.desk_model.specs.Conclusions.{conclusion_row, text_given}
 use Rattle.desk_history.proofs.Concluding.{key_number, key_text}
 use Rattle.desk_history.proofs.Holding.{conclusion_stays, unheld}
-use Rattle.desk_model.specs.History.{choice, documents, form_of, in_force, namespace_in}
-use Rattle.desk_model.specs.History.{package_row, packages, packages_in, rules_in, is_package_of}
+use Rattle.desk_model.specs.History.{choice, documents, namespace_in}
+use Rattle.desk_model.specs.History.{package_row, packages, packages_in, is_package_of}
 use Rattle.desk_model.specs.History.{term_set, terms_given}
-use Rattle.desk_model.specs.Raised.{chosen_in, frozen, frozen_at, frozen_for_terms, frozen_under, rule_adopted, shipped}
+use Rattle.desk_model.specs.Raised.{frozen, frozen_at, frozen_term, frozen_under}
 use Rattle.desk_model.specs.Answers.{answer, is_recorded, IsHistory}
 use Rattle.desk_history.specs.Laws.{IsFrozenTerm, IsHeldMinimal}
-use Rattle.desk_history.proofs.Members.{in_cases, from_flat_map}
+use Rattle.desk_history.proofs.Freezes.{AtFreeze, at_earlier, at_once, for_term}
+use Rattle.desk_history.proofs.Members.{in_cases}
 use Rattle.desk_history.proofs.Chosen.{same_package}
 use Rattle.desk_history.proofs.Minimal.{history_before, recorded_is_minimal}
-use Rattle.desk_model.specs.declared.reading.Rule.{Rule}
 use Rattle.desk_model.specs.declared.row.DocumentRow.{DocumentRow}
 use Rattle.desk_model.specs.declared.row.FrozenRow.{FrozenRow}
 use Rattle.desk_model.specs.declared.row.PackageRow.{PackageRow}
@@ -167,68 +167,38 @@ choice_is_minimal w h r d p ok some = choice_by w h d p (latest (terms_given w r
 
 -- Frozen terms
 
-later_frozen : (w : Readings) (c : Command) (h : List Command) (f : FrozenRow) → IsFrozenTerm w h f
-    → IsFrozenTerm w (c ∷ h) f
-later_frozen w c h f is = record {
-  later = c ∷ is.later;
-  before = is.before;
-  day = is.day;
-  row = is.row;
-  rule = is.rule;
-  split = ap (λ hs. c ∷ hs) is.split;
-  ships = is.ships;
-  document = is.document;
-  package_id = is.package_id;
-  chosen = is.chosen;
-  ruled = is.ruled;
-  spelled = is.spelled;
-}
-
-frozen_by_rule : (w : Readings) (h : List Command) (r day : List ℕ) (f : FrozenRow) (p : PackageRow)
-    (term : List ℕ) (o : Option Rule) → IsIn p (shipped w h r)
-    → IsIn term (choice w h r p.document p.id)
-    → rule_adopted w (adoptions w h) (rules_in (in_force w h)) (unwrap_or (form_of h r) [])
-    p.document term ≡ o → IsIn f (frozen_under r p term o) → IsFrozenTerm w (Freeze r day ∷ h) f
-frozen_by_rule w h r day f p term None ships chosen e m = absurd m
-frozen_by_rule w h r day f p term (Some rule) ships chosen e m = elim m [
-  | inl is ↦ subst (IsFrozenTerm w (Freeze r day ∷ h)) is (record {
-    later = [];
-    before = h;
-    day = day;
-    row = p;
-    rule = rule;
-    split = refl;
-    ships = ships;
-    document = refl;
-    package_id = refl;
-    chosen = chosen;
-    ruled = e;
-    spelled = refl;
-  })
-  | inr none ↦ absurd none
+frozen_from : (w : Readings) (h : List Command) (f : FrozenRow) → IsIn f (frozen w h)
+    → AtFreeze h (λ before r. IsIn f (frozen_at w before r))
+frozen_from w [] f m = absurd m
+frozen_from w (Freeze r day ∷ h) f m = elim (in_cases f (frozen_at w h r) (frozen w h) m) [
+  | inl n ↦ at_once h r day n
+  | inr l ↦ at_earlier (Freeze r day) h (frozen_from w h f l)
 ]
-
-frozen_by_freeze : (w : Readings) (h : List Command) (r day : List ℕ) (f : FrozenRow)
-    → IsIn f (frozen_at w h r) → IsFrozenTerm w (Freeze r day ∷ h) f
-frozen_by_freeze w h r day f m =
-    let licences = adoptions w h in
-    let rules = rules_in (in_force w h) in
-    let form = unwrap_or (form_of h r) [] in
-    let p = from_flat_map (λ (p : PackageRow). frozen_for_terms w licences rules form r p
-    (chosen_in w h r p)) f (shipped w h r) m in
-    let t = from_flat_map (λ (term : List ℕ). frozen_under r p.0 term
-    (rule_adopted w licences rules form p.0.document term)) f (chosen_in w h r p.0) p.2 in
-    frozen_by_rule w h r day f p.0 t.0 (rule_adopted w licences rules form p.0.document t.0) p.1 t.1
-    refl t.2
+frozen_from w (c ∷ h) f m = at_earlier c h (frozen_from w h f m)
 
 pub frozen_in : (w : Readings) (h : List Command) (f : FrozenRow) → IsIn f (frozen w h)
     → IsFrozenTerm w h f
-frozen_in w [] f m = absurd m
-frozen_in w (Freeze r day ∷ h) f m = elim (in_cases f (frozen_at w h r) (frozen w h) m) [
-  | inl n ↦ frozen_by_freeze w h r day f n
-  | inr l ↦ later_frozen w (Freeze r day) h f (frozen_in w h f l)
-]
-frozen_in w (c ∷ h) f m = later_frozen w c h f (frozen_in w h f m)
+frozen_in w h f m =
+    let at = frozen_from w h f m in
+    let term = for_term w at.before at.release (frozen_under at.release) f (λ p term. refl) at.is in
+    let only = from_one (frozen_term at.release term.row term.term term.rule) f term.is in
+    subst (IsFrozenTerm w h) only (record {
+      later = at.later;
+      before = at.before;
+      day = at.day;
+      row = term.row;
+      rule = term.rule;
+      split = at.split;
+      ships = term.ships;
+      document = refl;
+      package_id = refl;
+      chosen = term.chosen;
+      ruled = term.ruled;
+      spelled = refl;
+    })
+  where
+    from_one : (x f : FrozenRow) → IsIn f (x ∷ []) → x ≡ f
+    from_one x f m = elim m [ inl is ↦ is | inr none ↦ absurd none ]
 
 -- the terms that a release was frozen with were held then, so they were a minimal set
 some_in : (x : List ℕ) (xs : List (List ℕ)) → IsIn x xs → xs ≡ [] → ⊥

@@ -14,9 +14,8 @@ use Rattle.desk_model.specs.Conclusions.{conclusions, office_text, text_given, c
 use Rattle.desk_model.specs.Conclusions.{sooner, first_opened, holder}
 use Rattle.desk_model.specs.Tables.{release_row, release_rows, standing, choices, choice_row}
 use Rattle.desk_model.specs.Answers.{answer, conclusion, Concluding, conclude_answer, concluding}
-use Rattle.desk_model.specs.Answers.{Choosing, choose_answer, choosing, first_bad, is_recorded}
-use Rattle.desk_model.specs.Answers.{IsHistory, unless}
-use Rattle.desk_history.proofs.Recorded.{past, is_so}
+use Rattle.desk_model.specs.Answers.{choosing, is_recorded, IsHistory, unless}
+use Rattle.desk_history.proofs.Recorded.{chooses, past}
 use Rattle.desk_model.specs.declared.refusal.Refusal.TheVariants as why
 use Rattle.desk_model.specs.declared.row.ChoiceRow.{ChoiceRow}
 use Rattle.desk_model.specs.declared.row.DocumentRow.{DocumentRow}
@@ -70,18 +69,17 @@ opened_stays (OpenRelease r' form) h r e = step (bytes_eq r' r)
     step false = e
 opened_stays c h r e = e
 
-chosen_known : (w : Readings) (texts : List (List ℕ)) (found : Choosing)
-    → IsTrue (is_recorded (choose_answer w texts found)) → is_some found.state ≡ true
-chosen_known w texts found e =
-    let one = past (option_map (λ i. why.BadTerm i) (first_bad w 0 texts)) _ e in
-    is_so (is_some found.state) why.UnknownRelease
-    (past (unless (is_some found.state) why.UnknownRelease) _ one.1).0
-
 chosen_opened : (w : Readings) (h : List Command) (r p : List ℕ) (d : ℕ) (texts : List (List ℕ))
     → IsTrue (is_recorded (answer w h (Choose r d p texts))) → is_some (form_of h r) ≡ true
 chosen_opened w h r p d texts recorded =
     sym (is_some-map (λ form. state_of h r) (form_of h r))
-    ∙ chosen_known w texts (choosing w h r d p) recorded
+    ∙ (chooses w texts (choosing w h r d p) recorded).has_release
+
+-- no choice is left where one was dropped
+still_held : (t : List ℕ) (ts : List (List ℕ)) (b : Bool) (o : Option (List (List ℕ)))
+    → unwrap_or (or_else (if b then Some [] else None) o) [] ≡ t ∷ ts → unwrap_or o [] ≡ t ∷ ts
+still_held t ts true o e = absurd (cc)
+still_held t ts false o e = e
 
 held_opened : (w : Readings) (h : List Command) (r : List ℕ) (d : ℕ) (p t : List ℕ)
     (ts : List (List ℕ)) → IsHistory w h → choice w h r d p ≡ t ∷ ts → is_some (form_of h r) ≡ true
@@ -96,22 +94,10 @@ held_opened w (Choose r' d' p' texts ∷ h) r d p t ts ok e = step
     step rest true f e = subst (λ n. is_some (form_of h n) ≡ true)
         (same_package r p r' p' d d' f).release (chosen_opened w h r' p' d' texts ok.0)
     step rest false f e = rest e
-held_opened w (Unchoose r' d' p' ∷ h) r d p t ts ok e = step
-    (λ f. held_opened w h r d p t ts ok.1 f) (is_package_of r d p r' d' p') e
-  where
-    step : (choice w h r d p ≡ t ∷ ts → is_some (form_of h r) ≡ true) → (b : Bool)
-        → unwrap_or (or_else (if b then Some [] else None) (latest (terms_given w r d p) h)) [] ≡ t
-        ∷ ts → is_some (form_of h r) ≡ true
-    step rest true e = cc
-    step rest false e = rest e
-held_opened w (Withdraw r' day text ∷ h) r d p t ts ok e = step
-    (λ f. held_opened w h r d p t ts ok.1 f) (bytes_eq r' r) e
-  where
-    step : (choice w h r d p ≡ t ∷ ts → is_some (form_of h r) ≡ true) → (b : Bool)
-        → unwrap_or (or_else (if b then Some [] else None) (latest (terms_given w r d p) h)) [] ≡ t
-        ∷ ts → is_some (form_of h r) ≡ true
-    step rest true e = cc
-    step rest false e = rest e
+held_opened w (Unchoose r' d' p' ∷ h) r d p t ts ok e = held_opened w h r d p t ts ok.1
+    (still_held t ts (is_package_of r d p r' d' p') (latest (terms_given w r d p) h) e)
+held_opened w (Withdraw r' day text ∷ h) r d p t ts ok e = held_opened w h r d p t ts ok.1
+    (still_held t ts (bytes_eq r' r) (latest (terms_given w r d p) h) e)
 held_opened w (c ∷ h) r d p t ts ok e = opened_stays c h r (held_opened w h r d p t ts ok.1 e)
 
 -- So there is one that was opened first

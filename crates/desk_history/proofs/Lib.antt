@@ -15,6 +15,7 @@ pub mod Steps
 pub mod Queries
 pub mod Running
 pub mod Members
+mod Freezes
 mod RaisedLaw
 mod Counting
 mod Minimal

@@ -1,8 +1,10 @@
 -- Tables that are in the order in which the reading lists them.
-use Rattle.std.proofs.Common.{◌≡◌, ℕ, ◌+◌, ◌≤◌, List, [], ◌∷◌, length, map, refl, ap, arith, length-append, inl, inr}
+use Rattle.std.proofs.Common.{◌≡◌, ℕ, ◌+◌, ◌≤◌, Bool, List, [], ◌∷◌, ◌++◌, length, map, sym, refl}
+use Rattle.std.proofs.Common.{ap, subst, arith, length-append, inl, inr, Option, Some, None}
 use Rattle.std.specs.Prelude.{Result, Ok, Err}
 use Rattle.std.specs.Result.{result_ok}
-use Rattle.std.specs.Ordering.{nat_cmp, ordering_then}
+use Rattle.std.specs.Ordering.{nat_cmp, on, then_cmp}
+use Rattle.std.specs.declared.cmp.Ordering.{Ordering}
 use Rattle.std.specs.Cmp.Lexicographic.{slice_cmp}
 use Rattle.std.proofs.lemmas.Cmp.{nat_cmp_total, tied_itself}
 use Rattle.desk_model.specs.Lists.{IsIn}
@@ -16,23 +18,45 @@ use Rattle.desk_history.specs.Laws.{Rises, ListsInOrder, AreSortedAsListed, rule
 use Rattle.desk_history.specs.Laws.{package_below, reference_below, extracted_order}
 use Rattle.desk_history.proofs.Members.{in_cases, from_map}
 use Rattle.desk_history.proofs.Rising.{smaller, first_less, rest_less, rises-append, rises-map}
-use Rattle.desk_model.specs.declared.reading.Catalogue.{Catalogue}
-use Rattle.desk_model.specs.declared.reading.Document.{Document}
-use Rattle.desk_model.specs.declared.refusal.CatalogueFault.{CatalogueFault}
-use Rattle.desk_model.specs.declared.refusal.DocumentFault.{DocumentFault}
 use Rattle.desk_model.specs.declared.row.ExtractedRow.{ExtractedRow}
 use Rattle.desk_model.specs.declared.row.PackageRow.{PackageRow}
 use Rattle.desk_model.specs.declared.row.RuleRow.{RuleRow}
 use Rattle.desk_model.specs.declared.command.Command.{Command}
 use Rattle.desk_model.specs.declared.command.Command.TheVariants.{LoadCatalogue, Import}
 
--- Rules
+-- What is read, and rows numbered by where they were read, after those read before
 
-rules_read : (w : Readings) → ListsInOrder w
-    → (text : List ℕ) (read : Result Catalogue CatalogueFault) → w.catalogue text ≡ read
-    → Rises (below_by rule_order) (rules_in (result_ok read))
-rules_read w in_order text (Ok catalogue) e = in_order.rules text catalogue e
-rules_read w in_order text (Err fault) e = tt
+rises_read : {A B E : Type 0} (below : B → B → Bool) (rows : Option A → List B) (read : Result A E)
+    → Rises below (rows None) → ((x : A) → read ≡ Ok x → Rises below (rows (Some x)))
+    → Rises below (rows (result_ok read))
+rises_read below rows (Ok x) none each = each x refl
+rises_read below rows (Err fault) none each = none
+
+within_next : {A B : Type 0} (number : B → ℕ) (row : A → B) (n : ℕ) (xs : List B) (ys : List A)
+    → ((y : A) → number (row y) ≡ n + 1) → ((x : B) → IsIn x xs → number x ≤ n)
+    → (x : B) → IsIn x (xs ++ map row ys) → number x ≤ n + 1
+within_next number row n xs ys own old x m = elim (in_cases x xs (map row ys) m) [
+  | inl before ↦ omega (arith, old x before)
+  | inr new ↦ (let at = from_map row x ys new in omega (arith, ap number at.2, own at.0))
+]
+
+rising_next : {A B : Type 0} (number : B → ℕ) (rest : B → B → Ordering) (row : A → B) (n : ℕ)
+    (xs : List B) (ys : List A) → ((y : A) → number (row y) ≡ n + 1)
+    → ((x : B) → IsIn x xs → number x ≤ n)
+    → Rises (below_by (then_cmp (on number nat_cmp) rest)) xs
+    → Rises (λ a b. below_by rest (row a) (row b)) ys
+    → Rises (below_by (then_cmp (on number nat_cmp) rest)) (xs ++ map row ys)
+rising_next number rest row n xs ys own old up more =
+    let order = then_cmp (on number nat_cmp) rest in
+    rises-append (below_by order) xs (map row ys) up
+    (rises-map row (λ a b. below_by rest (row a) (row b)) (below_by order)
+    (λ a b e. rest_less (nat_cmp (number (row a)) (number (row b))) (rest (row a) (row b))
+    (rw (own a, own b) (tied_itself nat_cmp_total (n + 1))) e) ys more)
+    (λ a b m k. let at = from_map row b ys k in
+    first_less (nat_cmp (number a) (number b)) (rest a b)
+    (smaller (number a) (number b) (omega (arith, old a m, ap number at.2, own at.0))))
+
+-- Rules
 
 next_revision : (h : List Command) (text : List ℕ)
     → length (revisions (LoadCatalogue text ∷ h)) ≡ length (revisions h) + 1
@@ -43,32 +67,22 @@ of_revision : (w : Readings) (h : List Command) (row : RuleRow) → IsIn row (ru
     → row.revision ≤ length (revisions h)
 of_revision w [] row m = absurd m
 of_revision w (LoadCatalogue text ∷ h) row m =
-    let n = length (revisions h) + 1 in
-    let rules = rules_in (result_ok (w.catalogue text)) in
-    elim (in_cases row (rule_rows w h) (map (rule_row n) rules) m) [
-      | inl old ↦ omega (arith, of_revision w h row old, next_revision h text)
-      | inr new ↦ (let at = from_map (rule_row n) row rules new in
-          omega (arith, ap (λ (r : RuleRow). r.revision) at.2, next_revision h text))
-    ]
+    let n = length (revisions h) in
+    subst (λ k. row.revision ≤ k) (sym (next_revision h text))
+    (within_next (λ (row : RuleRow). row.revision) (rule_row (n + 1)) n (rule_rows w h)
+    (rules_in (result_ok (w.catalogue text))) (λ r. refl) (of_revision w h) row m)
 of_revision w (c ∷ h) row m = of_revision w h row m
 
 pub rising_rules : (w : Readings) → ListsInOrder w → (h : List Command)
     → Rises (below_by rule_row_order) (rule_rows w h)
 rising_rules w in_order [] = tt
 rising_rules w in_order (LoadCatalogue text ∷ h) =
-    let n = length (revisions h) + 1 in
-    let rules = rules_in (result_ok (w.catalogue text)) in
-    rises-append (below_by rule_row_order) (rule_rows w h) (map (rule_row n) rules)
-    (rising_rules w in_order h)
-    (rises-map (rule_row n) (below_by rule_order) (below_by rule_row_order)
-    (λ a b e. rest_less (nat_cmp n n) (rule_order a b) (tied_itself nat_cmp_total n) e) rules
-    (rules_read w in_order text (w.catalogue text) refl))
-    (λ a b old new.
-    let at = from_map (rule_row n) b rules new in
-    first_less (nat_cmp a.revision b.revision)
-    (ordering_then (slice_cmp nat_cmp a.term b.term) (slice_cmp nat_cmp a.form b.form))
-    (smaller a.revision b.revision
-    (omega (arith, of_revision w h a old, ap (λ (r : RuleRow). r.revision) at.2))))
+    let n = length (revisions h) in
+    rising_next (λ (row : RuleRow). row.revision)
+    (then_cmp (on (λ row. row.term) (slice_cmp nat_cmp)) (on (λ row. row.form) (slice_cmp nat_cmp)))
+    (rule_row (n + 1)) n (rule_rows w h) (rules_in (result_ok (w.catalogue text))) (λ r. refl)
+    (of_revision w h) (rising_rules w in_order h)
+    (rises_read (below_by rule_order) rules_in (w.catalogue text) tt (in_order.rules text))
 rising_rules w in_order (c ∷ h) = rising_rules w in_order h
 
 -- Packages and references
@@ -83,82 +97,47 @@ next_document w h bytes profile = length-append (documents w h)
       profile = profile;
     } ∷ [])
 
-packages_read : (w : Readings) → ListsInOrder w
-    → (bytes : List ℕ) (read : Result Document DocumentFault) → w.document bytes ≡ read
-    → Rises package_below (packages_in (result_ok read))
-packages_read w in_order bytes (Ok document) e = in_order.packages bytes document e
-packages_read w in_order bytes (Err fault) e = tt
-
 of_document : (w : Readings) (h : List Command) (row : PackageRow) → IsIn row (packages w h)
     → row.document ≤ length (documents w h)
 of_document w [] row m = absurd m
 of_document w (Import bytes profile ∷ h) row m =
-    let n = length (documents w h) + 1 in
-    let ps = packages_in (result_ok (w.document bytes)) in
-    elim (in_cases row (packages w h) (map (package_row n) ps) m) [
-      | inl old ↦ omega (arith, of_document w h row old, next_document w h bytes profile)
-      | inr new ↦ (let at = from_map (package_row n) row ps new in
-          omega (arith, ap (λ (r : PackageRow). r.document) at.2, next_document w h bytes profile))
-    ]
+    let n = length (documents w h) in
+    subst (λ k. row.document ≤ k) (sym (next_document w h bytes profile))
+    (within_next (λ (row : PackageRow). row.document) (package_row (n + 1)) n (packages w h)
+    (packages_in (result_ok (w.document bytes))) (λ p. refl) (of_document w h) row m)
 of_document w (c ∷ h) row m = of_document w h row m
 
 pub rising_packages : (w : Readings) → ListsInOrder w → (h : List Command)
     → Rises (below_by package_order) (packages w h)
 rising_packages w in_order [] = tt
 rising_packages w in_order (Import bytes profile ∷ h) =
-    let n = length (documents w h) + 1 in
-    let ps = packages_in (result_ok (w.document bytes)) in
-    rises-append (below_by package_order) (packages w h) (map (package_row n) ps)
-    (rising_packages w in_order h)
-    (rises-map (package_row n) package_below (below_by package_order)
-    (λ a b e. rest_less (nat_cmp n n) (slice_cmp nat_cmp a.id b.id) (tied_itself nat_cmp_total n) e)
-    ps (packages_read w in_order bytes (w.document bytes) refl))
-    (λ a b old new.
-    let at = from_map (package_row n) b ps new in
-    first_less (nat_cmp a.document b.document) (slice_cmp nat_cmp a.id b.id)
-    (smaller a.document b.document
-    (omega (arith, of_document w h a old, ap (λ (r : PackageRow). r.document) at.2))))
+    let n = length (documents w h) in
+    rising_next (λ (row : PackageRow). row.document) (on (λ row. row.id) (slice_cmp nat_cmp))
+    (package_row (n + 1)) n (packages w h) (packages_in (result_ok (w.document bytes)))
+    (λ p. refl) (of_document w h) (rising_packages w in_order h)
+    (rises_read package_below packages_in (w.document bytes) tt (in_order.packages bytes))
 rising_packages w in_order (c ∷ h) = rising_packages w in_order h
-
-references_read : (w : Readings) → ListsInOrder w
-    → (bytes : List ℕ) (read : Result Document DocumentFault) → w.document bytes ≡ read
-    → Rises reference_below (references_in (result_ok read))
-references_read w in_order bytes (Ok document) e = in_order.references bytes document e
-references_read w in_order bytes (Err fault) e = tt
 
 defined_by : (w : Readings) (h : List Command) (row : ExtractedRow) → IsIn row (references w h)
     → row.document ≤ length (documents w h)
 defined_by w [] row m = absurd m
 defined_by w (Import bytes profile ∷ h) row m =
-    let n = length (documents w h) + 1 in
-    let rs = references_in (result_ok (w.document bytes)) in
-    elim (in_cases row (references w h) (map (extracted_row n) rs) m) [
-      | inl old ↦ omega (arith, defined_by w h row old, next_document w h bytes profile)
-      | inr new ↦ (let at = from_map (extracted_row n) row rs new in
-          omega (
-            arith,
-            ap (λ (r : ExtractedRow). r.document) at.2,
-            next_document w h bytes profile,
-          ))
-    ]
+    let n = length (documents w h) in
+    subst (λ k. row.document ≤ k) (sym (next_document w h bytes profile))
+    (within_next (λ (row : ExtractedRow). row.document) (extracted_row (n + 1)) n (references w h)
+    (references_in (result_ok (w.document bytes))) (λ r. refl) (defined_by w h) row m)
 defined_by w (c ∷ h) row m = defined_by w h row m
 
 rising_references : (w : Readings) → ListsInOrder w → (h : List Command)
     → Rises (below_by extracted_order) (references w h)
 rising_references w in_order [] = tt
 rising_references w in_order (Import bytes profile ∷ h) =
-    let n = length (documents w h) + 1 in
-    let rs = references_in (result_ok (w.document bytes)) in
-    rises-append (below_by extracted_order) (references w h) (map (extracted_row n) rs)
+    let n = length (documents w h) in
+    rising_next (λ (row : ExtractedRow). row.document)
+    (on (λ row. row.reference) (slice_cmp nat_cmp)) (extracted_row (n + 1)) n (references w h)
+    (references_in (result_ok (w.document bytes))) (λ r. refl) (defined_by w h)
     (rising_references w in_order h)
-    (rises-map (extracted_row n) reference_below (below_by extracted_order)
-    (λ a b e. rest_less (nat_cmp n n) (slice_cmp nat_cmp a.id b.id) (tied_itself nat_cmp_total n) e)
-    rs (references_read w in_order bytes (w.document bytes) refl))
-    (λ a b old new.
-    let at = from_map (extracted_row n) b rs new in
-    first_less (nat_cmp a.document b.document) (slice_cmp nat_cmp a.reference b.reference)
-    (smaller a.document b.document
-    (omega (arith, defined_by w h a old, ap (λ (r : ExtractedRow). r.document) at.2))))
+    (rises_read reference_below references_in (w.document bytes) tt (in_order.references bytes))
 rising_references w in_order (c ∷ h) = rising_references w in_order h
 
 pub sorted_as_listed : (w : Readings) (h : List Command) → ListsInOrder w

@@ -2,19 +2,17 @@
 use Rattle.std.proofs.Common.{◌≡◌, ℕ, true, List, [], ◌∷◌, ◌++◌, Option, Some, None, refl, subst}
 use Rattle.std.specs.Prelude.{find, is_some, IsTrue}
 use Rattle.std.specs.List.{filter_map}
-use Rattle.std.specs.Option.{option_map, option_and_then}
+use Rattle.std.specs.Option.{option_and_then}
 use Rattle.desk_model.specs.Readings.{Readings}
 use Rattle.desk_model.specs.Keys.{is_document}
 use Rattle.desk_model.specs.History.{documents}
 use Rattle.desk_model.specs.Answers.{answer, is_recorded, IsHistory, conclusion, Choosing, choosing}
-use Rattle.desk_model.specs.Answers.{first_bad, is_shipped, not_enough, not_minimal, unconcluded}
-use Rattle.desk_model.specs.Answers.{unless, unready, verdict_on}
+use Rattle.desk_model.specs.Answers.{not_enough, not_minimal, unconcluded, verdict_on}
 use Rattle.desk_history.specs.Laws.{IsMinimalChoice}
-use Rattle.desk_history.proofs.Recorded.{past, is_so}
+use Rattle.desk_history.proofs.Recorded.{chooses}
 use Rattle.desk_model.specs.declared.reading.Conclusion.{Conclusion}
 use Rattle.desk_model.specs.declared.reading.Verdict.{Verdict}
 use Rattle.desk_model.specs.declared.reading.Verdict.TheVariants.{NotEnough, Superfluous, Minimal}
-use Rattle.desk_model.specs.declared.refusal.Refusal.TheVariants as why
 use Rattle.desk_model.specs.declared.row.DocumentRow.{DocumentRow}
 use Rattle.desk_model.specs.declared.row.PackageRow.{PackageRow}
 use Rattle.desk_model.specs.declared.command.Command.{Command}
@@ -62,21 +60,10 @@ pub recorded_is_minimal : (w : Readings) (before : List Command) (r : List ℕ) 
     → IsMinimalChoice w before d p texts
 recorded_is_minimal w before r d p texts e =
     let found : Choosing = choosing w before r d p in
-    let terms = filter_map w.term texts in
-    let one = past (option_map (λ i. why.BadTerm i) (first_bad w 0 texts)) _ e in
-    let two = past (unless (is_some found.state) why.UnknownRelease) _ one.1 in
-    let three = past (unless found.has_document why.UnknownDocument) _ two.1 in
-    let four = past (unless (is_some found.row) why.UnknownPackage) _ three.1 in
-    let five = past (option_and_then unready found.state) _ four.1 in
-    let six = past (unless (is_shipped found) why.NotShipped) _ five.1 in
-    let seven = past (option_and_then (unconcluded found.conclusion) found.row) _ six.1 in
-    let eight = past (option_and_then not_enough (verdict_on w found.conclusion terms)) _ seven.1 in
-    let nine = past (option_and_then (not_minimal terms) (verdict_on w found.conclusion terms)) _
-    eight.1 in
-    let document = there (find (is_document d) (documents w before))
-    (is_so found.has_document why.UnknownDocument three.0) in
-    let c = chosen_by w (conclusion w before) terms found.row found.conclusion refl
-    (is_so (is_some found.row) why.UnknownPackage four.0) seven.0 eight.0 nine.0 in
+    let is = chooses w texts found e in
+    let document = there (find (is_document d) (documents w before)) is.has_document in
+    let c = chosen_by w (conclusion w before) (filter_map w.term texts) found.row found.conclusion
+    refl is.has_package is.concluded is.enough is.minimal in
     record {
       document = document.0;
       row = c.row;

@@ -1,10 +1,11 @@
 -- The number of a duty, by the freeze that raises it; and that it stays the same.
-use Rattle.std.proofs.Common.{◌≡◌, ℕ, ◌+◌, List, [], ◌∷◌, ◌++◌, length, sym, refl, ap, subst, inl, inr}
+use Rattle.std.proofs.Common.{◌≡◌, ℕ, ◌+◌, List, [], ◌∷◌, ◌++◌, length, sym, subst, inl, inr}
 use Rattle.std.specs.List.{enumerate_from}
 use Rattle.desk_model.specs.Lists.{IsIn}
 use Rattle.desk_model.specs.Readings.{Readings}
 use Rattle.desk_model.specs.Raised.{raised, owed_at, numbered}
 use Rattle.desk_history.specs.Laws.{IsNumbered}
+use Rattle.desk_history.proofs.Freezes.{AtFreeze, at_earlier, at_once}
 use Rattle.desk_history.proofs.Members.{in_left, in_right, in_cases}
 use Rattle.desk_history.proofs.Freezing.{numbered-append}
 use Rattle.desk_model.specs.declared.row.Owed.{Owed}
@@ -43,36 +44,27 @@ is_in_numbered w h d is =
     (numbers_stay w is.later (Freeze is.release is.day ∷ is.before) d
     (new_numbers w is.before is.release is.day d is.raises))
 
-later_numbered : (w : Readings) (c : Command) (h : List Command) (d : ℕ × Owed) → IsNumbered w h d
-    → IsNumbered w (c ∷ h) d
-later_numbered w c h d is = record {
-  later = c ∷ is.later;
-  before = is.before;
-  release = is.release;
-  day = is.day;
-  split = ap (λ hs. c ∷ hs) is.split;
-  raises = is.raises;
-}
-
-here_numbered : (w : Readings) (h : List Command) (r day : List ℕ) (d : ℕ × Owed)
-    → IsIn d (enumerate_from (1 + length (raised w h)) (owed_at w h r))
-    → IsNumbered w (Freeze r day ∷ h) d
-here_numbered w h r day d m = record {
-  later = [];
-  before = h;
-  release = r;
-  day = day;
-  split = refl;
-  raises = m;
-}
+numbered_at : (w : Readings) (h : List Command) (d : ℕ × Owed) → IsIn d (numbered w h)
+    → AtFreeze h (λ before r. IsIn d (enumerate_from (1 + length (raised w before))
+    (owed_at w before r)))
+numbered_at w [] d m = absurd m
+numbered_at w (Freeze r day ∷ h) d m =
+    elim (in_cases d (numbered w h) (enumerate_from (1 + length (raised w h)) (owed_at w h r))
+    (subst (λ ds. IsIn d ds) (numbered-freeze w h r day) m)) [
+      | inl old ↦ at_earlier (Freeze r day) h (numbered_at w h d old)
+      | inr new ↦ at_once h r day new
+    ]
+numbered_at w (c ∷ h) d m = at_earlier c h (numbered_at w h d m)
 
 pub numbered_in : (w : Readings) (h : List Command) (d : ℕ × Owed) → IsIn d (numbered w h)
     → IsNumbered w h d
-numbered_in w [] d m = absurd m
-numbered_in w (Freeze r day ∷ h) d m =
-    elim (in_cases d (numbered w h) (enumerate_from (1 + length (raised w h)) (owed_at w h r))
-    (subst (λ ds. IsIn d ds) (numbered-freeze w h r day) m)) [
-      | inl old ↦ later_numbered w (Freeze r day) h d (numbered_in w h d old)
-      | inr new ↦ here_numbered w h r day d new
-    ]
-numbered_in w (c ∷ h) d m = later_numbered w c h d (numbered_in w h d m)
+numbered_in w h d m =
+    let at = numbered_at w h d m in
+    record {
+      later = at.later;
+      before = at.before;
+      release = at.release;
+      day = at.day;
+      split = at.split;
+      raises = at.is;
+    }

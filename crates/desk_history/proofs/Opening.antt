@@ -18,7 +18,6 @@ use Rattle.desk_model.specs.Answers.{Withdrawing, withdrawing, withdraw_answer}
 use Rattle.desk_history.proofs.Recorded.{past, is_so, is_ready}
 use Rattle.desk_history.proofs.Rows.{map-put, map_others, texts_turned}
 use Rattle.desk_history.proofs.Lookups.{names-form, length-releases}
-use Rattle.desk_model.specs.declared.state.ReleaseState.{ReleaseState}
 use Rattle.desk_model.specs.declared.state.ReleaseState.TheVariants.{IsOpen}
 use Rattle.desk_model.specs.declared.refusal.Refusal.TheVariants as why
 use Rattle.desk_model.specs.declared.command.Command.{Command}

@@ -251,7 +251,7 @@ distinct-packages w own (c ∷ h) = distinct-packages w own h
 
 -- Attached documents: none is attached twice
 
-attached_new : (found : Attaching) → IsTrue (is_recorded (attach_answer found))
+pub attached_new : (found : Attaching) → IsTrue (is_recorded (attach_answer found))
     → found.is_attached ≡ false
 attached_new found e =
     let one = past (unless (is_some found.state) why.UnknownRelease) _ e in

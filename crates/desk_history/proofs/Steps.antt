@@ -1,10 +1,11 @@
 -- The tables of a history answer and change as the history does.
-use Rattle.std.proofs.Common.{◌≡◌, ℕ, Bool, true, false, List, ◌∷◌, Option, None, ◌++◌, length, map, sym, refl, ap, ◌∙◌}
+use Rattle.std.proofs.Common.{◌≡◌, ℕ, Bool, true, false, List, ◌∷◌, Option, None, ◌++◌, map, sym}
+use Rattle.std.proofs.Common.{refl, ap, ◌∙◌}
 use Rattle.std.specs.Prelude.{if◌then◌else◌, IsTrue, is_some, filter}
 use Rattle.desk_model.specs.Lists.{put_all}
 use Rattle.desk_model.specs.Readings.{Readings}
 use Rattle.desk_model.specs.Keys.{below_by, choice_order}
-use Rattle.desk_model.specs.History.{opened, form_of, forms_in, in_force, term_set}
+use Rattle.desk_model.specs.History.{form_of, term_set}
 use Rattle.desk_model.specs.declared.row.Move.{Move}
 use Rattle.desk_model.specs.Moves.{duties, all_changes}
 use Rattle.desk_model.specs.declared.state.Word.TheVariants as word
