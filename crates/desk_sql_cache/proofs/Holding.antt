@@ -49,7 +49,8 @@ use Rattle.desk_sorted.proofs.Ascending.{rises_along}
 use Rattle.desk_memory_rows.specs.Holders.{AreHolders, holder_of, holder_order, holders_after}
 use Rattle.desk_memory_rows.specs.Holders.{is_held, is_holder, is_holding}
 use Rattle.desk_memory_rows.specs.declared.holders.Holder.{Holder}
-use Rattle.desk_memory_rows.proofs.Holding.{holders_kept, in_filter, in_put}
+use Rattle.desk_history.proofs.Distinct.{from_filter, from_put}
+use Rattle.desk_memory_rows.proofs.Holding.{holders_kept}
 use Rattle.desk_sql_layout.specs.Cells.{release_cells}
 use Rattle.desk_sql_layout.specs.Held.{Holds, rows_of, seen_of}
 use Rattle.desk_sql_layout.specs.Layout.{releases_table}
@@ -227,7 +228,7 @@ noted releases choices i row place all low is at held = record {
   placed = λ x there.
       let others = filter (λ y. not (is_holding row.document row.package_id place row.release y))
       all in
-      one x (in_put (below_by holder_order) own x others there);
+      one x (from_put (below_by holder_order) x own others there);
   holding = λ r d p.
       any_noted row.release place row.document row.package_id r d p all
       ∙ (ap (λ b. is_holder r d p own || b) (held.holding r d p)
@@ -244,7 +245,7 @@ noted releases choices i row place all low is at held = record {
         all) → IsPlace releases x.release x.place
     one x (inl same) = subst (λ (y : Holder). IsPlace releases y.release y.place) same at
     one x (inr old) = held.placed x
-        (in_filter (λ y. not (is_holding row.document row.package_id place row.release y)) x all
+        (from_filter (λ y. not (is_holding row.document row.package_id place row.release y)) x all
         old).0
 
 pub none_noted : (releases : List ReleaseRow) (all : List Holder) → all ≡ []

@@ -7,7 +7,8 @@ use Rattle.desk_model.specs.declared.row.ChoiceRow.{ChoiceRow}
 use Rattle.desk_sorted.specs.Blocks.{rows_in}
 use Rattle.desk_sorted.proofs.Walking.{block_ascends, filter_split, rest_ascends}
 use Rattle.desk_memory_rows.specs.Holders.{leaving, letting_go}
-use Rattle.desk_memory_rows.proofs.Holding.{drop_rest, let_go_both, let_go_none}
+use Rattle.desk_memory_rows.proofs.Holding.{let_go_both, let_go_none}
+use Rattle.desk_memory_rows.proofs.Lists.{drop_rest}
 use Rattle.desk_memory_rows.proofs.choices.drop_holders.Goals as goal
 
 pub run_in-requires : goal.run_in-requires

@@ -2,7 +2,8 @@ use Rattle.std.proofs.Common.{◌+◌, ◌∙◌, [], ◌∷◌, ap, sym, drop}
 use Rattle.desk_model.specs.declared.row.ChoiceRow.{ChoiceRow}
 use Rattle.desk_sorted.specs.Blocks.{rows_in}
 use Rattle.desk_memory_rows.specs.Holders.{letting_go}
-use Rattle.desk_memory_rows.proofs.Holding.{drop_rest, let_go_both, let_go_none, let_go_one, row_at}
+use Rattle.desk_memory_rows.proofs.Holding.{let_go_both, let_go_none, let_go_one}
+use Rattle.desk_memory_rows.proofs.Lists.{drop_rest, row_at}
 use Rattle.desk_memory_rows.proofs.holders.drop_choices.Goals as goal
 
 pub loop-row-preserved : goal.loop-row-preserved

@@ -2,7 +2,7 @@ use Rattle.std.proofs.Common.{ap, ◌∙◌}
 use Rattle.std.specs.Option.{option_map}
 use Rattle.desk_memory_rows.specs.declared.holders.Holder.{Holder}
 use Rattle.desk_sorted.specs.Blocks.{rows_in}
-use Rattle.desk_memory_rows.proofs.Holding.{first_holder}
+use Rattle.desk_memory_rows.proofs.FirstHolder.{first_holder}
 use Rattle.desk_memory_rows.proofs.choices.Choices.holder.Goals as goal
 
 pub returns : goal.returns

@@ -1,7 +1,7 @@
 use Rattle.std.proofs.Common.{Some, ◌∙◌, ap}
 use Rattle.std.specs.Option.{option_map}
 use Rattle.desk_memory_rows.specs.declared.holders.Holder.{Holder}
-use Rattle.desk_memory_rows.proofs.Holding.{first_holder}
+use Rattle.desk_memory_rows.proofs.FirstHolder.{first_holder}
 use Rattle.desk_sql_cache.specs.Holding.{held_by}
 use Rattle.desk_sql_cache.proofs.holders.Holders.first.Goals as goal
 
