@@ -1,6 +1,6 @@
 -- A text that spells no term has a stop, and only one.
 use Rattle.std.proofs.Common.{◌≡◌, ◌∙◌, inl, inr, ℕ, zero, suc, ◌<◌, ◌≤◌, false, List, [], ◌∷◌}
-use Rattle.std.proofs.Common.{◌++◌, length, ap, sym, append_assoc, length-append, refl, arith, Some}
+use Rattle.std.proofs.Common.{◌++◌, length, ap, append_assoc, refl, arith, Some}
 use Rattle.std.proofs.Common.{None}
 use Rattle.desk_base.specs.Limits as limit
 use Rattle.desk_base.specs.declared.profile.Profile.{Profile}
@@ -15,7 +15,7 @@ use Rattle.desk_expr.specs.Grammar.{Symbol, closing, with_word, word, bad, Spell
 use Rattle.desk_expr.specs.Spelling.{symbol, symbol_of, symbols, still_open, closings, Begins}
 use Rattle.desk_expr.specs.Spelling.{IsStopBy, SpellsTermWithinBy}
 use Rattle.desk_expr.proofs.ParseLemmas.{symbols_behind}
-use Rattle.desk_expr.proofs.TermLemmas.{term_inv, term_short, good_term}
+use Rattle.desk_expr.proofs.TermLemmas.{term_inv, good_term, has_words}
 use Rattle.desk_alts.proofs.Decide.{Decided, SomeOrNone, decided_le}
 use Rattle.desk_alts.proofs.Stops.{spelled_or_stops}
 use Rattle.desk_alts.proofs.OneStop as once
@@ -61,24 +61,7 @@ spelled_or_not ss = inr (λ a h. elim (term_inv ss a h)
 -- a term has no closing parenthesis
 no_closing : (ss : List Symbol) (t : Term) → SpellsTerm ss t → (front behind : List Symbol)
     → ss ≡ front ++ closing ∷ behind → ⊥
-no_closing ss t h [] behind is = elim (term_inv ss t h) [
-  | inl (o, e) ↦ let same = sym e ∙ is in cc
-  | inr (v, u, o, x, e, k) ↦ let same = sym e ∙ is in
-      cc
-]
-no_closing ss t h (a ∷ []) behind is = elim (term_inv ss t h) [
-  | inl (o, e) ↦ let same = sym e ∙ is in cc
-  | inr (v, u, o, x, e, k) ↦ let same = sym e ∙ is in
-      cc
-]
-no_closing ss t h (a ∷ b ∷ []) behind is = elim (term_inv ss t h) [
-  | inl (o, e) ↦ let same = sym e ∙ is in cc
-  | inr (v, u, o, x, e, k) ↦ let same = sym e ∙ is in
-      cc
-]
-no_closing ss t h (a ∷ b ∷ c ∷ front) behind is =
-    let few = term_short ss t h in
-    absurd (omega (arith, few, ap length is, length-append front (closing ∷ behind)))
+no_closing = has_words closing (λ t o e. cc) (λ e. cc)
 
 few_close : (ts : List Lexeme) (n : ℕ) (a : Term) → SpellsTerm (symbols ts ++ closings n) a
     → n ≤ length (still_open ts)

@@ -66,47 +66,52 @@ pub lexemes_push : (yielded : List Token) (t : Token)
     → map lexeme (yielded ++ t ∷ []) ≡ map lexeme yielded ++ lexeme t ∷ []
 lexemes_push yielded t = map-append lexeme yielded (t ∷ [])
 
+-- those so far are all if none comes after them
+pub so_far_all : (profile : Profile) (text : List ℕ) (yielded : List Token) (cuts : TokenCuts)
+    → SoFar profile text yielded cuts → AreTokensBy cuts.profile cuts.place cuts.rest.now []
+    → AreTokensBy profile 0 text (map lexeme yielded)
+so_far_all profile text yielded cuts so_far none =
+    subst (AreTokensBy profile 0 text) (append-nil (map lexeme yielded)) (so_far [] none)
+
 -- ---- stops
 
-module _ (profile : Profile) (text : List ℕ) (yielded : List Token) (t : Token)
-    (cuts new : TokenCuts) where
-  at_token : (f : ParseFault) → SoFar profile text yielded cuts → TokenGiven cuts (Some t) new
-      → AllFronts (Stands SpellsTree) (map lexeme yielded)
-      → Reason SpellsTree (map lexeme yielded) (lexeme t) f → StopsAtToken SpellsTree profile text f
-  at_token f so_far given stands reason =
-      let behind = tokens_exist cuts.profile t.end new.rest.now in (
+module _ {A : Type 0} (Spells : List Symbol → A → Type 0) (profile : Profile) (text : List ℕ)
+    (yielded : List Token) (t : Token) (cuts new : TokenCuts) where
+  is_stop : (f : ParseFault) → length text ≤ limit.expression_bytes
+      → StopsAtToken Spells profile text f → Reason Spells (map lexeme yielded) (lexeme t) f
+      → IsStopBy Spells profile text f
+  is_stop (Empty p) short at reason = absurd reason
+  is_stop (BadToken p) short at reason = (short, at)
+  is_stop (Unexpected p) short at reason = (short, inl at)
+  is_stop (Unclosed p) short at reason = absurd reason
+  is_stop (TooDeep p) short at reason = (short, at)
+  is_stop (TooLong p) short at reason = absurd reason
+  is_stop (TooManyTerms p) short at reason = (short, at)
+  is_stop (Memory e) short at reason = tt
+
+  pub stop_by_reason : (f : ParseFault) → length text ≤ limit.expression_bytes
+      → SoFar profile text yielded cuts → TokenGiven cuts (Some t) new
+      → AllFronts (Stands Spells) (map lexeme yielded)
+      → Reason Spells (map lexeme yielded) (lexeme t) f → IsStopBy Spells profile text f
+  stop_by_reason f short so_far given stands reason =
+      let behind = tokens_exist cuts.profile t.end new.rest.now in
+      is_stop f short (
         map lexeme yielded,
         lexeme t,
         behind.0,
         so_far (lexeme t ∷ behind.0) (new.rest.now, given.0, behind.1),
         stands,
         reason,
-      )
+      ) reason
 
-  pub stop_at_token : (f : ParseFault) → length text ≤ limit.expression_bytes
-      → SoFar profile text yielded cuts → TokenGiven cuts (Some t) new
-      → AllFronts (Stands SpellsTree) (map lexeme yielded)
-      → StopsAfter (map lexeme yielded) (lexeme t) f → IsStopBy SpellsTree profile text f
-  stop_at_token (Empty p) short so_far given stands h = absurd h
-  stop_at_token (BadToken p) short so_far given stands h = (
-    short,
-    at_token (BadToken p) so_far given stands h,
-  )
-  stop_at_token (Unexpected p) short so_far given stands h = (
-    short,
-    inl (at_token (Unexpected p) so_far given stands h),
-  )
-  stop_at_token (Unclosed p) short so_far given stands h = absurd h
-  stop_at_token (TooDeep p) short so_far given stands h = (
-    short,
-    at_token (TooDeep p) so_far given stands h,
-  )
-  stop_at_token (TooLong p) short so_far given stands h = absurd h
-  stop_at_token (TooManyTerms p) short so_far given stands h = (
-    short,
-    at_token (TooManyTerms p) so_far given stands h,
-  )
-  stop_at_token (Memory e) short so_far given stands h = tt
+pub stop_at_token : (profile : Profile) (text : List ℕ) (yielded : List Token) (t : Token)
+    (cuts new : TokenCuts) (f : ParseFault) → length text ≤ limit.expression_bytes
+    → SoFar profile text yielded cuts → TokenGiven cuts (Some t) new
+    → AllFronts (Stands SpellsTree) (map lexeme yielded)
+    → StopsAfter (map lexeme yielded) (lexeme t) f → IsStopBy SpellsTree profile text f
+stop_at_token profile text yielded t cuts new (Memory e) short so_far given stands h = tt
+stop_at_token profile text yielded t cuts new f short so_far given stands h = stop_by_reason
+    SpellsTree profile text yielded t cuts new f short so_far given stands h
 
 at_end : (profile : Profile) (text : List ℕ) (ts : List Lexeme) (f : ParseFault)
     → AreTokensBy profile 0 text ts → AllFronts (Stands SpellsTree) ts → is_started ts ≡ true

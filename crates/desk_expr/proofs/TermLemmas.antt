@@ -29,9 +29,10 @@ use Rattle.desk_expr.specs.Spelling.{operand_words_after, closings, AllFronts, B
 use Rattle.desk_expr.specs.Spelling.{Reason, StopsAtToken, StopsAtEnd, IsStopBy, SpellsTermAloneBy}
 use Rattle.desk_expr.specs.Spelling.{SpellsTermWithinBy}
 use Rattle.desk_expr.specs.TermReading.{TermRest, HasBegun, TermSteps, TermStops, TermEnds, TermFalls}
-use Rattle.desk_tokens.proofs.Lexing.{tokens_exist, same_tokens}
+use Rattle.desk_tokens.proofs.Lexing.{same_tokens}
 use Rattle.desk_expr.proofs.ProgressLemmas.{symbols_push, fronts_push}
 use Rattle.desk_expr.proofs.ParseLemmas.{SoFar, faults_spell, stop_spells, symbols_behind, symbols_split}
+use Rattle.desk_expr.proofs.ParseLemmas.{stop_by_reason}
 
 -- ---- steps
 
@@ -245,36 +246,16 @@ only_memory : (profile : Profile) (text : List ℕ) (f : ParseFault) → f ≡ M
     → IsStopBy SpellsTerm profile text f
 only_memory profile text f is = subst (IsStopBy SpellsTerm profile text) (sym is) tt
 
-module _ (profile : Profile) (text : List ℕ) (yielded : List Token) (t : Token)
-    (cuts new : TokenCuts) where
-  at_token : (f : ParseFault) → length text ≤ limit.expression_bytes
-      → StopsAtToken SpellsTerm profile text f → Reason SpellsTerm (map lexeme yielded) (lexeme t) f
-      → IsStopBy SpellsTerm profile text f
-  at_token (Empty p) short at reason = absurd reason
-  at_token (BadToken p) short at reason = (short, at)
-  at_token (Unexpected p) short at reason = (short, inl at)
-  at_token (Unclosed p) short at reason = absurd reason
-  at_token (TooDeep p) short at reason = (short, at)
-  at_token (TooLong p) short at reason = absurd reason
-  at_token (TooManyTerms p) short at reason = (short, at)
-  at_token (Memory e) short at reason = tt
-
-  pub stop_at_token : (f : ParseFault) → length text ≤ limit.expression_bytes
-      → SoFar profile text yielded cuts → TokenGiven cuts (Some t) new
-      → AllFronts (Stands SpellsTerm) (map lexeme yielded)
-      → (f ≡ Memory alloc_error) ⊎ Reason SpellsTerm (map lexeme yielded) (lexeme t) f
-      → IsStopBy SpellsTerm profile text f
-  stop_at_token f short so_far given stands (inl is) = only_memory profile text f is
-  stop_at_token f short so_far given stands (inr reason) =
-      let behind = tokens_exist cuts.profile t.end new.rest.now in
-      at_token f short (
-        map lexeme yielded,
-        lexeme t,
-        behind.0,
-        so_far (lexeme t ∷ behind.0) (new.rest.now, given.0, behind.1),
-        stands,
-        reason,
-      ) reason
+pub stop_at_token : (profile : Profile) (text : List ℕ) (yielded : List Token) (t : Token)
+    (cuts new : TokenCuts) (f : ParseFault) → length text ≤ limit.expression_bytes
+    → SoFar profile text yielded cuts → TokenGiven cuts (Some t) new
+    → AllFronts (Stands SpellsTerm) (map lexeme yielded)
+    → (f ≡ Memory alloc_error) ⊎ Reason SpellsTerm (map lexeme yielded) (lexeme t) f
+    → IsStopBy SpellsTerm profile text f
+stop_at_token profile text yielded t cuts new f short so_far given stands (inl is) = only_memory
+    profile text f is
+stop_at_token profile text yielded t cuts new f short so_far given stands (inr reason) =
+    stop_by_reason SpellsTerm profile text yielded t cuts new f short so_far given stands reason
 
 -- an exception doesn't come first
 no_exception_first : (v : Term)
@@ -372,26 +353,32 @@ spells_term_once profile text a b (ts, are, h) (us, are', k) =
 
 -- ---- a text that stops spells no term
 
+-- a term has words and 'with' alone
+pub has_words : (s : Symbol) → ((t : Term) (o : Option (List ℕ)) → word t o ≡ s → ⊥)
+    → (with_word ≡ s → ⊥) → (ss : List Symbol) (t : Term) → SpellsTerm ss t
+    → (front behind : List Symbol) → ss ≡ front ++ s ∷ behind → ⊥
+has_words s no_word no_with ss t h [] behind is = elim (term_inv ss t h) [
+  | inl (o, e) ↦ let same = sym e ∙ is in no_word t o (cc)
+  | inr (v, u, o, x, e, k) ↦ let same = sym e ∙ is in
+      no_word v o (cc)
+]
+has_words s no_word no_with ss t h (a ∷ []) behind is = elim (term_inv ss t h) [
+  | inl (o, e) ↦ let same = sym e ∙ is in cc
+  | inr (v, u, o, x, e, k) ↦ let same = sym e ∙ is in
+      no_with (cc)
+]
+has_words s no_word no_with ss t h (a ∷ b ∷ []) behind is = elim (term_inv ss t h) [
+  | inl (o, e) ↦ let same = sym e ∙ is in cc
+  | inr (v, u, o, x, e, k) ↦ let same = sym e ∙ is in
+      no_word u (Some x) (cc)
+]
+has_words s no_word no_with ss t h (a ∷ b ∷ c ∷ front) behind is =
+    let few = term_short ss t h in
+    absurd (omega (arith, few, ap length is, length-append front (s ∷ behind)))
+
 pub good_term : (ss : List Symbol) (t : Term) → SpellsTerm ss t → (front behind : List Symbol)
     → ss ≡ front ++ bad ∷ behind → ⊥
-good_term ss t h [] behind is = elim (term_inv ss t h) [
-  | inl (o, e) ↦ let same = sym e ∙ is in cc
-  | inr (v, u, o, x, e, k) ↦ let same = sym e ∙ is in
-      cc
-]
-good_term ss t h (a ∷ []) behind is = elim (term_inv ss t h) [
-  | inl (o, e) ↦ let same = sym e ∙ is in cc
-  | inr (v, u, o, x, e, k) ↦ let same = sym e ∙ is in
-      cc
-]
-good_term ss t h (a ∷ b ∷ []) behind is = elim (term_inv ss t h) [
-  | inl (o, e) ↦ let same = sym e ∙ is in cc
-  | inr (v, u, o, x, e, k) ↦ let same = sym e ∙ is in
-      cc
-]
-good_term ss t h (a ∷ b ∷ c ∷ front) behind is =
-    let few = term_short ss t h in
-    absurd (omega (arith, few, ap length is, length-append front (bad ∷ behind)))
+good_term = has_words bad (λ t o e. cc) (λ e. cc)
 
 no_reason : (profile : Profile) (text : List ℕ) (f : ParseFault) (e : Term)
     → StopsAtToken SpellsTerm profile text f → SpellsTermWithinBy profile text e → ⊥

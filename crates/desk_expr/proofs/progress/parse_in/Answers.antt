@@ -1,9 +1,9 @@
-use Rattle.std.proofs.Common.{List, [], sym, subst, length}
+use Rattle.std.proofs.Common.{List, sym, subst, length}
 use Rattle.std.specs.Prelude.{map}
-use Rattle.std.proofs.lemmas.List.{append-nil}
-use Rattle.desk_tokens.specs.Tokens.{Lexeme, lexeme, AreTokensBy}
+use Rattle.desk_tokens.specs.Tokens.{Lexeme, lexeme}
 use Rattle.desk_expr.specs.Progress.{HasRead}
-use Rattle.desk_expr.proofs.ParseLemmas.{spells_once, so_far_push, lexemes_push, stop_at_token}
+use Rattle.desk_expr.proofs.ParseLemmas.{spells_once, so_far_all, so_far_push, lexemes_push}
+use Rattle.desk_expr.proofs.ParseLemmas.{stop_at_token}
 use Rattle.desk_expr.proofs.ParseLemmas.{stop_spells_nothing, faults_spell_nothing, spelled_at_end}
 use Rattle.desk_expr.proofs.ParseLemmas.{stopped_at_end, spelled_by, ended_by}
 use Rattle.desk_expr.proofs.WordLemmas.{word_of}
@@ -51,9 +51,8 @@ returns c =
     let read = c.loop-token.invariant.read in
     let short = c.if-text-gt-EXPRESSION_BYTES.false in
     let ts : List Lexeme = map lexeme c.loop-token.yielded in
-    let are : AreTokensBy profile 0 text ts =
-    subst (AreTokensBy profile 0 text) (append-nil ts)
-    (c.loop-token.invariant.so_far [] c.in-None.ensures.steps.0) in
+    let are = so_far_all profile text c.loop-token.yielded c.loop-token.token-iterator
+    c.loop-token.invariant.so_far c.in-None.ensures.steps.0 in
     let stop = stopped_at_end profile text ts short are read.stands c.finish.result
     (ended_by ts c.loop-token.progress (length text) c.finish.result c.finish.ensures.err read) in
     record {

@@ -1,11 +1,10 @@
-use Rattle.std.proofs.Common.{List, [], sym, subst, refl, inr, ◌∙◌}
+use Rattle.std.proofs.Common.{List, sym, subst, refl, inr, ◌∙◌}
 use Rattle.std.specs.Prelude.{map, ◌≢◌}
 use Rattle.std.proofs.lemmas.Bool.{false≢true}
-use Rattle.std.proofs.lemmas.List.{append-nil}
 use Rattle.desk_expr.specs.declared.fault.ParseFault.TheVariants.{BadToken}
 use Rattle.desk_tokens.specs.declared.token.Kind.TheVariants.{Bad}
-use Rattle.desk_tokens.specs.Tokens.{Lexeme, lexeme, AreTokensBy}
-use Rattle.desk_expr.proofs.ParseLemmas.{so_far_none, so_far_push, lexemes_push}
+use Rattle.desk_tokens.specs.Tokens.{Lexeme, lexeme}
+use Rattle.desk_expr.proofs.ParseLemmas.{so_far_all, so_far_none, so_far_push, lexemes_push}
 use Rattle.desk_expr.proofs.TermLemmas.{TermRead, TermStopsAfter, nothing_read, one_read, stopped}
 use Rattle.desk_expr.proofs.TermLemmas.{stop_at_token, spelled_at_end, stopped_at_end}
 use Rattle.desk_expr.proofs.TermLemmas.{spells_term_once, stop_spells_no_term, faults_spell_no_term}
@@ -83,17 +82,16 @@ pub returns : goal.returns
 returns c =
     let profile = c.args.profile in
     let text = c.args.text.now in
-    let read = c.loop-token.invariant.read in
-    let short = c.if-text-gt-EXPRESSION_BYTES.false in
+    let before = c.loop-token.invariant in
     let ts : List Lexeme = map lexeme c.loop-token.yielded in
-    let are : AreTokensBy profile 0 text ts =
-    subst (AreTokensBy profile 0 text) (append-nil ts)
-    (c.loop-token.invariant.so_far [] c.in-None.ensures.steps.0) in
-    let stop = stopped_at_end profile text ts c.loop-token.state short are read c.finish.result
-    c.finish.ensures.err in
+    let short = c.if-text-gt-EXPRESSION_BYTES.false in
+    let are = so_far_all profile text c.loop-token.yielded c.loop-token.token-iterator before.so_far
+    c.in-None.ensures.steps.0 in
+    let stop = stopped_at_end profile text ts c.loop-token.state short are before.read
+    c.finish.result c.finish.ensures.err in
     record {
-      spelled = spelled_at_end profile text ts c.loop-token.state short are read c.finish.result
-          c.finish.ensures.ok;
+      spelled = spelled_at_end profile text ts c.loop-token.state short are before.read
+          c.finish.result c.finish.ensures.ok;
       stop = stop;
       complete = faults_spell_no_term profile text c.finish.result stop;
       only = spells_term_once profile text;
