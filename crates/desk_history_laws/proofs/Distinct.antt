@@ -24,8 +24,8 @@ use Rattle.desk_model.specs.Keys.{conclusion_order, frozen_order, has_namespace,
 use Rattle.desk_model.specs.Keys.{is_attachment, is_conclusion, package_order}
 use Rattle.desk_model.specs.History.{attached, documents, form_of, names, namespace_in, opened, place_in}
 use Rattle.desk_model.specs.Conclusions.{adoption_row, adoptions, conclusion_row, conclusions}
-use Rattle.desk_model.specs.Answers.{Attaching, attach_answer, attaching, import_answer, importing}
-use Rattle.desk_model.specs.Answers.{Importing, is_recorded, IsHistory, taken, unless, unready}
+use Rattle.desk_model.specs.Answers.{attaching, import_answer, importing}
+use Rattle.desk_model.specs.Answers.{Importing, is_recorded, IsHistory, taken, unless}
 use Rattle.desk_model.specs.Moves.{all_changes, change_row, change_rows, changes, moves}
 use Rattle.desk_model.specs.Raised.{numbered, raised}
 use Rattle.desk_model.specs.declared.row.Owed.{Owed}
@@ -47,11 +47,12 @@ use Rattle.desk_model.specs.declared.row.Move.{Move}
 use Rattle.desk_model.specs.declared.row.PackageRow.{PackageRow}
 use Rattle.desk_model.specs.declared.row.ReleaseRow.{ReleaseRow}
 use Rattle.desk_model.specs.declared.row.RuleRow.{RuleRow}
+use Rattle.desk_history.proofs.OwnKeys.{attached_new}
 use Rattle.desk_history.specs.Laws.{AreDistinct, extracted_order, Rises, rule_row_order}
 use Rattle.desk_history.proofs.Members.{from_map, in_map}
 use Rattle.desk_history.proofs.Distinct.{from_filter, distinct-append, distinct-flat_map}
 use Rattle.desk_history.proofs.Sorting.{change_within}
-use Rattle.desk_history.proofs.Recorded.{is_so, past}
+use Rattle.desk_history.proofs.Recorded.{past}
 use Rattle.desk_history.proofs.Rows.{map-map}
 use Rattle.desk_history_laws.specs.OwnKeys.{adoption_key, attached_key, change_key, choice_key}
 use Rattle.desk_history_laws.specs.OwnKeys.{conclusion_key, extracted_key, frozen_key, package_key}
@@ -260,15 +261,6 @@ distinct_adoptions w (Adopt d reference licence ∷ h) =
 distinct_adoptions w (c ∷ h) = distinct_adoptions w h
 
 -- ---- attached documents: none is attached twice
-
-attached_new : (found : Attaching) → IsTrue (is_recorded (attach_answer found))
-    → found.is_attached ≡ false
-attached_new found e =
-    let one = past (unless (is_some found.state) why.UnknownRelease) _ e in
-    let two = past (unless found.has_document why.UnknownDocument) _ one.1 in
-    let three = past (option_and_then unready found.state) _ two.1 in
-    let four = past (unless (not found.is_attached) why.AlreadyAttached) _ three.1 in
-    not_true found.is_attached (is_so (not found.is_attached) why.AlreadyAttached four.0)
 
 none_has : {A : Type 0} (test : A → Bool) (x : A) (xs : List A) → list_any test xs ≡ false
     → IsIn x xs → test x ≡ false

@@ -217,18 +217,8 @@ moved_where P false m ms old new = old refl
 suits_moved : (s : ReleaseState) (w : Word) → gone s ≡ None → (w ≡ word.Withdrawn → ⊥)
     → suits s (state_after w) ≡ true
 suits_moved release.Withdrawn w e other = cc
-suits_moved release.IsOpen word.Raised e other = refl
-suits_moved release.IsOpen word.Met e other = refl
-suits_moved release.IsOpen word.Waived e other = refl
-suits_moved release.IsOpen word.Reopened e other = refl
-suits_moved release.IsOpen word.Withdrawn e other = absurd (other refl)
-suits_moved release.IsOpen word.Ended e other = refl
-suits_moved release.Frozen word.Raised e other = refl
-suits_moved release.Frozen word.Met e other = refl
-suits_moved release.Frozen word.Waived e other = refl
-suits_moved release.Frozen word.Reopened e other = refl
-suits_moved release.Frozen word.Withdrawn e other = absurd (other refl)
-suits_moved release.Frozen word.Ended e other = refl
+suits_moved s word.Withdrawn e other = absurd (other refl)
+suits_moved s w e other = refl
 
 -- by the end of a waiver
 suits_ended : (s : ReleaseState) (p : DutyState) → suits s p ≡ true → is_waived p ≡ true

@@ -1,9 +1,9 @@
 -- A frozen release holds for its packages the terms that it was frozen with.
-use Rattle.std.proofs.Common.{◌≡◌, ℕ, Bool, true, false, cond, List, [], ◌∷◌, ◌++◌, map, Option}
+use Rattle.std.proofs.Common.{◌≡◌, ℕ, Bool, true, false, List, [], ◌∷◌, ◌++◌, map, Option}
 use Rattle.std.proofs.Common.{Some, None, sym, refl, ap, ◌∙◌, subst, inl, inr}
 use Rattle.std.specs.Prelude.{◌+◌, unwrap_or, IsTrue, is_some, find, ◌&&◌, ◌||◌, nat_lt, length, if◌then◌else◌, ◌==◌}
 use Rattle.std.specs.List.{list_any, filter_map}
-use Rattle.std.specs.Option.{option_map, option_map_or, option_and_then}
+use Rattle.std.specs.Option.{option_map_or, option_and_then}
 use Rattle.std.specs.Str.{bytes_eq}
 use Rattle.desk_base.specs.Day.{is_day}
 use Rattle.desk_base.proofs.Bools.{and_left, and_right}
@@ -17,7 +17,7 @@ use Rattle.desk_model.specs.History.{package_row, packages, packages_in, documen
 use Rattle.desk_model.specs.History.{state_of, state_given, term_set, terms_given}
 use Rattle.desk_model.specs.Conclusions.{adoptions}
 use Rattle.desk_model.specs.Raised.{chosen_in, rule_adopted, shipped}
-use Rattle.desk_model.specs.Answers.{answer, choosing, conclusion, freeze_answer, first_bad}
+use Rattle.desk_model.specs.Answers.{answer, choosing, conclusion, freeze_answer}
 use Rattle.desk_model.specs.Answers.{first_refusal, first_unadopted, first_unruled, Freezing}
 use Rattle.desk_model.specs.Answers.{freezing, IsHistory, is_recorded, is_shipped, package_at}
 use Rattle.desk_model.specs.Answers.{package_fault, unchosen, unchoosing, unconcluded, unless}
@@ -35,10 +35,11 @@ use Rattle.desk_model.specs.declared.command.Command.TheVariants.{Import, Attach
 use Rattle.std.specs.Result.{result_ok}
 use Rattle.desk_history.specs.Laws.{IsFrozenTerm}
 use Rattle.desk_history.proofs.Members.{in_left, in_map}
-use Rattle.desk_history.proofs.Recorded.{past, is_so, is_ready}
+use Rattle.desk_history.proofs.Recorded.{chooses, is_ready, is_so, past}
 use Rattle.desk_history.proofs.OwnKeys.{open_by}
 use Rattle.desk_history_laws.specs.Shipping.{IsShipped}
 use Rattle.desk_history_laws.proofs.FrozenRows.{frozen_once}
+use Rattle.desk_history_laws.proofs.Lists.{found_in}
 use Rattle.desk_history_laws.proofs.Members.{from_filter_map, from_sorted}
 use Rattle.desk_history_laws.proofs.Releases.{attaches}
 
@@ -48,17 +49,8 @@ chosen_open : (w : Readings) (h : List Command) (r : List ℕ) (d : ℕ) (p : Li
     (texts : List (List ℕ)) → IsTrue (is_recorded (answer w h (Choose r d p texts)))
     → (state_of h r ≡ IsOpen) × (is_shipped (choosing w h r d p) ≡ true)
 chosen_open w h r d p texts e =
-    let found = choosing w h r d p in
-    let one = past (option_map (λ i. why.BadTerm i) (first_bad w 0 texts)) _ e in
-    let two = past (unless (is_some found.state) why.UnknownRelease) _ one.1 in
-    let three = past (unless found.has_document why.UnknownDocument) _ two.1 in
-    let four = past (unless (is_some found.row) why.UnknownPackage) _ three.1 in
-    let five = past (option_and_then unready found.state) _ four.1 in
-    let six = past (unless (is_shipped found) why.NotShipped) _ five.1 in (
-      open_by (state_of h r) (form_of h r)
-          (is_ready found.state (is_so (is_some found.state) why.UnknownRelease two.0) five.0),
-      is_so (is_shipped found) why.NotShipped six.0,
-    )
+    let is = chooses w texts (choosing w h r d p) e in
+    (open_by (state_of h r) (form_of h r) is.opened, is.ships)
 
 unchosen_open : (w : Readings) (h : List Command) (r : List ℕ) (d : ℕ) (p : List ℕ)
     → IsTrue (is_recorded (answer w h (Unchoose r d p))) → state_of h r ≡ IsOpen
@@ -92,17 +84,6 @@ some_in {A} test (x ∷ xs) e = by_head (some_in test xs) (test x) refl e
     by_head rest true is e = (x, inl refl, is)
     by_head rest false is e = let at = rest e in (at.0, inr at.1, at.2)
 
-found_at : {A : Type 0} (test : A → Bool) (xs : List A) (x : A) → find test xs ≡ Some x
-    → IsIn x xs × (test x ≡ true)
-found_at test [] x e = cc
-found_at {A} test (y ∷ ys) x e = by_head (found_at test ys x) (test y) refl e
-  where
-    by_head : (find test ys ≡ Some x → IsIn x ys × (test x ≡ true)) → (b : Bool) → test y ≡ b
-        → cond b (Some y) (find test ys) ≡ Some x → IsIn x (y ∷ ys) × (test x ≡ true)
-    by_head rest true is e = let same : y ≡ x = ap (λ o. unwrap_or o y) e in
-        (inl same, subst (λ z. test z ≡ true) same is)
-    by_head rest false is e = let at = rest e in (inr at.0, at.1)
-
 -- a package that the release ships, with this document and id
 record Ships (w : Readings) (h : List Command) (r : List ℕ) (d : ℕ) (p : List ℕ) : Type 0 where
   row : PackageRow
@@ -131,7 +112,7 @@ ships_row : (w : Readings) (h : List Command) (r : List ℕ) (d : ℕ) (p : List
     → option_map_or (λ (row : PackageRow). row.shipped) o false ≡ true → Ships w h r d p
 ships_row w h r d p None e m ships = cc
 ships_row w h r d p (Some row) e m ships =
-    let at = found_at (is_package d p) (packages w h) row e in
+    let at = found_in (is_package d p) (packages w h) row e in
     let document : row.document ≡ d =
     numbers_equal row.document d (and_left (row.document == d) (bytes_eq row.id p) at.1) in
     record {

@@ -1,10 +1,10 @@
 -- What is held for a package: in which release, of what is attached and shipped, and for which
 -- conclusion.
 use Rattle.std.proofs.Common.{◌≡◌, ℕ, ◌+◌, Bool, true, false, List, [], ◌∷◌, length, map, Option}
-use Rattle.std.proofs.Common.{Some, None, refl, sym, ap, ◌∙◌, subst, inl, inr}
+use Rattle.std.proofs.Common.{Some, None, refl, sym, ap, ◌∙◌, subst}
 use Rattle.std.specs.Prelude.{pos, IsTrue, is_some, not, filter, find, ◌&&◌, ◌||◌, ◌==◌, unwrap_or, if◌then◌else◌}
-use Rattle.std.specs.List.{cons_option, filter_map, list_all, list_any}
-use Rattle.std.specs.Option.{option_and_then, option_map, option_map_or, option_or}
+use Rattle.std.specs.List.{filter_map, list_all, list_any}
+use Rattle.std.specs.Option.{option_map, option_map_or, option_or}
 use Rattle.std.specs.Ordering.{int_eq}
 use Rattle.std.specs.Result.{result_ok}
 use Rattle.std.specs.Str.{bytes_eq}
@@ -26,12 +26,11 @@ use Rattle.desk_model.specs.History.{attached, choice, documents, form_given, fo
 use Rattle.desk_model.specs.History.{is_package_of, package_row, packages, packages_in, state_given}
 use Rattle.desk_model.specs.History.{state_of, term_set, terms_given}
 use Rattle.desk_model.specs.Conclusions.{conclusion_by, conclusions, office_text, profile_in}
-use Rattle.desk_model.specs.Answers.{answer, choosing, conclusion, first_bad, gone, IsHistory}
-use Rattle.desk_model.specs.Answers.{is_recorded, is_shipped, package_at, unless, unready}
+use Rattle.desk_model.specs.Answers.{answer, choosing, conclusion, gone, IsHistory}
+use Rattle.desk_model.specs.Answers.{is_recorded, package_at}
 use Rattle.desk_model.specs.Tables.{choice_row, choices, release_rows, standing, tables}
 use Rattle.desk_model.specs.declared.reading.Conclusion.{Conclusion}
 use Rattle.desk_model.specs.declared.reading.Verdict.TheVariants.{Minimal}
-use Rattle.desk_model.specs.declared.refusal.Refusal.TheVariants as why
 use Rattle.desk_model.specs.declared.row.ChoiceRow.{ChoiceRow}
 use Rattle.desk_model.specs.declared.row.ConclusionRow.{ConclusionRow}
 use Rattle.desk_model.specs.declared.row.DocumentRow.{DocumentRow}
@@ -44,7 +43,9 @@ use Rattle.desk_model.specs.declared.command.Command.TheVariants.{OpenRelease, U
 use Rattle.desk_history.specs.Laws.{IsHeldMinimal, Rises}
 use Rattle.desk_history.proofs.Orders.{choice_is_order, filter-in_order}
 use Rattle.desk_history.proofs.Rows.{filter-map, find-map, map-map}
-use Rattle.desk_history.proofs.Recorded.{is_so, past}
+use Rattle.desk_history.proofs.Members.{from_filter_map}
+use Rattle.desk_history.proofs.OwnKeys.{open_by}
+use Rattle.desk_history.proofs.Recorded.{chooses}
 use Rattle.desk_snapshot.specs.Conditions as audit
 use Rattle.desk_snapshot.specs.Conditions.{are_minimal, conclusion_at, is_choice, is_printed}
 use Rattle.desk_snapshot.specs.Conditions.{is_withdrawn, profile_at, ships_under, terms_at}
@@ -155,34 +156,18 @@ held_more w c h r d p term other held = record {
   spelled = held.spelled;
 }
 
-is_ready : (s : ReleaseState) (form : Option (List ℕ))
-    → is_some (option_map (λ (form : List ℕ). s) form) ≡ true
-    → option_and_then unready (option_map (λ (form : List ℕ). s) form) ≡ None → gone s ≡ None
-is_ready s None known e = cc
-is_ready IsOpen (Some form) known e = refl
-is_ready Frozen (Some form) known e = refl
-is_ready Withdrawn (Some form) known e = cc
-
 chosen : (w : Readings) (h : List Command) (r : List ℕ) (d : ℕ) (p : List ℕ) (texts : List (List ℕ))
     (term text : List ℕ) → IsTrue (is_recorded (answer w h (Choose r d p texts)))
     → w.term text ≡ Some term → HeldFor w h r d p term
 chosen w h r d p texts term text e spelled =
-    let found = choosing w h r d p in
-    let one = past (option_map (λ i. why.BadTerm i) (first_bad w 0 texts)) _ e in
-    let two = past (unless (is_some found.state) why.UnknownRelease) _ one.1 in
-    let three = past (unless found.has_document why.UnknownDocument) _ two.1 in
-    let four = past (unless (is_some found.row) why.UnknownPackage) _ three.1 in
-    let five = past (option_and_then unready found.state) _ four.1 in
-    let six = past (unless (is_shipped found) why.NotShipped) _ five.1 in
-    let known = is_so (is_some found.state) why.UnknownRelease two.0 in
+    let is = chooses w texts (choosing w h r d p) e in
     let there = list_any (key.is_attachment r d) (attached h) in
     let ships = option_map_or (λ (row : PackageRow). row.shipped) (package_at w h d p) false in
-    let both_so = is_so (is_shipped found) why.NotShipped six.0 in
     record {
-      opened = known_by (λ (form : List ℕ). state_of h r) (form_of h r) known;
-      stands = is_ready (state_of h r) (form_of h r) known five.0;
-      attached = and_left there ships both_so;
-      ships = and_right there ships both_so;
+      opened = known_by (λ (form : List ℕ). state_of h r) (form_of h r) is.has_release;
+      stands = ap gone (open_by (state_of h r) (form_of h r) is.opened);
+      attached = and_left there ships is.ships;
+      ships = and_right there ships is.ships;
       text = text;
       spelled = spelled;
     }
@@ -191,19 +176,6 @@ chosen w h r d p texts term text e spelled =
 
 abbrev pub FromSet : Type 0
 FromSet = (text : List ℕ) (texts : List (List ℕ)) → IsIn text (sorted_set texts) → IsIn text texts
-
-from_given : (f : List ℕ → Option (List ℕ)) (z y : List ℕ) (o : Option (List ℕ))
-    (ys zs : List (List ℕ)) → f y ≡ o → (IsIn z zs → (x : List ℕ) × (f x ≡ Some z))
-    → IsIn z (cons_option o zs) → (x : List ℕ) × (f x ≡ Some z)
-from_given f z y None ys zs e rest m = rest m
-from_given f z y (Some u) ys zs e rest m = elim m
-    [ inl same ↦ (y, e ∙ ap (λ (v : List ℕ). Some v) same) | inr n ↦ rest n ]
-
-from_filter_map : (f : List ℕ → Option (List ℕ)) (z : List ℕ) (xs : List (List ℕ))
-    → IsIn z (filter_map f xs) → (x : List ℕ) × (f x ≡ Some z)
-from_filter_map f z [] m = absurd m
-from_filter_map f z (y ∷ ys) m = from_given f z y (f y) ys (filter_map f ys) refl
-    (from_filter_map f z ys) m
 
 dropped : (term : List ℕ) (b : Bool) (o : Option (List (List ℕ)))
     → IsIn term (unwrap_or (or_else (if b then Some [] else None) o) [])
@@ -228,7 +200,7 @@ chosen_step from_set w h r r' d d' p p' term texts true e recorded rest m =
     subst (λ (n : List ℕ). HeldFor w h n d p term) release
     (subst (λ (n : ℕ). HeldFor w h r' n p term) document
     (subst (λ (n : List ℕ). HeldFor w h r' d' n term) package_id
-    (chosen w h r' d' p' texts term at.0 recorded at.1)))
+    (chosen w h r' d' p' texts term at.0 recorded at.2)))
 
 pub held_for : FromSet → (w : Readings) (h : List Command) (r : List ℕ) (d : ℕ) (p term : List ℕ)
     → IsHistory w h → IsIn term (choice w h r d p) → HeldFor w h r d p term

@@ -1,33 +1,29 @@
 -- By a right reading each code of a rule is an idstring.
 use Rattle.std.proofs.Common.{◌≡◌, ◌∙◌, ℕ, Bool, true, false, List, [], ◌∷◌, Option, Some, None, Ok}
-use Rattle.std.proofs.Common.{Err, sym, subst, ap, refl}
-use Rattle.std.specs.Prelude.{codes, length, nat_le, not, ◌||◌, unwrap_or, if◌then◌else◌}
+use Rattle.std.proofs.Common.{sym, subst, ap, refl}
+use Rattle.std.specs.Prelude.{codes, length, nat_le, ◌||◌, unwrap_or, if◌then◌else◌}
 use Rattle.std.specs.List.{list_all}
 use Rattle.std.specs.Option.{ok_or, option_and_then}
 use Rattle.std.specs.Str.{bytes_eq}
-use Rattle.toml.specs.Data.{as_str, as_table, Data, get_member, Members}
+use Rattle.toml.specs.Data.{as_str, as_table, Data, get_member}
 use Rattle.desk_base.proofs.Bools.{and_left, and_right, both}
 use Rattle.desk_base.proofs.Texts.{texts_equal}
 use Rattle.desk_base.specs.Idstring.{is_idstring}
 use Rattle.desk_base.specs.Limits as limit
-use Rattle.desk_base.specs.Results.{then_read}
-use Rattle.desk_catalogue.proofs.OrderLaws.{each_holds, parts_read, rules_hold, same_read, then_by, unless}
-use Rattle.desk_catalogue.specs.Kept.{stand_once}
+use Rattle.desk_catalogue.proofs.OrderLaws.{each_holds, parts_read, same_read, then_by, unless}
 use Rattle.desk_catalogue.specs.Reading.{catalogue_of, duties_of, duty_at, duty_of_keys}
-use Rattle.desk_catalogue.specs.Reading.{duty_of_values, each, rule_at, rule_of, RuleTexts}
-use Rattle.desk_catalogue.specs.Reading.{rule_written, rules_of, tables_of, with_code, with_duty}
-use Rattle.desk_catalogue.specs.Terms.{licence_of}
+use Rattle.desk_catalogue.specs.Reading.{duty_of_values, each}
+use Rattle.desk_catalogue.specs.Reading.{tables_of, with_code, with_duty}
 use Rattle.desk_catalogue.specs.Values.{id_of, if_passes, is_among, is_id, title_of}
 use Rattle.desk_catalogue.specs.declared.catalogue.Catalogue.{Catalogue as WholeCatalogue}
 use Rattle.desk_history_laws.specs.Ids.{ListsIds}
-use Rattle.desk_history_laws.proofs.Once.{each_in, of_whole, put_keeps}
+use Rattle.desk_history_laws.proofs.Once.{of_whole}
+use Rattle.desk_history_laws.proofs.ReadRules.{each_in, each_rule}
 use Rattle.desk_model.specs.Lists.{IsIn}
 use Rattle.desk_model.specs.Readings.{Readings}
 use Rattle.desk_model.specs.Texts.{put_new, sorted_set, text_below}
 use Rattle.desk_model.specs.declared.reading.Rule.{Rule}
-use Rattle.desk_model.specs.declared.refusal.CatalogueFault.{CatalogueFault}
-use Rattle.desk_model.specs.declared.refusal.CatalogueFault.TheVariants.{BadKind, BadTerm, Twice}
-use Rattle.desk_model.specs.declared.refusal.CatalogueFault.TheVariants.{UnknownDuty, UnknownForm}
+use Rattle.desk_model.specs.declared.refusal.CatalogueFault.TheVariants.{BadKind, Twice}
 use Rattle.desk_model.specs.declared.refusal.CataloguePart.TheVariants as part
 use Rattle.desk_texts.specs.Right.{AreRight}
 use Rattle.desk_texts.specs.Rising.{Each}
@@ -132,64 +128,17 @@ ids_among duties (text ∷ texts) all e =
 abbrev HasIds : Rule → Type 0
 HasIds rule = are_ids rule.codes ≡ true
 
-ruled : (a b c : Bool) (f g h : CatalogueFault) (x rule : Rule)
-    → (if not a then Err f else (if not b then Err g else (if c then Err h else Ok x))) ≡ Ok rule
-    → (b ≡ true) × (x ≡ rule)
-ruled false b c f g h x rule e = cc
-ruled true false c f g h x rule e = cc
-ruled true true true f g h x rule e = cc
-ruled true true false f g h x rule e = (refl, same_read x rule e)
-
-rule_has : (forms duties : List (List ℕ)) (index : ℕ) (texts : RuleTexts) (term : List ℕ)
-    (rule : Rule) → are_ids duties ≡ true → rule_of forms duties index texts term ≡ Ok rule
-    → HasIds rule
-rule_has forms duties index texts term rule all e =
-    let is = ruled (is_among forms texts.form) (list_all (is_among duties) texts.duties)
-    (not (stand_once texts.duties)) (UnknownForm part.Rule index) (UnknownDuty part.Rule index)
-    (Twice part.Rule index)
-    (record {
-      term = term;
-      form = texts.form;
-      spelled = texts.term;
-      codes = sorted_set texts.duties;
-    }) rule e in
-    subst HasIds is.1 (ids_sorted texts.duties (ids_among duties texts.duties all is.0))
-
-entry_has : (terms : List ℕ → Option (List ℕ)) (forms duties : List (List ℕ)) (index : ℕ) (d : Data)
-    (rule : Rule) → are_ids duties ≡ true → rule_at terms forms duties index d ≡ Ok rule
-    → HasIds rule
-entry_has terms forms duties index d rule all e =
-    let written = then_by (rule_written index d)
-    (λ texts. then_read (ok_or (licence_of terms texts.term) (BadTerm part.Rule index))
-    (rule_of forms duties index texts)) rule e in
-    let term = then_by (ok_or (licence_of terms written.0.term) (BadTerm part.Rule index))
-    (rule_of forms duties index written.0) rule written.2 in
-    rule_has forms duties index written.0 term.0 rule all term.2
-
--- the rules of a catalogue are read after its duties
-read_of : (terms : List ℕ → Option (List ℕ)) (text : List ℕ) (catalogue : WholeCatalogue)
-    → catalogue_of terms text ≡ Ok catalogue
-    → (ms : Members) × (forms : List (List ℕ)) × (duties : List (List ℕ))
-    × (duties_of (get_member (codes "duty") ms) ≡ Ok duties)
-    × (rules_of terms forms duties (get_member (codes "rule") ms) ≡ Ok catalogue.rules)
-read_of terms text catalogue e =
-    let read = parts_read terms text catalogue e in (
-      read.members,
-      read.forms,
-      read.duties,
-      read.duties_are,
-      read.rules_are
-          ∙ ap (λ (c : WholeCatalogue). Ok c.rules) read.same,
-    )
-
 catalogue_has : (terms : List ℕ → Option (List ℕ)) (text : List ℕ) (catalogue : WholeCatalogue)
     → catalogue_of terms text ≡ Ok catalogue → Each HasIds catalogue.rules
 catalogue_has terms text catalogue e =
-    let (ms, forms, duties, are, read) = read_of terms text catalogue e in
-    rules_hold (Each HasIds) terms forms duties (get_member (codes "rule") ms) catalogue.rules tt
-    (λ index d rule rs is all. put_keeps HasIds rule rs
-    (entry_has terms forms duties index d rule
-    (duties_are_ids (get_member (codes "duty") ms) duties are) is) all) read
+    let read = parts_read terms text catalogue e in
+    each_rule HasIds terms read.forms read.duties (get_member (codes "rule") read.members)
+    catalogue.rules
+    (λ index rule is. subst HasIds is.is (ids_sorted is.texts.duties
+    (ids_among read.duties is.texts.duties
+    (duties_are_ids (get_member (codes "duty") read.members) read.duties read.duties_are)
+    is.among)))
+    (read.rules_are ∙ ap (λ (c : WholeCatalogue). Ok c.rules) read.same)
 
 pub lists_ids : (w : Readings) → AreRight w → ListsIds w
 lists_ids w right text catalogue rule e m =

@@ -16,8 +16,6 @@ use Rattle.desk_model.specs.History.{references_in, package_row, extracted_row}
 use Rattle.desk_model.specs.Answers.{IsHistory, is_recorded, Importing, import_answer, importing}
 use Rattle.desk_model.specs.Tables.{tables}
 use Rattle.desk_model.specs.declared.reading.Document.{Document}
-use Rattle.desk_model.specs.declared.reading.Package.{Package}
-use Rattle.desk_model.specs.declared.reading.Reference.{Reference}
 use Rattle.desk_model.specs.declared.refusal.DocumentFault.{DocumentFault}
 use Rattle.desk_model.specs.declared.row.DocumentRow.{DocumentRow}
 use Rattle.desk_model.specs.declared.command.Command.{Command}
@@ -108,23 +106,13 @@ packages_stored : (n : ℕ) (r : Option Document)
     → map package_stored (map (package_row n) (packages_in r))
     ≡ option_map_or (λ (read : Document). map (stored_package (pos n)) read.packages) r []
 packages_stored n None = refl
-packages_stored n (Some d) = all d.packages
-  where
-    all : (ps : List Package) → map package_stored (map (package_row n) ps)
-        ≡ map (stored_package (pos n)) ps
-    all [] = refl
-    all (p ∷ ps) = ap (λ rows. stored_package (pos n) p ∷ rows) (all ps)
+packages_stored n (Some d) = map-map package_stored (package_row n) d.packages
 
 references_stored : (n : ℕ) (r : Option Document)
     → map extracted_stored (map (extracted_row n) (references_in r))
     ≡ option_map_or (λ (read : Document). map (stored_extracted (pos n)) read.references) r []
 references_stored n None = refl
-references_stored n (Some d) = all d.references
-  where
-    all : (rs : List Reference) → map extracted_stored (map (extracted_row n) rs)
-        ≡ map (stored_extracted (pos n)) rs
-    all [] = refl
-    all (r ∷ rs) = ap (λ rows. stored_extracted (pos n) r ∷ rows) (all rs)
+references_stored n (Some d) = map-map extracted_stored (extracted_row n) d.references
 
 -- the parts of one more document
 one_document : {Row Part Doc Stored : Type 0} (f : Row → Stored) (by : Part → List Stored)

@@ -20,6 +20,7 @@ mod Listings
 mod Verdicts
 mod Reading
 mod Rights
+mod ReadRules
 mod Once
 mod Ordered
 pub mod ChoiceSets

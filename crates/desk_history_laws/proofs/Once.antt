@@ -1,12 +1,9 @@
 -- A right reading lists no package of a document and no code of a rule twice.
-use Rattle.std.proofs.Common.{◌≡◌, ◌∙◌, inl, inr, ℕ, Bool, true, false, List, [], ◌∷◌, map, sym, subst, ap, refl}
-use Rattle.std.specs.Prelude.{Result, Ok, Err, Option, codes, if◌then◌else◌, not}
-use Rattle.std.specs.List.{list_all}
-use Rattle.std.specs.Option.{ok_or}
+use Rattle.std.proofs.Common.{◌≡◌, ◌∙◌, ℕ, Bool, true, false, List, [], ◌∷◌, map, sym, subst}
+use Rattle.std.proofs.Common.{ap, refl}
+use Rattle.std.specs.Prelude.{Result, Ok, Err, Option, codes, if◌then◌else◌}
 use Rattle.std.specs.Str.{bytes_eq}
-use Rattle.std.specs.Ordering.{match_ordering}
-use Rattle.std.specs.declared.cmp.Ordering.TheVariants.{Less, Equal, Greater}
-use Rattle.toml.specs.Data.{Data, get_member}
+use Rattle.toml.specs.Data.{get_member}
 use Rattle.desk_fields.specs.declared.fault.DocFault.{DocFault}
 use Rattle.desk_model.specs.Lists.{IsIn}
 use Rattle.desk_model.specs.Readings.{Readings}
@@ -15,34 +12,22 @@ use Rattle.desk_model.specs.declared.reading.Catalogue.{Catalogue}
 use Rattle.desk_model.specs.declared.reading.Document.{Document}
 use Rattle.desk_model.specs.declared.reading.Package.{Package}
 use Rattle.desk_model.specs.declared.reading.Rule.{Rule}
-use Rattle.desk_model.specs.declared.refusal.CataloguePart.TheVariants as part
-use Rattle.desk_model.specs.declared.refusal.CatalogueFault.{CatalogueFault}
-use Rattle.desk_model.specs.declared.refusal.CatalogueFault.TheVariants.{BadTerm, UnknownForm, UnknownDuty, Twice}
 use Rattle.desk_history.specs.Laws.{AreDistinct, ListsOnce}
 use Rattle.desk_catalogue.specs.declared.catalogue.Catalogue.{Catalogue as WholeCatalogue}
-use Rattle.desk_catalogue.specs.Kept.{stand_once, put_rule}
-use Rattle.desk_catalogue.specs.Reading.{Read, rule_written, rule_at, rule_of, RuleTexts, catalogue_of}
-use Rattle.desk_catalogue.specs.Terms.{licence_of}
-use Rattle.desk_catalogue.specs.Values.{is_among}
-use Rattle.desk_catalogue.proofs.OrderLaws.{then_by, same_read, rules_hold, rules_read}
+use Rattle.desk_catalogue.specs.Reading.{Read, catalogue_of}
+use Rattle.desk_catalogue.proofs.OrderLaws.{same_read, rules_read}
 use Rattle.desk_findings.proofs.EachDocument.{each_document}
 use Rattle.desk_tagvalue.specs.Parts.{DocumentText, PackageText}
 use Rattle.desk_texts.specs.Catalogues.{kept_catalogue}
 use Rattle.desk_texts.specs.Documents.{put_by, sorted_by, marked, package_of, document_of, Keeps}
 use Rattle.desk_texts.specs.Rising.{Each, Rises}
 use Rattle.desk_texts.specs.Right.{AreRight}
+use Rattle.desk_history_laws.proofs.ReadRules.{each_in, each_rule}
 use Rattle.desk_history_laws.proofs.Ships.{something_kept}
 use Rattle.desk_texts.proofs.Orders.{below_self}
 use Rattle.desk_texts.proofs.Halving.{rises_put, map_map}
-use Rattle.desk_model.specs.Keys.{rule_order}
-use Rattle.desk_base.specs.Results.{then_read}
 
 -- ---- sorted texts are different
-
-pub each_in : {A : Type 0} (P : A → Type 0) (x : A) (xs : List A) → IsIn x xs → Each P xs → P x
-each_in P x [] m each = absurd m
-each_in P x (y ∷ ys) m each = elim m
-    [ inl same ↦ subst P same each.0 | inr n ↦ each_in P x ys n each.1 ]
 
 not_true : true ≡ false → ⊥
 not_true e = cc
@@ -121,56 +106,12 @@ packages_once w right bytes document e =
 abbrev pub HasSet : Rule → Type 0
 HasSet rule = (texts : List (List ℕ)) × (rule.codes ≡ sorted_set texts)
 
-chosen : (a b c : Bool) (f g h : CatalogueFault) (x rule : Rule)
-    → (if a then Err f else (if b then Err g else (if c then Err h else Ok x))) ≡ Ok rule → x ≡ rule
-chosen true b c f g h x rule e = cc
-chosen false true c f g h x rule e = cc
-chosen false false true f g h x rule e = cc
-chosen false false false f g h x rule e = same_read x rule e
-
-rule_has : (forms duties : List (List ℕ)) (index : ℕ) (texts : RuleTexts) (term : List ℕ)
-    (rule : Rule) → rule_of forms duties index texts term ≡ Ok rule → HasSet rule
-rule_has forms duties index texts term rule e =
-    let same = chosen (not (is_among forms texts.form))
-    (not (list_all (is_among duties) texts.duties)) (not (stand_once texts.duties))
-    (UnknownForm part.Rule index) (UnknownDuty part.Rule index) (Twice part.Rule index)
-    (record {
-      term = term;
-      form = texts.form;
-      spelled = texts.term;
-      codes = sorted_set texts.duties;
-    }) rule e in
-    (texts.duties, ap (λ r. r.codes) (sym same))
-
-entry_has : (terms : List ℕ → Option (List ℕ)) (forms duties : List (List ℕ)) (index : ℕ) (d : Data)
-    (rule : Rule) → rule_at terms forms duties index d ≡ Ok rule → HasSet rule
-entry_has terms forms duties index d rule e =
-    let written = then_by (rule_written index d)
-    (λ texts. then_read (ok_or (licence_of terms texts.term) (BadTerm part.Rule index))
-    (rule_of forms duties index texts)) rule e in
-    let term = then_by (ok_or (licence_of terms written.0.term) (BadTerm part.Rule index))
-    (rule_of forms duties index written.0) rule written.2 in
-    rule_has forms duties index written.0 term.0 rule term.2
-
-pub put_keeps : (P : Rule → Type 0) (x : Rule) (rs : List Rule) → P x → Each P rs
-    → Each P (put_rule x rs)
-put_keeps P x [] p all = (p, tt)
-put_keeps P x (r ∷ rs) p all =
-    elim (rule_order x r) as (λ o. Each P
-    (match_ordering o (x ∷ r ∷ rs) (x ∷ rs) (r ∷ put_rule x rs))) [
-      | Less ↦ (p, all)
-      | Equal ↦ (p, all.1)
-      | Greater ↦ (all.0, put_keeps P x rs p all.1)
-    ]
-
 pub catalogue_has : (terms : List ℕ → Option (List ℕ)) (text : List ℕ) (catalogue : WholeCatalogue)
     → catalogue_of terms text ≡ Ok catalogue → Each HasSet catalogue.rules
 catalogue_has terms text catalogue e =
     let read = rules_read terms text catalogue e in
-    rules_hold (Each HasSet) terms read.1 read.2 (get_member (codes "rule") read.0) catalogue.rules
-    tt
-    (λ index d rule rs is all. put_keeps HasSet rule rs
-    (entry_has terms read.1 read.2 index d rule is) all) read.3
+    each_rule HasSet terms read.1 read.2 (get_member (codes "rule") read.0) catalogue.rules
+    (λ index rule is. (is.texts.duties, ap (λ r. r.codes) (sym is.is))) read.3
 
 -- what the desk keeps of a catalogue has its rules
 pub of_whole : (read : Read WholeCatalogue) (catalogue : Catalogue)

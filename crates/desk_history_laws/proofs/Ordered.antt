@@ -23,8 +23,9 @@ use Rattle.desk_tagvalue.specs.Parts.{DocumentText, PackageText, ExtractedText}
 use Rattle.desk_texts.specs.Documents.{sorted_by, marked, package_of, reference_of, document_of, Keeps}
 use Rattle.desk_texts.specs.Rising.{Rises}
 use Rattle.desk_texts.specs.Right.{AreRight}
-use Rattle.desk_history_laws.proofs.Once.{each_in, rises_sorted, sorted-same, id_in, id_of, HasSet}
+use Rattle.desk_history_laws.proofs.Once.{rises_sorted, sorted-same, id_in, id_of, HasSet}
 use Rattle.desk_history_laws.proofs.Once.{catalogue_has, of_whole}
+use Rattle.desk_history_laws.proofs.ReadRules.{each_in}
 use Rattle.desk_history_laws.proofs.Ships.{something_kept}
 use Rattle.desk_texts.proofs.Halving.{map_map}
 
