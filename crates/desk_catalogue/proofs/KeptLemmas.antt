@@ -16,7 +16,6 @@ use Rattle.desk_catalogue.specs.declared.order.Subject.{Subject}
 use Rattle.desk_catalogue.specs.declared.order.Said.{Said}
 use Rattle.desk_catalogue.specs.Kept.{put_rule, has_rule}
 use Rattle.desk_catalogue.specs.Shown.{rule_of_entry}
-use Rattle.desk_base.specs.Borrowed.{texts}
 use Rattle.desk_base.proofs.Texts.{text_tells}
 
 -- ---- rules

@@ -7,4 +7,3 @@ pub mod PrintedLemmas
 pub mod OrderLaws
 pub mod Sought
 mod StandOnce
-mod TakenLemmas

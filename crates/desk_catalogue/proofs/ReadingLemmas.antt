@@ -15,7 +15,12 @@ use Rattle.desk_catalogue.specs.Terms.{licence_of}
 use Rattle.desk_catalogue.specs.Reading.{Read, each, with_form, is_form_count, forms_listed}
 use Rattle.desk_catalogue.specs.Reading.{forms_of, duties_of, rules_of, licence_texts_of, RuleTexts}
 use Rattle.desk_catalogue.specs.Reading.{rule_written, rule_of, rule_at, catalogue_of_table}
-use Rattle.desk_catalogue.specs.Shown.{Gives}
+use Rattle.desk_catalogue.specs.Shown.{Gives, codes_in, rules_in}
+use Rattle.desk_catalogue.specs.declared.order.Said.{Said}
+use Rattle.desk_catalogue.specs.declared.order.Subject.{Subject}
+use Rattle.std.specs.BTreeMap.{BTreeMap}
+use Rattle.std.specs.BTreeSet.{BTreeSet}
+use denote.Ref.{Bor}
 use Rattle.desk_catalogue.proofs.EntryLemmas.{count-items_view}
 use Rattle.desk_base.specs.Results.{then_read}
 
@@ -58,9 +63,16 @@ rule_found terms forms duties index d texts term written is =
 abbrev whole : List (List ℕ) → List Rule → List LicenceText → Catalogue
 whole forms rules texts = record { forms = forms; rules = rules; texts = texts }
 
-module _ (terms : List ℕ → Option (List ℕ)) (ms : Members) (forms duties : List (List ℕ))
-    (has_forms : forms_of (get_member (codes "forms") ms) ≡ Ok forms)
-    (has_duties : duties_of (get_member (codes "duty") ms) ≡ Ok duties) where
+module _ (terms : List ℕ → Option (List ℕ)) (ms : Members) (forms : List (List ℕ))
+    (set : BTreeSet (Bor (List ℕ))) {read_forms : Result (List (List ℕ)) CatalogueFault}
+    {read_duties : Result (BTreeSet (Bor (List ℕ))) CatalogueFault}
+    (forms_are : read_forms ≡ Ok forms)
+    (gives_forms : Gives (forms_of (get_member (codes "forms") ms)) (λ forms. forms) read_forms)
+    (duties_are : read_duties ≡ Ok set)
+    (gives_duties : Gives (duties_of (get_member (codes "duty") ms)) codes_in read_duties) where
+  abbrev duties : List (List ℕ)
+  duties = codes_in set
+
   abbrev rules : Read (List Rule)
   rules = rules_of terms forms duties (get_member (codes "rule") ms)
 
@@ -72,29 +84,39 @@ module _ (terms : List ℕ → Option (List ℕ)) (ms : Members) (forms duties :
   by_rules =
       ap (λ r. then_read r (λ fs. then_read (duties_of (get_member (codes "duty") ms))
       (λ ds. then_read (rules_of terms fs ds (get_member (codes "rule") ms))
-      (λ rs. then_read texts (λ ts. Ok (whole fs rs ts)))))) has_forms
+      (λ rs. then_read texts (λ ts. Ok (whole fs rs ts))))))
+      (subst (Gives (forms_of (get_member (codes "forms") ms)) (λ forms. forms)) forms_are
+      gives_forms)
       ∙ ap (λ r. then_read r (λ ds. then_read
       (rules_of terms forms ds (get_member (codes "rule") ms))
-      (λ rs. then_read texts (λ ts. Ok (whole forms rs ts))))) has_duties
+      (λ rs. then_read texts (λ ts. Ok (whole forms rs ts)))))
+      (subst (Gives (duties_of (get_member (codes "duty") ms)) codes_in) duties_are gives_duties)
 
-  pub rules_fail : (fault : CatalogueFault)
-      → rules_of terms forms duties (get_member (codes "rule") ms) ≡ Err fault
-      → Err fault ≡ catalogue_of_table terms ms
-  rules_fail fault is = sym (by_rules
-      ∙ ap (λ r. then_read r (λ rs. then_read texts (λ ts. Ok (whole forms rs ts)))) is)
+  pub rules_fail : {read : Result (BTreeMap Subject Said) CatalogueFault} (fault : CatalogueFault)
+      → read ≡ Err fault → Gives rules rules_in read → Err fault ≡ catalogue_of_table terms ms
+  rules_fail fault fails gives = sym (by_rules
+      ∙ ap (λ r. then_read r (λ rs. then_read texts (λ ts. Ok (whole forms rs ts))))
+      (subst (Gives rules rules_in) fails gives))
 
-  module _ (rs : List Rule) (has_rules : rules_of terms forms duties (get_member (codes "rule") ms)
-      ≡ Ok rs) where
-    by_texts : catalogue_of_table terms ms ≡ then_read texts (λ ts. Ok (whole forms rs ts))
+  module _ (said : BTreeMap Subject Said)
+      {read_rules : Result (BTreeMap Subject Said) CatalogueFault}
+      (rules_are : read_rules ≡ Ok said) (gives_rules : Gives rules rules_in read_rules) where
+    by_texts : catalogue_of_table terms ms
+        ≡ then_read texts (λ ts. Ok (whole forms (rules_in said) ts))
     by_texts = by_rules ∙ ap (λ r. then_read r
-        (λ rs. then_read texts (λ ts. Ok (whole forms rs ts)))) has_rules
+        (λ rs. then_read texts (λ ts. Ok (whole forms rs ts))))
+        (subst (Gives rules rules_in) rules_are gives_rules)
 
-    pub texts_fail : (fault : CatalogueFault)
-        → licence_texts_of (get_member (codes "text") ms) ≡ Err fault
+    pub texts_fail : {read : Result (List LicenceText) CatalogueFault} (fault : CatalogueFault)
+        → read ≡ Err fault → Gives texts (λ texts. texts) read
         → Err fault ≡ catalogue_of_table terms ms
-    texts_fail fault is = sym (by_texts ∙ ap (λ r. then_read r (λ ts. Ok (whole forms rs ts))) is)
+    texts_fail fault fails gives = sym (by_texts
+        ∙ ap (λ r. then_read r (λ ts. Ok (whole forms (rules_in said) ts)))
+        (subst (Gives texts (λ texts. texts)) fails gives))
 
-    pub catalogue_found : (ts : List LicenceText)
-        → licence_texts_of (get_member (codes "text") ms) ≡ Ok ts
-        → Ok (whole forms rs ts) ≡ catalogue_of_table terms ms
-    catalogue_found ts is = sym (by_texts ∙ ap (λ r. then_read r (λ ts. Ok (whole forms rs ts))) is)
+    pub catalogue_found : {read : Result (List LicenceText) CatalogueFault} (ts : List LicenceText)
+        → read ≡ Ok ts → Gives texts (λ texts. texts) read
+        → Ok (whole forms (rules_in said) ts) ≡ catalogue_of_table terms ms
+    catalogue_found ts texts_are gives = sym (by_texts
+        ∙ ap (λ r. then_read r (λ ts. Ok (whole forms (rules_in said) ts)))
+        (subst (Gives texts (λ texts. texts)) texts_are gives))

@@ -9,7 +9,6 @@ use Rattle.desk_model.specs.declared.refusal.CataloguePart.TheVariants as part
 use Rattle.desk_model.specs.declared.refusal.CatalogueFault.TheVariants.{Twice}
 use Rattle.desk_catalogue.specs.declared.catalogue.Catalogue.{Catalogue}
 use Rattle.desk_catalogue.specs.declared.catalogue.LicenceText.{LicenceText}
-use Rattle.desk_base.specs.Limits as limit
 use Rattle.desk_catalogue.specs.Kept.{is_text_of, same_licence}
 use Rattle.desk_catalogue.specs.Values.{is_among}
 use Rattle.desk_catalogue.specs.Reading.{each, tables_of, forms_of, forms_listed, forms_once}

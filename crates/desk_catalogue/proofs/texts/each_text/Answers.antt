@@ -1,4 +1,4 @@
-use Rattle.std.proofs.Common.{◌∙◌, ◌+◌, sym, ap, ◌++◌, ◌∷◌, [], length}
+use Rattle.std.proofs.Common.{◌∙◌, sym, ap, ◌++◌, ◌∷◌, [], length}
 use Rattle.std.proofs.lemmas.List.{length-append}
 use Rattle.std.specs.List.{list_any}
 use Rattle.toml.specs.View.{view, items_view}
@@ -7,7 +7,7 @@ use Rattle.desk_model.specs.declared.refusal.CatalogueFault.TheVariants.{Twice}
 use Rattle.desk_model.specs.declared.refusal.CataloguePart.TheVariants as part
 use Rattle.desk_catalogue.specs.Kept.{is_text_of}
 use Rattle.desk_catalogue.specs.Reading.{each, text_at, with_text}
-use Rattle.desk_catalogue.proofs.TakenLemmas.{taken_added}
+use Rattle.desk_catalogue.proofs.EntryLemmas.{taken_added}
 use Rattle.desk_catalogue.proofs.SetLemmas.{is_new, ids_more}
 use Rattle.desk_catalogue.proofs.texts.each_text.Goals as goal
 
