@@ -1,6 +1,7 @@
 -- Annotations by folder in a map.
 use Rattle.std.proofs.Common.{◌≡◌, ◌∙◌, inl, inr, subst, sym, ℕ, Bool, true, false, cond, List, []}
-use Rattle.std.proofs.Common.{◌∷◌, ◌++◌, length, Some, ap, refl, nat_cmp, is_eq, Ordering}
+use Rattle.std.proofs.Common.{◌∷◌, ◌++◌, append_assoc, length, Some, ap, refl, nat_cmp, is_eq}
+use Rattle.std.proofs.Common.{Ordering}
 use Rattle.std.specs.Prelude.{Vec}
 use Rattle.std.specs.Str.{bytes_eq}
 use Rattle.std.specs.declared.alloc.Global.{Global}
@@ -97,3 +98,25 @@ folder_kept grown folder name x list old new is updates listed q =
         ≡ cond b (annotations_at grown x.items) (annotations_at grown (numbers_for old q))
     by_name true = refl
     by_name false = refl
+
+-- the last file's annotations are kept, and those of the files before it are left
+pub last_kept : (ts tomls : List Toml) (toml : Toml) (old grown : List Annotation)
+    (numbers more_numbers : Numbers) (folder x : Vec ℕ Global)
+    (all : List ℕ → List Annotation) → tomls ≡ ts ++ toml ∷ []
+    → grown ≡ old ++ toml.annotations.list → folder.items ≡ toml.folder.now
+    → Updates folder_cmp numbers more_numbers folder (Some x)
+    → ((more : List Annotation) → annotations_at (grown ++ more) x.items ≡ toml.annotations.list)
+    → ((more : List Annotation) (q : List ℕ) → annotations_or (tomls_in tomls) q
+    (annotations_at (old ++ more) (numbers_for numbers q)) ≡ all q)
+    → (more : List Annotation) (q : List ℕ) → annotations_or (tomls_in ts) q
+    (annotations_at (grown ++ more) (numbers_for more_numbers q)) ≡ all q
+last_kept ts tomls toml old grown numbers more_numbers folder x all last grows is updates listed
+    before more q =
+    let others = annotations_at (grown ++ more) (numbers_for numbers q) in
+    ap (annotations_or (tomls_in ts) q) (folder_kept (grown ++ more) folder toml.folder.now x
+    toml.annotations.list numbers more_numbers is updates (listed more) q)
+    ∙ sym (annotations_or-last ts toml q others)
+    ∙ ap (λ l. annotations_or (tomls_in l) q others) (sym last)
+    ∙ ap (λ l. annotations_or (tomls_in tomls) q (annotations_at l (numbers_for numbers q)))
+    (ap (λ l. l ++ more) grows ∙ append_assoc old toml.annotations.list more)
+    ∙ before (toml.annotations.list ++ more) q

@@ -1,49 +1,27 @@
-use Rattle.std.proofs.Common.{◌≡◌, ◌∙◌, ◌++◌, [], ap, sym, append_assoc, arith, length}
+use Rattle.std.proofs.Common.{◌≡◌, ◌∙◌, [], ap, sym, arith, length}
 use Rattle.std.proofs.lemmas.List.{append-nil}
 use Rattle.desk_tree_infos.specs.Folders.{numbers_for}
 use Rattle.desk_tree_infos.specs.Sharing.{annotations_at}
 use Rattle.desk_tree_infos.specs.Tomls.{tomls_in}
-use Rattle.desk_tree_infos.proofs.FolderLemmas.{annotations_or, annotations_or-none}
-use Rattle.desk_tree_infos.proofs.FolderLemmas.{annotations_or-last, folder_kept, none_left}
+use Rattle.desk_tree_infos.proofs.FolderLemmas.{annotations_or, annotations_or-none, last_kept}
+use Rattle.desk_tree_infos.proofs.FolderLemmas.{none_left}
 use Rattle.desk_tree_infos.proofs.folders.by_folder.Goals as goal
 
 pub loop-toml-preserved-in_ok-insert : goal.loop-toml-preserved-in_ok-insert
-loop-toml-preserved-in_ok-insert c = λ more folder.
-    let ts = c.pop.new.self.items in
-    let toml = c.in-Some.toml in
-    let all = c.add.new.all.items ++ more in
-    let before = annotations_at all (numbers_for c.loop-toml.numbers folder) in
-    ap (annotations_or (tomls_in ts) folder)
-    (folder_kept all c.in_ok-from_slice.field-0 toml.folder.now c.in_ok-listed.listed
-    toml.annotations.list c.loop-toml.numbers c.insert.new.self c.in_ok-from_slice.ensures.items
-    c.in_ok-insert.ensures.updates
-    (c.in_ok-listed.ensures.numbers more) folder)
-    ∙ sym (annotations_or-last ts toml folder before)
-    ∙ ap (λ l. annotations_or (tomls_in l) folder before) (sym c.in-Some.ensures.items)
-    ∙ ap (λ l. annotations_or (tomls_in c.loop-toml.tomls.items) folder
-    (annotations_at l (numbers_for c.loop-toml.numbers folder)))
-    (ap (λ l. l ++ more) c.in_ok-listed.ensures.all
-    ∙ append_assoc c.loop-toml.all.items toml.annotations.list more)
-    ∙ c.loop-toml.invariant (toml.annotations.list ++ more) folder
+loop-toml-preserved-in_ok-insert c =
+    last_kept c.pop.new.self.items c.loop-toml.tomls.items c.in-Some.toml c.loop-toml.all.items
+    c.add.new.all.items c.loop-toml.numbers c.insert.new.self c.in_ok-from_slice.field-0
+    c.in_ok-listed.listed (λ folder. annotations_or (tomls_in c.args.tomls.items) folder [])
+    c.in-Some.ensures.items c.in_ok-listed.ensures.all c.in_ok-from_slice.ensures.items
+    c.in_ok-insert.ensures.updates c.in_ok-listed.ensures.numbers c.loop-toml.invariant
 
 pub loop-toml-preserved : goal.loop-toml-preserved
-loop-toml-preserved c = λ more folder.
-    let ts = c.pop.new.self.items in
-    let toml = c.in-Some.toml in
-    let all = c.add.new.all.items ++ more in
-    let before = annotations_at all (numbers_for c.loop-toml.numbers folder) in
-    ap (annotations_or (tomls_in ts) folder)
-    (folder_kept all c.in_ok-from_slice.field-0 toml.folder.now c.in_ok-listed.listed
-    toml.annotations.list c.loop-toml.numbers c.insert.new.self c.in_ok-from_slice.ensures.items
-    c.in_ok-insert.ensures.updates
-    (c.in_ok-listed.ensures.numbers more) folder)
-    ∙ sym (annotations_or-last ts toml folder before)
-    ∙ ap (λ l. annotations_or (tomls_in l) folder before) (sym c.in-Some.ensures.items)
-    ∙ ap (λ l. annotations_or (tomls_in c.loop-toml.tomls.items) folder
-    (annotations_at l (numbers_for c.loop-toml.numbers folder)))
-    (ap (λ l. l ++ more) c.in_ok-listed.ensures.all
-    ∙ append_assoc c.loop-toml.all.items toml.annotations.list more)
-    ∙ c.loop-toml.invariant (toml.annotations.list ++ more) folder
+loop-toml-preserved c =
+    last_kept c.pop.new.self.items c.loop-toml.tomls.items c.in-Some.toml c.loop-toml.all.items
+    c.add.new.all.items c.loop-toml.numbers c.insert.new.self c.in_ok-from_slice.field-0
+    c.in_ok-listed.listed (λ folder. annotations_or (tomls_in c.args.tomls.items) folder [])
+    c.in-Some.ensures.items c.in_ok-listed.ensures.all c.in_ok-from_slice.ensures.items
+    c.in_ok-insert.ensures.updates c.in_ok-listed.ensures.numbers c.loop-toml.invariant
 
 pub returns : goal.returns
 returns c = λ folder.
