@@ -1,8 +1,6 @@
 use Rattle.std.proofs.Common.{◌++◌, ap}
 use Rattle.std.specs.List.{filter_map}
 use Rattle.desk_access.proofs.Chains.{same_self}
-use Rattle.desk_model.specs.Readings.{Readings}
-use Rattle.desk_model.specs.Tables.{Tables}
 use Rattle.desk_wanting.specs.Sole.{sole_choice_found}
 use Rattle.desk_wanting.proofs.SoFar.{fails, option_end, option_turn}
 use Rattle.desk_wanting.proofs.sole_choice.sole_choices_for.Goals as goal
@@ -17,13 +15,8 @@ loop-row-init g c = record {
 
 pub loop-row-preserved : goal.loop-row-preserved
 loop-row-preserved g c =
-    let told = λ (w : Readings) (t : Tables). sole_choice_found w t c.args.release.now in
-    option_turn g.T.Texts.are_right told c.args.packages.now c.loop-row.row-index c.row-item.result
-    c.loop-row.choices.items
-    c.add_choice.new.choices.items (λ w t. filter_map (told w t) c.args.packages.now)
-    c.in_ok-choice.choice
-    c.loop-row-test.true c.row-item.is c.loop-row.invariant c.in_ok-choice.ensures.kept
-    c.in_ok-choice.ensures.found
+    option_turn g.T.Texts.are_right _ _ _ _ _ _ _ _ c.loop-row-test.true c.row-item.is
+    c.loop-row.invariant c.in_ok-choice.ensures.kept c.in_ok-choice.ensures.found
     c.in_ok-add_choice.ensures
 
 pub returns-in_err-choice-clause-kept : goal.returns-in_err-choice-clause-kept
@@ -38,7 +31,4 @@ returns-in_err-add_choice-clause-kept g c =
 
 pub returns-clause-found : goal.returns-clause-found
 returns-clause-found g c =
-    let told = λ (w : Readings) (t : Tables). sole_choice_found w t c.args.release.now in
-    option_end g.T.Texts.are_right told c.args.packages.now c.loop-row.row-index
-    c.loop-row.choices.items
-    (λ w t. filter_map (told w t) c.args.packages.now) c.loop-row-test.false c.loop-row.invariant
+    option_end g.T.Texts.are_right _ _ _ _ _ c.loop-row-test.false c.loop-row.invariant

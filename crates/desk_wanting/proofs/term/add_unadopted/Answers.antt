@@ -1,8 +1,4 @@
-use Rattle.std.proofs.Common.{◌++◌, refl}
-use Rattle.std.specs.List.{filter_map}
-use Rattle.desk_model.specs.Readings.{Readings}
-use Rattle.desk_model.specs.Tables.{Tables}
-use Rattle.desk_model.specs.Answers.{unadopted}
+use Rattle.std.proofs.Common.{refl}
 use Rattle.desk_access.proofs.Chains.{same_self}
 use Rattle.desk_wanting.proofs.SoFar.{fails, option_end, option_turn}
 use Rattle.desk_wanting.proofs.term.add_unadopted.Goals as goal
@@ -12,14 +8,9 @@ loop-term-init g c = record { same = same_self _; found = λ w right h t held. r
 
 pub loop-term-preserved : goal.loop-term-preserved
 loop-term-preserved g c =
-    let told = λ (w : Readings) (t : Tables). unadopted w t.adoption c.args.document in
-    option_turn g.T.Texts.are_right told c.args.terms.now c.loop-term.term-index c.term-item.result
-    c.loop-term.refusals.items
-    c.add_refusal.new.refusals.items
-    (λ w t. c.args.refusals.now.items ++ filter_map (told w t) c.args.terms.now)
-    c.in_ok-refusal.refusal c.loop-term-test.true c.term-item.is c.loop-term.invariant
-    c.in_ok-refusal.ensures.kept
-    c.in_ok-refusal.ensures.found c.in_ok-add_refusal.ensures
+    option_turn g.T.Texts.are_right _ _ _ _ _ _ _ _ c.loop-term-test.true c.term-item.is
+    c.loop-term.invariant c.in_ok-refusal.ensures.kept c.in_ok-refusal.ensures.found
+    c.in_ok-add_refusal.ensures
 
 pub returns-in_err-refusal-clause-kept : goal.returns-in_err-refusal-clause-kept
 returns-in_err-refusal-clause-kept g c =
@@ -34,8 +25,4 @@ returns-in_err-add_refusal-clause-kept g c =
 
 pub returns-clause-found : goal.returns-clause-found
 returns-clause-found g c =
-    let told = λ (w : Readings) (t : Tables). unadopted w t.adoption c.args.document in
-    option_end g.T.Texts.are_right told c.args.terms.now c.loop-term.term-index
-    c.loop-term.refusals.items
-    (λ w t. c.args.refusals.now.items ++ filter_map (told w t) c.args.terms.now)
-    c.loop-term-test.false c.loop-term.invariant
+    option_end g.T.Texts.are_right _ _ _ _ _ c.loop-term-test.false c.loop-term.invariant
