@@ -410,6 +410,15 @@ placed_low n zero (x ∷ xs) stand placed at =
 placed_low n (suc i) (x ∷ xs) stand placed at = placed_low n i xs stand
     (and_right (is_within n x.place) (are_placed n xs) placed) at
 
+-- what stands at an index, and that its release has a place
+pub placed_at : (n i : ℕ) (all : List Stand) (stand : Stand) → i < length all
+    → stand ≡ get_or all i stand → are_placed n all ≡ true
+    → (slice_get all i ≡ Some stand) × (stand.place ≡ stand.place - 1 + 1)
+placed_at n i all stand lt is placed =
+    let at = get_some all i stand lt is in
+    let low = placed_low n i all stand placed at in
+    (at, omega (arith, low))
+
 -- the duty of one of some shifts
 pub duty_at : (count : ℕ) (shifts : List Shift) (k : ℕ) (d : Shift) → are_duties count shifts ≡ true
     → k < length shifts → is_within count (get_or shifts k d).duty ≡ true

@@ -1,8 +1,8 @@
-use Rattle.std.proofs.Common.{◌≡◌, ◌+◌, ◌-◌, ◌<◌, ◌≤◌, refl, sym, subst, arith, length, Some, List}
-use Rattle.std.specs.Prelude.{slice_get, vec_len}
+use Rattle.std.proofs.Common.{◌-◌, ◌<◌, refl, sym, subst, arith, length, List}
+use Rattle.std.specs.Prelude.{vec_len}
 use Rattle.desk_tally.specs.Stands.{AreTallied}
 use Rattle.desk_tally.specs.declared.stand.Stand.{Stand}
-use Rattle.desk_tally.proofs.Counts.{get_some, placed_low, stands_some, state_set}
+use Rattle.desk_tally.proofs.Counts.{get_some, placed_at, stands_some, state_set}
 use Rattle.desk_tally.proofs.lists.shift_one.Goals as goal
 
 pub move_at-requires-clause-some : goal.move_at-requires-clause-some
@@ -10,13 +10,10 @@ move_at-requires-clause-some c = λ tally had.
     let stands = c.args.stands.now in
     let stand : Stand = c.index-stand.result.now in
     let lt : c.args.index < length stands.items = omega (arith, stands.ok.0, c.requires.within) in
-    let at : slice_get stands.items c.args.index ≡ Some stand =
-    get_some stands.items c.args.index stand lt c.index-stand.ensures in
-    let low : 1 ≤ stand.place = placed_low (vec_len c.args.tallies.now) c.args.index stands.items
-    stand c.requires.placed at in
-    let of : stand.place ≡ stand.place - 1 + 1 = omega (arith, low) in
+    let at = placed_at (vec_len c.args.tallies.now) c.args.index stands.items stand lt
+    c.index-stand.ensures c.requires.placed in
     stands_some stands.items c.args.tallies.now.items c.args.index (stand.place - 1) stand tally
-    c.requires.tallied at of had
+    c.requires.tallied at.0 at.1 had
 
 pub returns-clause-stands : goal.returns-clause-stands
 returns-clause-stands c =
@@ -31,11 +28,8 @@ returns-clause-tallied c =
     let stands = c.args.stands.now in
     let stand : Stand = c.index-stand.result.now in
     let lt : c.args.index < length stands.items = omega (arith, stands.ok.0, c.requires.within) in
-    let at : slice_get stands.items c.args.index ≡ Some stand =
-    get_some stands.items c.args.index stand lt c.index-stand.ensures in
-    let low : 1 ≤ stand.place = placed_low (vec_len c.args.tallies.now) c.args.index stands.items
-    stand c.requires.placed at in
-    let of : stand.place ≡ stand.place - 1 + 1 = omega (arith, low) in
+    let at = placed_at (vec_len c.args.tallies.now) c.args.index stands.items stand lt
+    c.index-stand.ensures c.requires.placed in
     subst (λ (all : List Stand). AreTallied all c.move_at.new.tallies.items)
-    (sym (state_set c.args.index c.args.to stands.items stand at))
-    (c.move_at.ensures.tallied stands.items c.args.index stand at of refl c.requires.tallied)
+    (sym (state_set c.args.index c.args.to stands.items stand at.0))
+    (c.move_at.ensures.tallied stands.items c.args.index stand at.0 at.1 refl c.requires.tallied)
