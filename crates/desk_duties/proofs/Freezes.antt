@@ -8,7 +8,8 @@ use Rattle.desk_base.specs.Day.{is_day}
 use Rattle.desk_model.specs.Readings.{Readings}
 use Rattle.desk_model.specs.Tables.{Tables}
 use Rattle.desk_model.specs.History.{attached_to}
-use Rattle.desk_model.specs.Raised.{frozen_for, owed_for}
+use Rattle.desk_model.specs.Raised.{frozen_for, owed_for, shipped_of}
+use Rattle.desk_model.specs.declared.row.AttachedRow.{AttachedRow}
 use Rattle.desk_model.specs.Answers.{walk, unready}
 use Rattle.desk_history.specs.FromTables.{answer_from, change_for, froze_as, conclusion_found}
 use Rattle.desk_history.specs.FromTables.{rules_found, choice_found, shipped_found, release_found}
@@ -22,7 +23,7 @@ use Rattle.desk_model.specs.declared.refusal.Refusal.TheVariants as why
 use Rattle.desk_model.specs.declared.command.Answer.TheVariants as answered
 use Rattle.desk_model.specs.declared.command.Command.TheVariants.{Freeze}
 
-pub filled : (n : ℕ) → (n == 0) ≡ false → nat_lt 0 n ≡ true
+filled : (n : ℕ) → (n == 0) ≡ false → nat_lt 0 n ≡ true
 filled n some = grind (arith, nat_tests)
 
 unfilled : (n : ℕ) → (n == 0) ≡ true → nat_lt 0 n ≡ false
@@ -32,6 +33,15 @@ pub nothing_attached : (w : Readings) (t : Tables) (r form : List ℕ)
     → (length (attached_to t.attached r) == 0) ≡ true
     → answered.Refused why.EmptyRelease ≡ freeze_open_found w t r form
 nothing_attached w t r form none = sym (rw (unfilled (length (attached_to t.attached r)) none) refl)
+
+-- a release with documents ships what they list
+pub ships_some : (t : Tables) (r : List ℕ) (rows : List AttachedRow) (ps : List PackageRow)
+    → rows ≡ attached_to t.attached r → (length rows == 0) ≡ false → ps ≡ shipped_of rows t.packages
+    → (nat_lt 0 (length (attached_to t.attached r)) ≡ true) × (ps ≡ shipped_found t r)
+ships_some t r rows ps are some ships = (
+  ap (λ xs. nat_lt 0 (length xs)) (sym are) ∙ filled (length rows) some,
+  ships ∙ ap (λ xs. shipped_of xs t.packages) are,
+)
 
 pub freeze_refused : (w : Readings) (t : Tables) (r form : List ℕ) (ps : List PackageRow)
     (old new : Gathered) (o : Option Refusal) (refusal : Refusal)

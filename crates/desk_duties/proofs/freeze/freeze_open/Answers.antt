@@ -1,15 +1,15 @@
 use Rattle.std.proofs.Common.{◌≡◌, ◌∙◌, sym, ap, subst, ℕ, List, length, true, refl, vec_len, arith}
-use Rattle.std.specs.Prelude.{◌==◌, nat_lt}
+use Rattle.std.specs.Prelude.{◌==◌}
 use Rattle.desk_model.specs.History.{attached_to}
-use Rattle.desk_model.specs.Raised.{shipped_of}
 use Rattle.desk_model.specs.declared.row.AttachedRow.{AttachedRow}
 use Rattle.desk_model.specs.declared.row.PackageRow.{PackageRow}
-use Rattle.desk_history.specs.FromTables.{shipped_found, froze_as, freeze_change_found}
+use Rattle.desk_history.specs.FromTables.{froze_as, freeze_change_found}
 use Rattle.desk_duties.specs.Freezing.{freeze_fits, freeze_open_found}
 use Rattle.desk_access.specs.Plans.{IsPlan, IsSound}
 use Rattle.desk_access.proofs.Chains.{same_then_same}
 use Rattle.desk_access.proofs.Chains.{plans_after, plan_after}
-use Rattle.desk_duties.proofs.Freezes.{filled, nothing_attached, freeze_refused, freeze_fitting, Fits}
+use Rattle.desk_duties.proofs.Freezes.{nothing_attached, freeze_refused, freeze_fitting, Fits}
+use Rattle.desk_duties.proofs.Freezes.{ships_some}
 use Rattle.desk_duties.proofs.freeze.freeze_open.Goals as goal
 
 pub returns-then-is_empty-clause-plan : goal.returns-then-is_empty-clause-plan
@@ -41,22 +41,17 @@ returns-in-Some-clause-plan g c = λ w right h t held.
     let r : List ℕ = c.args.release.now in
     let h2 = three.kept.kept.spared.honest h in
     let t1 = one.kept.kept.spared.holds t held in
-    let rows : List AttachedRow = c.as_slice.result.now in
-    let are : rows ≡ attached_to t.attached r = c.as_slice.ensures.value
-    ∙ (one.found (two.kept.kept.spared.honest h2) t held
-    ∙ ap (attached_to t.attached) c.as_str.ensures) in
-    let some : nat_lt 0 (length (attached_to t.attached r)) ≡ true =
-    ap (λ (xs : List AttachedRow). nat_lt 0 (length xs)) (sym are)
-    ∙ filled (length rows) (ap (λ (n : ℕ). n == 0) c.as_slice.ensures.len
-    ∙ sym c.if-is_empty.ensures) in
     let ps : List PackageRow = c.as_slice-2.result.now in
-    let shipped : ps ≡ shipped_found t r = c.as_slice-2.ensures.value
-    ∙ (two.found h2 t t1 ∙ ap (λ (xs : List AttachedRow). shipped_of xs t.packages) are) in
+    let ships = ships_some t r c.as_slice.result.now ps
+    (c.as_slice.ensures.value ∙ (one.found (two.kept.kept.spared.honest h2) t held
+    ∙ ap (attached_to t.attached) c.as_str.ensures))
+    (ap (λ (n : ℕ). n == 0) c.as_slice.ensures.len ∙ sym c.if-is_empty.ensures)
+    (c.as_slice-2.ensures.value ∙ two.found h2 t t1) in
     subst (IsPlan (freeze_open_found w t r c.args.form.now)
     (freeze_change_found w t r c.args.form.now c.args.day)) (sym c.refused-in-Some.ensures)
     (freeze_refused w t r c.args.form.now ps
     (record { frozen = c.new.result; owed = c.new-2.result }) c.freeze_packages.new.gathered
-    c.in_ok-refusal.field-0 c.in-Some.refusal some shipped
+    c.in_ok-refusal.field-0 c.in-Some.refusal ships.0 ships.1
     (three.gathered w right h t (two.kept.kept.spared.holds t t1)) c.in-Some.is)
 
 pub returns-clause-plan : goal.returns-clause-plan
@@ -78,21 +73,16 @@ returns-clause-plan g c = λ w right.
     (λ h t held.
     let h2 = three.kept.kept.spared.honest h in
     let t1 = one.kept.kept.spared.holds t held in
-    let rows : List AttachedRow = c.as_slice.result.now in
-    let are : rows ≡ attached_to t.attached r = c.as_slice.ensures.value
-    ∙ (one.found (two.kept.kept.spared.honest h2) t held
-    ∙ ap (attached_to t.attached) c.as_str.ensures) in
-    let some : nat_lt 0 (length (attached_to t.attached r)) ≡ true =
-    ap (λ (xs : List AttachedRow). nat_lt 0 (length xs)) (sym are)
-    ∙ filled (length rows) (ap (λ (n : ℕ). n == 0) c.as_slice.ensures.len
-    ∙ sym c.if-is_empty.ensures) in
     let ps : List PackageRow = c.as_slice-2.result.now in
-    let shipped : ps ≡ shipped_found t r = c.as_slice-2.ensures.value
-    ∙ (two.found h2 t t1 ∙ ap (λ (xs : List AttachedRow). shipped_of xs t.packages) are) in
+    let ships = ships_some t r c.as_slice.result.now ps
+    (c.as_slice.ensures.value ∙ (one.found (two.kept.kept.spared.honest h2) t held
+    ∙ ap (attached_to t.attached) c.as_str.ensures))
+    (ap (λ (n : ℕ). n == 0) c.as_slice.ensures.len ∙ sym c.if-is_empty.ensures)
+    (c.as_slice-2.ensures.value ∙ two.found h2 t t1) in
     let fits : Fits w t r form c.args.day new =
     freeze_fitting w t r form c.args.day ps
-    (record { frozen = c.new.result; owed = c.new-2.result }) new c.in_ok-refusal.field-0 some
-    shipped c.new.ensures.items c.new-2.ensures.items
+    (record { frozen = c.new.result; owed = c.new-2.result }) new c.in_ok-refusal.field-0
+    ships.0 ships.1 c.new.ensures.items c.new-2.ensures.items
     (three.gathered w right h t (two.kept.kept.spared.holds t t1)) c.in_default.is in
     (fits.answer, fits.rows))
     c.freeze_gathered.ensures.plan
