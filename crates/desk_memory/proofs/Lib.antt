@@ -3,3 +3,4 @@ mod Naming
 mod Ruling
 mod Committing
 mod Terms
+mod Releases
