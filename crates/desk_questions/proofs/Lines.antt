@@ -4,7 +4,6 @@ use Rattle.std.proofs.Common.{Option, Some, None, refl, sym, ap, ap₂, arith}
 use Rattle.std.specs.Prelude.{◌&&◌, ◌==◌, not, count_by, filter, find, is_some}
 use Rattle.std.specs.Option.{option_map}
 use Rattle.std.proofs.lemmas.Bool.Decides.{nat_tests}
-use Rattle.std.specs.Str.{bytes_eq}
 use Rattle.std.proofs.lemmas.List.Sums.{length-filter}
 use Rattle.std.proofs.lemmas.Slice.Eq.{bytes_eq-Decides}
 use Rattle.desk_model.specs.Keys.{is_duty_of, is_release}

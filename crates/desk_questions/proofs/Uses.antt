@@ -180,3 +180,21 @@ pub uses_same : (xs uses : List TextOf) (x : TextOf) (told : Bool)
     → uses ≡ first_uses (xs ++ x ∷ [])
 uses_same xs uses x told is kept e =
     kept ∙ sym (first_uses-append xs x ∙ kept_old (list_any (is_same_text x) xs) xs x (sym is ∙ e))
+
+-- a text that comes for the first time, and one that came before
+module _ (xs uses : List TextOf) (x : TextOf) (old new : BTreeSet TextKey) (key : TextKey)
+    (told : Bool) (is : key ≡ text_key x) (has : HasTexts xs old)
+    (asks : told ≡ not (contains_by (key_order key) old))
+    (adds : Updates key_order old new key true) (kept : uses ≡ first_uses xs) where
+  pub first_use : (next : List TextOf) → told ≡ true → next ≡ uses ++ x ∷ []
+      → (next ≡ first_uses (xs ++ x ∷ [])) × HasTexts (xs ++ x ∷ []) new
+  first_use next e put = (
+    uses_more xs uses next x told (is_new xs old x key told is has asks) kept e put,
+    texts_more xs x old new key is adds has,
+  )
+
+  pub later_use : told ≡ false → (uses ≡ first_uses (xs ++ x ∷ [])) × HasTexts (xs ++ x ∷ []) new
+  later_use e = (
+    uses_same xs uses x told (is_new xs old x key told is has asks) kept e,
+    texts_more xs x old new key is adds has,
+  )
