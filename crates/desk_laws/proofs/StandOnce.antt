@@ -88,277 +88,199 @@ one_row row places k =
 
 -- ---- the key that equal cells give
 
+-- the first of several tests, and the rest of them
+number_is : (a b : ℕ) (rest : Bool) → ((a == b) && rest) ≡ true → (a ≡ b) × (rest ≡ true)
+number_is a b rest e = (numbers_equal a b (and_left (a == b) rest e), and_right (a == b) rest e)
+
+text_is : (a b : List ℕ) (rest : Bool) → (bytes_eq a b && rest) ≡ true → (a ≡ b) × (rest ≡ true)
+text_is a b rest e = (
+  texts_equal a b (and_left (bytes_eq a b) rest e),
+  and_right (bytes_eq a b) rest e,
+)
+
+number_text : (a b : ℕ) (c d : List ℕ) → ((a == b) && (bytes_eq c d && true)) ≡ true
+    → let key : ℕ → List ℕ → ℕ × List ℕ = λ n t. (n, t) in key a c ≡ key b d
+number_text a b c d e =
+    let one = number_is a b (bytes_eq c d && true) e in
+    let two = text_is c d true one.1 in
+    λ i. (one.0 i, two.0 i)
+
+two_numbers : (a b c d : ℕ) → ((a == b) && ((c == d) && true)) ≡ true
+    → let key : ℕ → ℕ → ℕ × ℕ = λ n m. (n, m) in key a c ≡ key b d
+two_numbers a b c d e =
+    let one = number_is a b ((c == d) && true) e in
+    let two = number_is c d true one.1 in
+    λ i. (one.0 i, two.0 i)
+
 catalogue_tells : (x y : CatalogueRow)
     → agree plain (in_cells (0 ∷ [])) (catalogue_cells x) (in_cells (0 ∷ [])) (catalogue_cells y)
     ≡ true → x.revision ≡ y.revision
-catalogue_tells x y e =
-    let e0 : ((x.revision == y.revision) && true) ≡ true =
-    rw (first_key-plain, int_test x.revision y.revision) at e in
-    numbers_equal x.revision y.revision (and_left (x.revision == y.revision) true e0)
+catalogue_tells x y e = (number_is x.revision y.revision true
+    (rw (first_key-plain, int_test x.revision y.revision) at e)).0
 
 rule_tells : (x y : RuleRow) → agree plain (in_cells (1 ∷ 2 ∷ 3 ∷ [])) (rule_cells x)
     (in_cells (1 ∷ 2 ∷ 3 ∷ [])) (rule_cells y) ≡ true → rule_key x ≡ rule_key y
 rule_tells x y e =
-    let e0 : ((x.revision == y.revision)
+    let tests : ((x.revision == y.revision)
     && (bytes_eq x.term y.term && (bytes_eq x.form y.form && true))) ≡ true = rw (
       first_key-plain,
       int_test x.revision y.revision,
       text_test x.term y.term,
       text_test x.form y.form,
     ) at e in
-    let e1 = and_right (x.revision == y.revision)
-    (bytes_eq x.term y.term && (bytes_eq x.form y.form && true)) e0 in
-    let e2 = and_right (bytes_eq x.term y.term) (bytes_eq x.form y.form && true) e1 in
-    λ i. (
-      numbers_equal x.revision y.revision
-          (and_left (x.revision == y.revision)
-          (bytes_eq x.term y.term && (bytes_eq x.form y.form && true)) e0) i,
-      texts_equal x.term y.term (and_left (bytes_eq x.term y.term) (bytes_eq x.form y.form && true)
-          e1) i,
-      texts_equal x.form y.form (and_left (bytes_eq x.form y.form) true e2) i,
-    )
+    let revision = number_is x.revision y.revision _ tests in
+    let term = text_is x.term y.term _ revision.1 in
+    let form = text_is x.form y.form true term.1 in
+    λ i. (revision.0 i, term.0 i, form.0 i)
 
 document_tells : (x y : DocumentRow)
     → agree plain (in_cells (0 ∷ [])) (document_cells x) (in_cells (0 ∷ [])) (document_cells y)
     ≡ true → x.number ≡ y.number
-document_tells x y e =
-    let e0 : ((x.number == y.number) && true) ≡ true =
-    rw (first_key-plain, int_test x.number y.number) at e in
-    numbers_equal x.number y.number (and_left (x.number == y.number) true e0)
+document_tells x y e = (number_is x.number y.number true
+    (rw (first_key-plain, int_test x.number y.number) at e)).0
 
 namespace_tells : (x y : DocumentRow)
     → agree plain (in_cells (2 ∷ [])) (document_cells x) (in_cells (2 ∷ [])) (document_cells y)
     ≡ true → x.namespace ≡ y.namespace
-namespace_tells x y e =
-    let e0 : (bytes_eq x.namespace y.namespace && true) ≡ true =
-    rw (first_key-plain, text_test x.namespace y.namespace) at e in
-    texts_equal x.namespace y.namespace (and_left (bytes_eq x.namespace y.namespace) true e0)
+namespace_tells x y e = (text_is x.namespace y.namespace true
+    (rw (first_key-plain, text_test x.namespace y.namespace) at e)).0
 
 package_tells : (x y : PackageRow)
     → agree plain (in_cells (1 ∷ 2 ∷ [])) (package_cells x) (in_cells (1 ∷ 2 ∷ []))
     (package_cells y) ≡ true → package_key x ≡ package_key y
-package_tells x y e =
-    let e0 : ((x.document == y.document) && (bytes_eq x.id y.id && true)) ≡ true =
-    rw (first_key-plain, int_test x.document y.document, text_test x.id y.id) at e in
-    let e1 = and_right (x.document == y.document) (bytes_eq x.id y.id && true) e0 in
-    λ i. (
-      numbers_equal x.document y.document
-          (and_left (x.document == y.document) (bytes_eq x.id y.id && true) e0) i,
-      texts_equal x.id y.id (and_left (bytes_eq x.id y.id) true e1) i,
-    )
+package_tells x y e = number_text x.document y.document x.id y.id
+    (rw (first_key-plain, int_test x.document y.document, text_test x.id y.id) at e)
 
 extracted_tells : (x y : ExtractedRow)
     → agree plain (in_cells (1 ∷ 2 ∷ [])) (extracted_cells x) (in_cells (1 ∷ 2 ∷ []))
     (extracted_cells y) ≡ true → extracted_key x ≡ extracted_key y
-extracted_tells x y e =
-    let e0 : ((x.document == y.document) && (bytes_eq x.reference y.reference && true)) ≡ true =
-    rw (first_key-plain, int_test x.document y.document, text_test x.reference y.reference) at e in
-    let e1 = and_right (x.document == y.document) (bytes_eq x.reference y.reference && true) e0 in
-    λ i. (
-      numbers_equal x.document y.document
-          (and_left (x.document == y.document) (bytes_eq x.reference y.reference && true) e0) i,
-      texts_equal x.reference y.reference (and_left (bytes_eq x.reference y.reference) true e1) i,
-    )
+extracted_tells x y e = number_text x.document y.document x.reference y.reference
+    (rw (first_key-plain, int_test x.document y.document, text_test x.reference y.reference) at e)
 
 conclusion_tells : (x y : ConclusionRow)
     → agree plain (in_cells (1 ∷ 2 ∷ [])) (conclusion_cells x) (in_cells (1 ∷ 2 ∷ []))
     (conclusion_cells y) ≡ true → conclusion_key x ≡ conclusion_key y
-conclusion_tells x y e =
-    let e0 : ((x.document == y.document) && (bytes_eq x.package_id y.package_id && true)) ≡ true =
-    rw (first_key-plain, int_test x.document y.document, text_test x.package_id y.package_id) at
-    e in
-    let e1 = and_right (x.document == y.document) (bytes_eq x.package_id y.package_id && true) e0 in
-    λ i. (
-      numbers_equal x.document y.document
-          (and_left (x.document == y.document) (bytes_eq x.package_id y.package_id && true) e0) i,
-      texts_equal x.package_id y.package_id (and_left (bytes_eq x.package_id y.package_id) true e1)
-          i,
-    )
+conclusion_tells x y e = number_text x.document y.document x.package_id y.package_id
+    (rw (first_key-plain, int_test x.document y.document, text_test x.package_id y.package_id) at e)
 
 adoption_tells : (x y : AdoptionRow)
     → agree plain (in_cells (1 ∷ 2 ∷ [])) (adoption_cells x) (in_cells (1 ∷ 2 ∷ []))
     (adoption_cells y) ≡ true → adoption_key x ≡ adoption_key y
-adoption_tells x y e =
-    let e0 : ((x.document == y.document) && (bytes_eq x.reference y.reference && true)) ≡ true =
-    rw (first_key-plain, int_test x.document y.document, text_test x.reference y.reference) at e in
-    let e1 = and_right (x.document == y.document) (bytes_eq x.reference y.reference && true) e0 in
-    λ i. (
-      numbers_equal x.document y.document
-          (and_left (x.document == y.document) (bytes_eq x.reference y.reference && true) e0) i,
-      texts_equal x.reference y.reference (and_left (bytes_eq x.reference y.reference) true e1) i,
-    )
+adoption_tells x y e = number_text x.document y.document x.reference y.reference
+    (rw (first_key-plain, int_test x.document y.document, text_test x.reference y.reference) at e)
 
 release_tells : (x y : ReleaseRow)
-    → agree plain (in_cells (1 ∷ [])) (release_cells x) (in_cells (1 ∷ [])) (release_cells y) ≡ true
-    → x.name ≡ y.name
-release_tells x y e =
-    let e0 : (bytes_eq x.name y.name && true) ≡ true =
-    rw (first_key-plain, text_test x.name y.name) at e in
-    texts_equal x.name y.name (and_left (bytes_eq x.name y.name) true e0)
+    → agree plain (in_cells (1 ∷ [])) (release_cells x) (in_cells (1 ∷ [])) (release_cells y)
+    ≡ true → x.name ≡ y.name
+release_tells x y e = (text_is x.name y.name true
+    (rw (first_key-plain, text_test x.name y.name) at e)).0
 
 place_tells : (x y : ReleaseRow)
-    → agree plain (in_cells (2 ∷ [])) (release_cells x) (in_cells (2 ∷ [])) (release_cells y) ≡ true
-    → x.place ≡ y.place
-place_tells x y e =
-    let e0 : ((x.place == y.place) && true) ≡ true =
-    rw (first_key-plain, int_test x.place y.place) at e in
-    numbers_equal x.place y.place (and_left (x.place == y.place) true e0)
+    → agree plain (in_cells (2 ∷ [])) (release_cells x) (in_cells (2 ∷ [])) (release_cells y)
+    ≡ true → x.place ≡ y.place
+place_tells x y e = (number_is x.place y.place true
+    (rw (first_key-plain, int_test x.place y.place) at e)).0
 
 attached_tells : (x y : AttachedRow)
     → agree plain (in_cells (1 ∷ 2 ∷ [])) (attached_cells x) (in_cells (1 ∷ 2 ∷ []))
     (attached_cells y) ≡ true → attached_key x ≡ attached_key y
 attached_tells x y e =
-    let e0 : (bytes_eq x.release y.release && ((x.document == y.document) && true)) ≡ true =
+    let tests : (bytes_eq x.release y.release && ((x.document == y.document) && true)) ≡ true =
     rw (first_key-plain, text_test x.release y.release, int_test x.document y.document) at e in
-    let e1 = and_right (bytes_eq x.release y.release) ((x.document == y.document) && true) e0 in
-    λ i. (
-      texts_equal x.release y.release
-          (and_left (bytes_eq x.release y.release) ((x.document == y.document) && true) e0) i,
-      numbers_equal x.document y.document (and_left (x.document == y.document) true e1) i,
-    )
+    let release = text_is x.release y.release _ tests in
+    let document = number_is x.document y.document true release.1 in
+    λ i. (release.0 i, document.0 i)
+
+-- a term of a package of a release
+record IsTerm (r s : List ℕ) (d c : ℕ) (p q t u : List ℕ) (rest : Bool) : Type 0 where
+  release : r ≡ s
+  document : d ≡ c
+  package_id : p ≡ q
+  term : t ≡ u
+  others : rest ≡ true
+
+term_is : (r s : List ℕ) (d c : ℕ) (p q t u : List ℕ) (rest : Bool)
+    → (bytes_eq r s && ((d == c) && (bytes_eq p q && (bytes_eq t u && rest)))) ≡ true
+    → IsTerm r s d c p q t u rest
+term_is r s d c p q t u rest e =
+    let release = text_is r s _ e in
+    let document = number_is d c _ release.1 in
+    let package_id = text_is p q _ document.1 in
+    let term = text_is t u rest package_id.1 in
+    record {
+      release = release.0;
+      document = document.0;
+      package_id = package_id.0;
+      term = term.0;
+      others = term.1;
+    }
 
 choice_tells : (x y : ChoiceRow)
     → agree plain (in_cells (1 ∷ 2 ∷ 3 ∷ 4 ∷ [])) (choice_cells x) (in_cells (1 ∷ 2 ∷ 3 ∷ 4 ∷ []))
     (choice_cells y) ≡ true → choice_key x ≡ choice_key y
 choice_tells x y e =
-    let e0 : (bytes_eq x.release y.release
-    && ((x.document == y.document)
-    && (bytes_eq x.package_id y.package_id && (bytes_eq x.term y.term && true)))) ≡ true = rw (
+    let is = term_is x.release y.release x.document y.document x.package_id y.package_id x.term
+    y.term true (rw (
       first_key-plain,
       text_test x.release y.release,
       int_test x.document y.document,
       text_test x.package_id y.package_id,
       text_test x.term y.term,
-    ) at e in
-    let e1 = and_right (bytes_eq x.release y.release)
-    ((x.document == y.document) && (bytes_eq x.package_id y.package_id
-    && (bytes_eq x.term y.term && true))) e0 in
-    let e2 = and_right (x.document == y.document)
-    (bytes_eq x.package_id y.package_id && (bytes_eq x.term y.term && true)) e1 in
-    let e3 = and_right (bytes_eq x.package_id y.package_id) (bytes_eq x.term y.term && true) e2 in
-    λ i. (
-      texts_equal x.release y.release
-          (and_left (bytes_eq x.release y.release)
-          ((x.document == y.document) && (bytes_eq x.package_id y.package_id
-          && (bytes_eq x.term y.term && true))) e0) i,
-      numbers_equal x.document y.document
-          (and_left (x.document == y.document)
-          (bytes_eq x.package_id y.package_id && (bytes_eq x.term y.term && true)) e1) i,
-      texts_equal x.package_id y.package_id
-          (and_left (bytes_eq x.package_id y.package_id) (bytes_eq x.term y.term && true) e2) i,
-      texts_equal x.term y.term (and_left (bytes_eq x.term y.term) true e3) i,
-    )
+    ) at e) in
+    λ i. (is.release i, is.document i, is.package_id i, is.term i)
 
 frozen_tells : (x y : FrozenRow)
     → agree plain (in_cells (1 ∷ 2 ∷ 3 ∷ 4 ∷ [])) (frozen_cells x) (in_cells (1 ∷ 2 ∷ 3 ∷ 4 ∷ []))
     (frozen_cells y) ≡ true → frozen_key x ≡ frozen_key y
 frozen_tells x y e =
-    let e0 : (bytes_eq x.release y.release
-    && ((x.document == y.document)
-    && (bytes_eq x.package_id y.package_id && (bytes_eq x.term y.term && true)))) ≡ true = rw (
+    let is = term_is x.release y.release x.document y.document x.package_id y.package_id x.term
+    y.term true (rw (
       first_key-plain,
       text_test x.release y.release,
       int_test x.document y.document,
       text_test x.package_id y.package_id,
       text_test x.term y.term,
-    ) at e in
-    let e1 = and_right (bytes_eq x.release y.release)
-    ((x.document == y.document) && (bytes_eq x.package_id y.package_id
-    && (bytes_eq x.term y.term && true))) e0 in
-    let e2 = and_right (x.document == y.document)
-    (bytes_eq x.package_id y.package_id && (bytes_eq x.term y.term && true)) e1 in
-    let e3 = and_right (bytes_eq x.package_id y.package_id) (bytes_eq x.term y.term && true) e2 in
-    λ i. (
-      texts_equal x.release y.release
-          (and_left (bytes_eq x.release y.release)
-          ((x.document == y.document) && (bytes_eq x.package_id y.package_id
-          && (bytes_eq x.term y.term && true))) e0) i,
-      numbers_equal x.document y.document
-          (and_left (x.document == y.document)
-          (bytes_eq x.package_id y.package_id && (bytes_eq x.term y.term && true)) e1) i,
-      texts_equal x.package_id y.package_id
-          (and_left (bytes_eq x.package_id y.package_id) (bytes_eq x.term y.term && true) e2) i,
-      texts_equal x.term y.term (and_left (bytes_eq x.term y.term) true e3) i,
-    )
+    ) at e) in
+    λ i. (is.release i, is.document i, is.package_id i, is.term i)
 
-duty_tells : (x y : DutyRow) → agree plain (in_cells (0 ∷ [])) (duty_cells x) (in_cells (0 ∷ []))
-    (duty_cells y) ≡ true → x.number ≡ y.number
-duty_tells x y e =
-    let e0 : ((x.number == y.number) && true) ≡ true =
-    rw (first_key-plain, int_test x.number y.number) at e in
-    numbers_equal x.number y.number (and_left (x.number == y.number) true e0)
+duty_tells : (x y : DutyRow)
+    → agree plain (in_cells (0 ∷ [])) (duty_cells x) (in_cells (0 ∷ [])) (duty_cells y)
+    ≡ true → x.number ≡ y.number
+duty_tells x y e = (number_is x.number y.number true
+    (rw (first_key-plain, int_test x.number y.number) at e)).0
 
 owed_tells : (x y : DutyRow) → agree plain (in_cells (2 ∷ 3 ∷ 4 ∷ 5 ∷ 6 ∷ [])) (duty_cells x)
     (in_cells (2 ∷ 3 ∷ 4 ∷ 5 ∷ 6 ∷ [])) (duty_cells y) ≡ true → key_of x ≡ key_of y
 owed_tells x y e =
-    let e0 : (bytes_eq x.release y.release
-    && ((x.document == y.document)
-    && (bytes_eq x.package_id y.package_id
-    && (bytes_eq x.term y.term && (bytes_eq x.code y.code && true))))) ≡ true = rw (
+    let is = term_is x.release y.release x.document y.document x.package_id y.package_id x.term
+    y.term (bytes_eq x.code y.code && true) (rw (
       first_key-plain,
       text_test x.release y.release,
       int_test x.document y.document,
       text_test x.package_id y.package_id,
       text_test x.term y.term,
       text_test x.code y.code,
-    ) at e in
-    let e1 = and_right (bytes_eq x.release y.release)
-    ((x.document == y.document) && (bytes_eq x.package_id y.package_id
-    && (bytes_eq x.term y.term && (bytes_eq x.code y.code && true)))) e0 in
-    let e2 = and_right (x.document == y.document)
-    (bytes_eq x.package_id y.package_id
-    && (bytes_eq x.term y.term && (bytes_eq x.code y.code && true))) e1 in
-    let e3 = and_right (bytes_eq x.package_id y.package_id)
-    (bytes_eq x.term y.term && (bytes_eq x.code y.code && true)) e2 in
-    let e4 = and_right (bytes_eq x.term y.term) (bytes_eq x.code y.code && true) e3 in
-    λ i. (
-      texts_equal x.release y.release
-          (and_left (bytes_eq x.release y.release)
-          ((x.document == y.document) && (bytes_eq x.package_id y.package_id
-          && (bytes_eq x.term y.term && (bytes_eq x.code y.code && true)))) e0) i,
-      numbers_equal x.document y.document
-          (and_left (x.document == y.document)
-          (bytes_eq x.package_id y.package_id
-          && (bytes_eq x.term y.term && (bytes_eq x.code y.code && true))) e1) i,
-      texts_equal x.package_id y.package_id
-          (and_left (bytes_eq x.package_id y.package_id)
-          (bytes_eq x.term y.term && (bytes_eq x.code y.code && true)) e2) i,
-      texts_equal x.term y.term (and_left (bytes_eq x.term y.term) (bytes_eq x.code y.code && true)
-          e3) i,
-      texts_equal x.code y.code (and_left (bytes_eq x.code y.code) true e4) i,
-    )
+    ) at e) in
+    let code = text_is x.code y.code true is.others in
+    λ i. (is.release i, is.document i, is.package_id i, is.term i, code.0 i)
 
 change_tells : (x y : ChangeRow)
     → agree plain (in_cells (1 ∷ 2 ∷ [])) (change_cells x) (in_cells (1 ∷ 2 ∷ [])) (change_cells y)
     ≡ true → change_key x ≡ change_key y
-change_tells x y e =
-    let e0 : ((x.duty == y.duty) && ((x.step == y.step) && true)) ≡ true =
-    rw (first_key-plain, int_test x.duty y.duty, int_test x.step y.step) at e in
-    let e1 = and_right (x.duty == y.duty) ((x.step == y.step) && true) e0 in
-    λ i. (
-      numbers_equal x.duty y.duty (and_left (x.duty == y.duty) ((x.step == y.step) && true) e0) i,
-      numbers_equal x.step y.step (and_left (x.step == y.step) true e1) i,
-    )
+change_tells x y e = two_numbers x.duty y.duty x.step y.step
+    (rw (first_key-plain, int_test x.duty y.duty, int_test x.step y.step) at e)
 
 reading_tells : (x y : DocumentRow)
-    → agree plain (in_cells (0 ∷ [])) (reading_cells x) (in_cells (0 ∷ [])) (reading_cells y) ≡ true
-    → x.number ≡ y.number
-reading_tells x y e =
-    let e0 : ((x.number == y.number) && true) ≡ true =
-    rw (first_key-plain, int_test x.number y.number) at e in
-    numbers_equal x.number y.number (and_left (x.number == y.number) true e0)
+    → agree plain (in_cells (0 ∷ [])) (reading_cells x) (in_cells (0 ∷ [])) (reading_cells y)
+    ≡ true → x.number ≡ y.number
+reading_tells x y e = (number_is x.number y.number true
+    (rw (first_key-plain, int_test x.number y.number) at e)).0
 
 waiver_tells : (x y : ChangeRow)
     → agree plain (in_cells (1 ∷ 2 ∷ [])) (waiver_cells x) (in_cells (1 ∷ 2 ∷ [])) (waiver_cells y)
     ≡ true → change_key x ≡ change_key y
-waiver_tells x y e =
-    let e0 : ((x.duty == y.duty) && ((x.step == y.step) && true)) ≡ true =
-    rw (first_key-plain, int_test x.duty y.duty, int_test x.step y.step) at e in
-    let e1 = and_right (x.duty == y.duty) ((x.step == y.step) && true) e0 in
-    λ i. (
-      numbers_equal x.duty y.duty (and_left (x.duty == y.duty) ((x.step == y.step) && true) e0) i,
-      numbers_equal x.step y.step (and_left (x.step == y.step) true e1) i,
-    )
+waiver_tells x y e = two_numbers x.duty y.duty x.step y.step
+    (rw (first_key-plain, int_test x.duty y.duty, int_test x.step y.step) at e)
 
 -- ---- all tables
 
