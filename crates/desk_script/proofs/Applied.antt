@@ -13,7 +13,7 @@ use Rattle.desk_model.specs.declared.command.Fault.{Fault}
 use Rattle.desk_model.specs.declared.command.Query.{Query}
 use Rattle.desk_model.specs.declared.command.StoreFault.{StoreFault}
 use Rattle.desk_access.specs.Seen.{Seen, Looked, Minds}
-use Rattle.desk_core.specs.Desks.{CarriesOut, InHistory, is_answered}
+use Rattle.desk_core.specs.Desks.{CarriesOut, InHistory}
 use Rattle.desk_core.proofs.Leaving.{keeps_after, left_after, outlasts_after, stays_after}
 use Rattle.desk_json.specs.declared.request.Request.TheVariants.{Act, Ask}
 use Rattle.desk_script.specs.Replies.{Replies, is_recorded_by}

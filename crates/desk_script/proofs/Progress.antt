@@ -320,6 +320,21 @@ piece_rest front taken rest piece more is =
     ∙ ap (λ (l : List ℕ). front ++ l)
     (sym (append_assoc taken rest more) ∙ sym (ap (λ (l : List ℕ). l ++ more) is))
 
+-- the bytes before this piece and those taken of it were served
+pub IsFrontAt-piece : (is_right : Readings → Type 0) (tells : StoreFault → Type 0)
+    {Left Desk : Type 0} (stands : Left → Tables → Type 0) (seen : Desk → Seen Left) (number : ℕ)
+    (fault : ScriptFault) (front taken rest piece more : List ℕ) (a b : Desk)
+    (u v : Option (List ℕ)) (from to : ScriptEnd) (line : Line) → piece ≡ taken ++ rest
+    → IsOfLine fault
+    → HasServed is_right tells stands seen number (front ++ taken) a b u v from to line
+    → IsFrontAt is_right tells stands seen number fault (front ++ (piece ++ more)) a b u v
+IsFrontAt-piece is_right tells stands seen number fault front taken rest piece more a b u v from to
+    line is of_line h =
+    subst (λ (bs : List ℕ). IsFrontAt is_right tells stands seen number fault bs a b u v)
+    (piece_rest front taken rest piece more is)
+    (IsFrontAt-of is_right tells stands seen number fault (front ++ taken) (rest ++ more) a b u v
+    from to line of_line h)
+
 -- one more line of a piece
 pub piece_cut : (taken text after rest piece : List ℕ) → piece ≡ taken ++ rest
     → rest ≡ text ++ 10 ∷ after → piece ≡ (taken ++ (text ++ 10 ∷ [])) ++ after

@@ -4,8 +4,8 @@ use Rattle.std.specs.Prelude.{true}
 use Rattle.desk_script.specs.Losses.{IfStop}
 use Rattle.desk_script.specs.Script.{HasServed, IsFrontAt}
 use Rattle.desk_script.specs.declared.serving.ScriptFault.TheVariants.{Memory}
-use Rattle.desk_script.proofs.Progress.{HasServed-came, HasServed-run, HasServed-then, IsFrontAt-of}
-use Rattle.desk_script.proofs.Progress.{IsFrontAt-then, piece_cut, piece_line, piece_rest}
+use Rattle.desk_script.proofs.Progress.{HasServed-came, HasServed-run, HasServed-then}
+use Rattle.desk_script.proofs.Progress.{IsFrontAt-piece, IsFrontAt-then, piece_cut, piece_line}
 use Rattle.desk_script.proofs.Progress.{front_line}
 use Rattle.desk_script.proofs.Chains.{stop_then}
 use Rattle.desk_script.proofs.Results.{handed_on}
@@ -74,20 +74,9 @@ loop-text-preserved g c =
 pub returns-in_err-extend-clause-err : goal.returns-in_err-extend-clause-err
 returns-in_err-extend-clause-err g c = λ number came more shows no_lf.
     let at = c.loop-text.invariant in
-    handed_on
-    (λ fault. IsFrontAt g.D.Desk.are_right g.D.Desk.tells g.D.Desk.stands g.D.Desk.seen number fault
-    (came ++ (c.args.piece.now ++ more)) c.args.desk.now c.loop-text.desk
-    (g.W.Write.contents c.args.writer.now) (g.W.Write.contents c.loop-text.writer))
-    c.from_residual.result Memory c.from_residual.ensures.1
-    (subst (λ (bs : List ℕ). IsFrontAt g.D.Desk.are_right g.D.Desk.tells g.D.Desk.stands
-    g.D.Desk.seen number Memory bs c.args.desk.now c.loop-text.desk
-    (g.W.Write.contents c.args.writer.now) (g.W.Write.contents c.loop-text.writer))
-    (piece_rest came at.taken c.loop-text.rest.now c.args.piece.now more at.cut)
-    (IsFrontAt-of g.D.Desk.are_right g.D.Desk.tells g.D.Desk.stands g.D.Desk.seen number Memory
-    (came ++ at.taken) (c.loop-text.rest.now ++ more) c.args.desk.now c.loop-text.desk
-    (g.W.Write.contents c.args.writer.now)
-    (g.W.Write.contents c.loop-text.writer) c.args.end.now c.loop-text.end c.loop-text.line tt
-    (at.served number came shows no_lf)))
+    handed_on _ c.from_residual.result Memory c.from_residual.ensures.1
+    (IsFrontAt-piece _ _ _ _ number Memory came at.taken c.loop-text.rest.now c.args.piece.now more
+    _ _ _ _ _ _ _ at.cut tt (at.served number came shows no_lf))
 
 pub returns-in_err-end_line-clause-err : goal.returns-in_err-end_line-clause-err
 returns-in_err-end_line-clause-err g c = λ number came more shows no_lf.
@@ -122,20 +111,10 @@ returns-in_err-end_line-clause-err g c = λ number came more shows no_lf.
 pub returns-in_err-extend-2-clause-err : goal.returns-in_err-extend-2-clause-err
 returns-in_err-extend-2-clause-err g c = λ number came more shows no_lf.
     let at = c.loop-text.invariant in
-    handed_on
-    (λ fault. IsFrontAt g.D.Desk.are_right g.D.Desk.tells g.D.Desk.stands g.D.Desk.seen number fault
-    (came ++ (c.args.piece.now ++ more)) c.args.desk.now c.loop-text.desk
-    (g.W.Write.contents c.args.writer.now) (g.W.Write.contents c.loop-text.writer))
-    c.from_residual-in_err-extend-2.result Memory c.from_residual-in_err-extend-2.ensures.1
-    (subst (λ (bs : List ℕ). IsFrontAt g.D.Desk.are_right g.D.Desk.tells g.D.Desk.stands
-    g.D.Desk.seen number Memory bs c.args.desk.now c.loop-text.desk
-    (g.W.Write.contents c.args.writer.now) (g.W.Write.contents c.loop-text.writer))
-    (piece_rest came at.taken c.loop-text.rest.now c.args.piece.now more at.cut)
-    (IsFrontAt-of g.D.Desk.are_right g.D.Desk.tells g.D.Desk.stands g.D.Desk.seen number Memory
-    (came ++ at.taken) (c.loop-text.rest.now ++ more) c.args.desk.now c.loop-text.desk
-    (g.W.Write.contents c.args.writer.now)
-    (g.W.Write.contents c.loop-text.writer) c.args.end.now c.loop-text.end c.loop-text.line tt
-    (at.served number came shows no_lf)))
+    handed_on _ c.from_residual-in_err-extend-2.result Memory
+    c.from_residual-in_err-extend-2.ensures.1
+    (IsFrontAt-piece _ _ _ _ number Memory came at.taken c.loop-text.rest.now c.args.piece.now more
+    _ _ _ _ _ _ _ at.cut tt (at.served number came shows no_lf))
 
 pub returns-clause-ok : goal.returns-clause-ok
 returns-clause-ok g c = λ number came shows no_lf.

@@ -37,10 +37,7 @@ returns-in_default-clause-fault g c =
       tt,
       Consumes-kept (g.R.Read.remaining c.args.reader.now) (g.R.Read.remaining c.loop-turn.reader)
           (g.R.Read.remaining c.read.new.self) at.front at.read c.in_default.ensures.bytes,
-      IsCutOff-of g.D.Desk.are_right g.D.Desk.tells g.D.Desk.stands g.D.Desk.seen at.front
-          c.args.desk.now c.loop-turn.desk
-          (g.W.Write.contents c.args.writer.now) (g.W.Write.contents c.loop-turn.writer)
-          (record { refused = 0; failed = 0 }) c.loop-turn.end c.loop-turn.line at.served,
+      IsCutOff-of _ _ _ _ at.front _ _ _ _ _ _ _ at.served,
     )
 
 pub returns-clause-fault : goal.returns-clause-fault
@@ -50,10 +47,7 @@ returns-clause-fault g c =
       at.front,
       omega (arith, at.turns, c.loop-turn-test.false),
       at.read,
-      IsCutOff-of g.D.Desk.are_right g.D.Desk.tells g.D.Desk.stands g.D.Desk.seen at.front
-          c.args.desk.now c.loop-turn.desk
-          (g.W.Write.contents c.args.writer.now) (g.W.Write.contents c.loop-turn.writer)
-          (record { refused = 0; failed = 0 }) c.loop-turn.end c.loop-turn.line at.served,
+      IsCutOff-of _ _ _ _ at.front _ _ _ _ _ _ _ at.served,
     )
 
 pub returns-in_default-clause-err : goal.returns-in_default-clause-err
@@ -63,13 +57,8 @@ returns-in_default-clause-err g c =
     (g.R.Read.remaining c.loop-turn.reader) at.front at.read in (
       at.front ++ left.0,
       left.1,
-      IsFront-at g.D.Desk.are_right g.D.Desk.tells g.D.Desk.stands g.D.Desk.seen Read
-          (at.front ++ left.0) c.args.desk.now c.loop-turn.desk
-          (g.W.Write.contents c.args.writer.now) (g.W.Write.contents c.loop-turn.writer)
-          (IsFrontAt-of g.D.Desk.are_right g.D.Desk.tells g.D.Desk.stands g.D.Desk.seen 1 Read
-          at.front left.0 c.args.desk.now c.loop-turn.desk
-          (g.W.Write.contents c.args.writer.now) (g.W.Write.contents c.loop-turn.writer)
-          (record { refused = 0; failed = 0 }) c.loop-turn.end c.loop-turn.line tt at.served),
+      IsFront-at _ _ _ _ Read (at.front ++ left.0) _ _ _ _
+          (IsFrontAt-of _ _ _ _ 1 Read at.front left.0 _ _ _ _ _ _ _ tt at.served),
     )
 
 pub returns-clause-err : goal.returns-clause-err
@@ -79,13 +68,8 @@ returns-clause-err g c =
     (g.R.Read.remaining c.loop-turn.reader) at.front at.read in (
       at.front ++ left.0,
       left.1,
-      IsFront-at g.D.Desk.are_right g.D.Desk.tells g.D.Desk.stands g.D.Desk.seen Turns
-          (at.front ++ left.0) c.args.desk.now c.loop-turn.desk
-          (g.W.Write.contents c.args.writer.now) (g.W.Write.contents c.loop-turn.writer)
-          (IsFrontAt-of g.D.Desk.are_right g.D.Desk.tells g.D.Desk.stands g.D.Desk.seen 1 Turns
-          at.front left.0 c.args.desk.now c.loop-turn.desk
-          (g.W.Write.contents c.args.writer.now) (g.W.Write.contents c.loop-turn.writer)
-          (record { refused = 0; failed = 0 }) c.loop-turn.end c.loop-turn.line tt at.served),
+      IsFront-at _ _ _ _ Turns (at.front ++ left.0) _ _ _ _
+          (IsFrontAt-of _ _ _ _ 1 Turns at.front left.0 _ _ _ _ _ _ _ tt at.served),
     )
 
 pub returns-in_err-finish-clause-err : goal.returns-in_err-finish-clause-err
@@ -215,6 +199,11 @@ loop-turn-preserved g c =
 
 -- ---- the bytes that were taken
 
+none_taken : (n : ℕ) (buf front : List ℕ) → n ≡ 0 → length (front ++ take n buf) ≡ length front
+none_taken n buf front none =
+    length-append front (take n buf) ∙ ap (λ k. length front + length (take k buf)) none
+    ∙ (let zero : length front + 0 ≡ length front = omega arith in zero)
+
 pub returns-in_default-clause-taken : goal.returns-in_default-clause-taken
 returns-in_default-clause-taken g c =
     let at = c.loop-turn.invariant in (
@@ -232,26 +221,22 @@ pub returns-in_err-finish-clause-taken : goal.returns-in_err-finish-clause-taken
 returns-in_err-finish-clause-taken g c =
     let at = c.loop-turn.invariant in
     let got = take c.in-Ok.taken c.read.new.buf in
-    let none : got ≡ [] = ap (λ (n : ℕ). take n c.read.new.buf) c.if-taken-eq0.true in
-    let long : length (at.front ++ got) ≡ length at.front + length got =
-    length-append at.front got in (
+    let none = none_taken c.in-Ok.taken c.read.new.buf at.front c.if-taken-eq0.true in (
       at.front ++ got,
       Consumes-trans (g.R.Read.remaining c.args.reader.now) (g.R.Read.remaining c.loop-turn.reader)
           (g.R.Read.remaining c.read.new.self) at.front got at.read c.in-Ok.ensures.bytes.0,
-      omega (arith, at.few, long, ap length none),
+      omega (arith, at.few, none),
     )
 
 pub returns-then-taken-eq0-clause-taken : goal.returns-then-taken-eq0-clause-taken
 returns-then-taken-eq0-clause-taken g c =
     let at = c.loop-turn.invariant in
     let got = take c.in-Ok.taken c.read.new.buf in
-    let none : got ≡ [] = ap (λ (n : ℕ). take n c.read.new.buf) c.if-taken-eq0.true in
-    let long : length (at.front ++ got) ≡ length at.front + length got =
-    length-append at.front got in (
+    let none = none_taken c.in-Ok.taken c.read.new.buf at.front c.if-taken-eq0.true in (
       at.front ++ got,
       Consumes-trans (g.R.Read.remaining c.args.reader.now) (g.R.Read.remaining c.loop-turn.reader)
           (g.R.Read.remaining c.read.new.self) at.front got at.read c.in-Ok.ensures.bytes.0,
-      omega (arith, at.few, long, ap length none),
+      omega (arith, at.few, none),
     )
 
 pub returns-in_err-feed-clause-taken : goal.returns-in_err-feed-clause-taken
