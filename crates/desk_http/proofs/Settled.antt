@@ -1,6 +1,7 @@
 -- Bytes that are settled, and bytes that await more.
 use Rattle.std.proofs.Common.{◌≡◌, ℕ, ◌++◌, List, [], length, inl, inr, refl, sym, ap, ◌∙◌, subst}
-use Rattle.std.proofs.Common.{append-nil, append_assoc, arith}
+use Rattle.std.proofs.Common.{append-nil, append_assoc, arith, take}
+use Rattle.std.proofs.lemmas.List.{length-take}
 use Rattle.std.specs.Prelude.{◌≢◌, ◌<◌}
 use Rattle.httparse.specs.Grammar.{RequestHead}
 use Rattle.desk_http.specs.Heads.{HasNoHead, NeverHasHead, AreLineEnds}
@@ -119,3 +120,11 @@ IsPrompt-piece old mid new bytes piece awaited first second short x = record {
   few = IsAwaited-few bytes awaited x;
   short = short;
 }
+
+-- the front of a buffer is short
+pub IsPrompt-taken : (old mid new : Option (List ℕ)) (bytes : List ℕ) (n : ℕ) (buf : List ℕ)
+    (awaited : Awaited) → Consumes old mid bytes → Consumes mid new (take n buf)
+    → length buf ≤ piece_bytes → IsAwaited bytes awaited → IsPrompt old new
+IsPrompt-taken old mid new bytes n buf awaited first second few =
+    IsPrompt-piece old mid new bytes (take n buf) awaited first second
+    (omega (arith, length-take n buf, few))
