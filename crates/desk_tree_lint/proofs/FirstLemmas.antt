@@ -10,12 +10,11 @@ use Rattle.std.specs.Str.{bytes_eq}
 use Rattle.std.specs.Cmp.Lexicographic.{slice_cmp}
 use Rattle.std.proofs.lemmas.Bool.{cases_Bool, false≢true}
 use Rattle.std.proofs.lemmas.List.{append_assoc, append-nil, flat_map_more, get_or-map, length-map}
-use Rattle.std.proofs.lemmas.List.{map_more, map_push, map-set, take_more}
+use Rattle.std.proofs.lemmas.List.{map_more, map-set, take_more}
 use Rattle.std.proofs.lemmas.Cmp.{nat_list_eq_equiv}
 use Rattle.std.proofs.lemmas.Slice.Eq.{bytes_eq-Decides}
 use Rattle.std.proofs.lemmas.Map.Text.{is_eq-slice_cmp}
 use denote.Ref.{Bor}
-use Rattle.desk_base.specs.Borrowed.{texts}
 use Rattle.desk_tree_lint.specs.declared.naming.Asked.{Asked}
 use Rattle.desk_tree_lint.specs.declared.naming.Mention.{Mention}
 use Rattle.desk_tree_infos.specs.declared.infos.FileInfo.{FileInfo}
@@ -270,18 +269,6 @@ first_nowhere asked name none keys ms h among =
     let all = keys_held keys ms asked h in
     false≢true (sym (none (subst (IsStrictlySortedBy (slice_cmp nat_cmp)) (sym all) h.ordered))
     ∙ ap (λ ks. is_among ks name) all ∙ among)
-
--- one more of some mentions of a file
-pub shown_more : (before : List MentionText) (path : List ℕ) (ids : List (Bor (List ℕ))) (i : ℕ)
-    (d : Bor (List ℕ)) → i < length ids
-    → (before ++ map (mention path) (texts (take i ids))) ++ mention path (get_or ids i d).now ∷ []
-    ≡ before ++ map (mention path) (texts (take (i + 1) ids))
-shown_more before path ids i d within =
-    append_assoc before (map (mention path) (texts (take i ids)))
-    (mention path (get_or ids i d).now ∷ [])
-    ∙ ap (λ l. before ++ l) (sym (ap (map (mention path))
-    (map_more (λ (b : Bor (List ℕ)). b.now) ids i d within)
-    ∙ map_push (mention path) (texts (take i ids)) (get_or ids i d).now))
 
 -- the same mentions are kept
 pub holds_along : {T E : Type 0} (result : Result T E) (old new : List Asked)

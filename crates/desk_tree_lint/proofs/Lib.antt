@@ -5,4 +5,5 @@ pub mod OrderLemmas
 pub mod SetLemmas
 pub mod StemLemmas
 pub mod FirstLemmas
+mod RunLemmas
 mod PlusLemmas

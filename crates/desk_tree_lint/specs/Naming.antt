@@ -11,6 +11,10 @@ use Rattle.desk_tree_lint.specs.Texts.{key_of}
 
 -- ---- the identifiers in a licence
 
+-- a blank or a parenthesis
+abbrev pub is_separator : ℕ → Bool
+is_separator byte = byte == 32 || (byte == 9 || (byte == 40 || byte == 41))
+
 -- what is between the bytes of one value
 abbrev pub cut_at : ℕ → List (List ℕ) → List (List ℕ)
 cut_at byte texts = flat_map (slice_split (λ b. b == byte)) texts

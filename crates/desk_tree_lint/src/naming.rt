@@ -2,7 +2,7 @@
 
 ghost use Rattle.std.specs.Prelude.{◌≡◌, ◌++◌, ◌∷◌, [], ◌<◌, ◌==◌, ℕ, true, false, List, length, slice_index_or, IfOk, IfSome, IfNone, OnOk, map, option_map};
 ghost use Rattle.std.specs.Cmp.Lexicographic.{slice_cmp};
-ghost use Rattle.std.specs.List.{flat_map, slice_split};
+ghost use Rattle.std.specs.List.{flat_map, list_any, slice_split};
 ghost use Rattle.std.specs.List.Sorted.{IsStrictlySortedBy};
 ghost use Rattle.std.specs.Ordering.{nat_cmp};
 ghost use Rattle.desk_base.specs.Borrowed.{texts, texts_in};
@@ -11,7 +11,7 @@ ghost use Rattle.desk_model.specs.Texts.{sorted_set};
 ghost use Rattle.desk_tree_infos.specs.Firsts.{first_in, firsts_of};
 ghost use Rattle.desk_tree_infos.specs.declared.infos.FileInfo.{FileInfo};
 ghost use Rattle.desk_tree_infos.specs.declared.information.Subject.TheVariants.{Licences};
-ghost use Rattle.desk_tree_lint.specs.Naming.{cut_at, runs, is_operator, without_plus, ids_in, ids, mention, MentionText, mentions_by, first_with, name_by, name_of};
+ghost use Rattle.desk_tree_lint.specs.Naming.{is_separator, cut_at, runs, is_operator, without_plus, ids_in, mention, MentionText, mentions_by, first_with, name_by, name_of};
 ghost use Rattle.desk_tree_lint.specs.declared.naming.Asked.{Asked};
 ghost use Rattle.desk_tree_lint.specs.Firsts.{mention_in, asked_in, asked_of, keys_asked, Holds, first_mentions};
 
@@ -86,6 +86,15 @@ fn runs(alloc: Global, licence: &str) -> Result<Vec<&str>, AllocError>
     cut_at(alloc, behind_openings.as_slice(), ')')
 }
 
+// Whether a licence has a blank or a parenthesis.
+fn is_divided(licence: &[u8]) -> bool
+    ensures { result ≡ list_any is_separator licence.now }
+{
+    licence
+        .iter()
+        .any(|byte| matches!(byte, b' ' | b'\t' | b'(' | b')'))
+}
+
 fn is_operator(run: &str) -> bool
     ensures { result ≡ is_operator run.now }
 {
@@ -97,28 +106,6 @@ fn without_plus(run: &str) -> &str
     ensures { result.now ≡ without_plus run.now }
 {
     run.strip_suffix("+").unwrap_or(run)
-}
-
-// Adds the identifiers among runs.
-fn add_runs<'a>(found: &mut Vec<&'a str>, listed: &[&'a str]) -> Result<(), AllocError>
-    ensures { OnOk result (texts_in found.new ≡ texts_in found.old ++ ids_in (texts listed.now)) }
-{
-    for run in listed {
-        if !is_operator(run) {
-            found.push(without_plus(run))?;
-        }
-    }
-    Ok(())
-}
-
-// The identifiers in a licence.
-fn ids(alloc: Global, licence: &str) -> Result<Vec<&str>, AllocError>
-    ensures { IfOk result (λ v. texts_in v ≡ ids licence.now) }
-{
-    let runs = runs(alloc, licence)?;
-    let mut found = Vec::new(alloc);
-    add_runs(&mut found, runs.as_slice())?;
-    Ok(found)
 }
 
 // The keys with no mentions.
@@ -213,24 +200,41 @@ fn keep<'a>(
     Ok(())
 }
 
-// Keeps mentions after others, each if its key is asked for and no earlier one has it.
-fn keep_each<'a>(
+// Keeps the mention in a run of a licence after others, if the run is no operator.
+fn keep_run<'a>(
     alloc: Global,
     asked: &mut [Asked<'_, 'a>],
     near: &mut usize,
     path: &SharedPath,
-    ids: &[&'a str],
+    run: &'a str,
 ) -> Result<(), AllocError>
     ensures { OnOk result ((keys : List (List ℕ)) (ms : List MentionText) → Holds keys ms asked.old
-        → Holds keys (ms ++ map (mention path.now) (texts ids.now)) asked.new) }
+        → Holds keys (ms ++ map (mention path.now) (ids_in (run.now ∷ []))) asked.new) }
 {
-    for id in ids {
-        keep(alloc, asked, near, path, *id)?;
+    if is_operator(run) {
+        return Ok(());
+    }
+    keep(alloc, asked, near, path, without_plus(run))
+}
+
+// Keeps the mentions in runs after others.
+fn keep_runs<'a>(
+    alloc: Global,
+    asked: &mut [Asked<'_, 'a>],
+    near: &mut usize,
+    path: &SharedPath,
+    runs: &[&'a str],
+) -> Result<(), AllocError>
+    ensures { OnOk result ((keys : List (List ℕ)) (ms : List MentionText) → Holds keys ms asked.old
+        → Holds keys (ms ++ map (mention path.now) (ids_in (texts runs.now))) asked.new) }
+{
+    for run in runs {
+        keep_run(alloc, asked, near, path, *run)?;
     }
     Ok(())
 }
 
-// Keeps the mentions in a licence of a file after others.
+// Keeps the mentions in a licence of a file after others. Most licences are one run.
 fn keep_licence<'a>(
     alloc: Global,
     asked: &mut [Asked<'_, 'a>],
@@ -241,8 +245,11 @@ fn keep_licence<'a>(
     ensures { OnOk result ((keys : List (List ℕ)) (ms : List MentionText) → Holds keys ms asked.old
         → Holds keys (ms ++ mentions_by path.now licence.now) asked.new) }
 {
-    let ids = ids(alloc, licence)?;
-    keep_each(alloc, asked, near, path, ids.as_slice())
+    if is_divided(licence.as_bytes()) {
+        let runs = runs(alloc, licence)?;
+        return keep_runs(alloc, asked, near, path, runs.as_slice());
+    }
+    keep_run(alloc, asked, near, path, licence)
 }
 
 // Keeps the mentions in a file's licences after others.
