@@ -5,4 +5,5 @@ pub mod Numbers
 pub mod Texts
 pub mod Pieces
 pub mod Results
+pub mod SetLemmas
 pub mod SortedOnce

@@ -14,6 +14,7 @@ mod key;
 pub mod limits;
 mod lines;
 mod profile;
+mod sets;
 mod text;
 mod text_list;
 
@@ -24,5 +25,7 @@ pub use items::Items;
 pub use key::Key;
 pub use lines::{Line, LineEnd, Lines, first_line, one_cutting};
 pub use profile::Profile;
+pub use sets::text_set;
 pub use text::Text;
 pub use text_list::TextList;
+

@@ -14,10 +14,10 @@ use denote.Ref.{Bor}
 use Rattle.desk_base.specs.Folded.{folded}
 use Rattle.desk_catalogue.specs.declared.catalogue.LicenceText.{LicenceText}
 use Rattle.desk_catalogue.specs.Kept.{is_text_of}
-use Rattle.desk_catalogue.specs.Values.{is_among}
 use Rattle.desk_catalogue.specs.Shown.{HasIds}
 use Rattle.desk_catalogue.proofs.KeptLemmas.{flipped}
 use Rattle.desk_base.specs.Borrowed.{texts}
+use Rattle.desk_base.specs.TextSets.{is_among}
 
 -- a text is found in a set if it is among its texts
 pub has_text : (ks : List (Bor (List ℕ))) (q : List ℕ)

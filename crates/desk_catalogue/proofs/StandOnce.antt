@@ -4,13 +4,13 @@ use Rattle.std.proofs.Common.{Option, None, Some, Ok, Err, subst, refl}
 use Rattle.std.specs.Prelude.{codes}
 use Rattle.std.specs.List.{list_any, AllByRecursion, IsDistinct}
 use Rattle.std.specs.Str.{bytes_eq}
+use Rattle.desk_base.specs.TextSets.{is_among}
 use Rattle.toml.specs.Data.{Data, as_array, get_member}
 use Rattle.desk_model.specs.declared.refusal.CataloguePart.TheVariants as part
 use Rattle.desk_model.specs.declared.refusal.CatalogueFault.TheVariants.{Twice}
 use Rattle.desk_catalogue.specs.declared.catalogue.Catalogue.{Catalogue}
 use Rattle.desk_catalogue.specs.declared.catalogue.LicenceText.{LicenceText}
 use Rattle.desk_catalogue.specs.Kept.{is_text_of, same_licence}
-use Rattle.desk_catalogue.specs.Values.{is_among}
 use Rattle.desk_catalogue.specs.Reading.{each, tables_of, forms_of, forms_listed, forms_once}
 use Rattle.desk_catalogue.specs.Reading.{text_at, with_one_text, with_text, licence_texts_of}
 use Rattle.desk_catalogue.specs.Reading.{catalogue_of}

@@ -1,12 +1,12 @@
 -- What is found in a catalogue.
 use Rattle.std.specs.Prelude.{ℕ, List, [], Bool, Option, option_map, find}
+use Rattle.desk_base.specs.TextSets.{is_among}
 use Rattle.desk_expr.specs.declared.term.Term.{Term}
 use Rattle.desk_expr.specs.Printing.{printed_term}
 use Rattle.desk_model.specs.Keys.{is_rule}
 use Rattle.desk_model.specs.declared.reading.Rule.{Rule}
 use Rattle.desk_catalogue.specs.declared.catalogue.Catalogue.{Catalogue}
 use Rattle.desk_catalogue.specs.declared.catalogue.LicenceText.{LicenceText}
-use Rattle.desk_catalogue.specs.Values.{is_among}
 use Rattle.desk_catalogue.specs.Kept.{is_text_of}
 
 -- what a rule for a term in a form is compared with

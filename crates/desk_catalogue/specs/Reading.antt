@@ -19,10 +19,11 @@ use Rattle.desk_model.specs.declared.refusal.CatalogueFault.TheVariants.{TooLarg
 use Rattle.desk_catalogue.specs.declared.catalogue.Catalogue.{Catalogue}
 use Rattle.desk_catalogue.specs.declared.catalogue.LicenceText.{LicenceText}
 use Rattle.desk_base.specs.Limits as limit
-use Rattle.desk_catalogue.specs.Values.{id_of, title_of, texts_of, is_among, is_text_id}
+use Rattle.desk_catalogue.specs.Values.{id_of, title_of, texts_of, is_text_id}
 use Rattle.desk_catalogue.specs.Terms.{licence_of}
 use Rattle.desk_catalogue.specs.Kept.{stand_once, put_rule, has_rule, is_text_of}
 use Rattle.desk_base.specs.Results.{then_read}
+use Rattle.desk_base.specs.TextSets.{is_among}
 
 -- something, or its fault
 abbrev pub Read : Type 0 → Type 0

@@ -1,8 +1,7 @@
 -- What the values of a catalogue may be, as TOML gives them.
 use Rattle.std.specs.Prelude.{ℕ, ◌&&◌, not, nat_le, Bool, List, [], ◌∷◌, length, Option, Some, None}
 use Rattle.std.specs.Prelude.{option_map, option_and_then, if◌then◌else◌}
-use Rattle.std.specs.List.{list_all, list_any}
-use Rattle.std.specs.Str.{bytes_eq}
+use Rattle.std.specs.List.{list_all}
 use Rattle.toml.specs.Data.{Data, as_str, as_array, Items, no_items, item}
 use Rattle.desk_base.specs.Idstring.{is_idstring}
 use Rattle.desk_tokens.specs.Words.{begins_like_reference}
@@ -41,6 +40,3 @@ strings (item d ds) = option_and_then (λ text. option_map (λ more. text ∷ mo
 abbrev pub texts_of : Data → Option (List (List ℕ))
 texts_of d = option_and_then strings (as_array d)
 
--- a text is among these
-abbrev pub is_among : List (List ℕ) → List ℕ → Bool
-is_among texts text = list_any (λ t. bytes_eq t text) texts

@@ -9,7 +9,7 @@ ghost use Rattle.std.proofs.Common.{rules};
 ghost use Rattle.desk_model.specs.Texts.{sorted_set};
 ghost use Rattle.desk_catalogue.specs.Kept.{stand_once, put_rule, has_rule};
 ghost use Rattle.desk_catalogue.specs.Shown.{rules_in};
-ghost use Rattle.desk_catalogue.specs.Values.{is_among};
+ghost use Rattle.desk_base.specs.TextSets.{is_among};
 ghost use Rattle.desk_base.specs.Borrowed.{texts_in};
 
 use crate::ordered::OrderedRules;

@@ -16,7 +16,7 @@ use Rattle.desk_base.specs.Idstring.{is_idstring, is_idstring_byte}
 use Rattle.desk_base.specs.declared.profile.Profile.TheVariants.{Capitals}
 use Rattle.desk_expr.specs.declared.term.Term.{Term}
 use Rattle.desk_tokens.specs.declared.token.Kind.TheVariants.{Licence, LicenceOrLater, Reference}
-use Rattle.desk_tokens.specs.Words.{is_reference}
+use Rattle.desk_tokens.specs.Words.{is_reference, without_plus}
 use Rattle.desk_expr.specs.Words.{is_exception, is_folded_id, is_term}
 use Rattle.desk_expr.specs.Printing.{printed_exception, printed_term, printed_word}
 use Rattle.desk_catalogue.specs.Terms.{IsTermOf}
@@ -26,7 +26,7 @@ use Rattle.desk_tokens.specs.Tokens.{is_parenthesis, is_run_byte}
 use Rattle.desk_expr.proofs.WordKinds.{licence_kind, or_later_kind, plain_word, plus_front, reference_kind}
 use Rattle.desk_fields.specs.Text.{first_word, after_word, skip_blanks}
 use Rattle.desk_texts.specs.Terms.{adopted_as, behind_with, exception_in, is_licence, licence_id_in}
-use Rattle.desk_texts.specs.Terms.{reference_in, without_plus}
+use Rattle.desk_texts.specs.Terms.{reference_in}
 use Rattle.desk_history_laws.specs.Forms.{adopted_form, is_plain_licence, reference_of}
 
 -- ---- where the word of a printed term ends

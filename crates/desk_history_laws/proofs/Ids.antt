@@ -9,12 +9,13 @@ use Rattle.toml.specs.Data.{as_str, as_table, Data, get_member}
 use Rattle.desk_base.proofs.Bools.{and_left, and_right, both}
 use Rattle.desk_base.proofs.Texts.{texts_equal}
 use Rattle.desk_base.specs.Idstring.{is_idstring}
+use Rattle.desk_base.specs.TextSets.{is_among}
 use Rattle.desk_base.specs.Limits as limit
 use Rattle.desk_catalogue.proofs.OrderLaws.{each_holds, parts_read, same_read, then_by, unless}
 use Rattle.desk_catalogue.specs.Reading.{catalogue_of, duties_of, duty_at, duty_of_keys}
 use Rattle.desk_catalogue.specs.Reading.{duty_of_values, each}
 use Rattle.desk_catalogue.specs.Reading.{tables_of, with_code, with_duty}
-use Rattle.desk_catalogue.specs.Values.{id_of, if_passes, is_among, is_id, title_of}
+use Rattle.desk_catalogue.specs.Values.{id_of, if_passes, is_id, title_of}
 use Rattle.desk_catalogue.specs.declared.catalogue.Catalogue.{Catalogue as WholeCatalogue}
 use Rattle.desk_history_laws.specs.Ids.{ListsIds}
 use Rattle.desk_history_laws.proofs.Once.{of_whole}

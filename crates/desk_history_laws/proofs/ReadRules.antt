@@ -8,11 +8,11 @@ use Rattle.std.specs.Ordering.{match_ordering}
 use Rattle.std.specs.declared.cmp.Ordering.TheVariants.{Less, Equal, Greater}
 use Rattle.toml.specs.Data.{Data}
 use Rattle.desk_base.specs.Results.{then_read}
+use Rattle.desk_base.specs.TextSets.{is_among}
 use Rattle.desk_catalogue.proofs.OrderLaws.{rules_hold, same_read, then_by}
 use Rattle.desk_catalogue.specs.Kept.{put_rule, stand_once}
 use Rattle.desk_catalogue.specs.Reading.{rule_at, rule_of, rules_of, RuleTexts, rule_written}
 use Rattle.desk_catalogue.specs.Terms.{licence_of}
-use Rattle.desk_catalogue.specs.Values.{is_among}
 use Rattle.desk_model.specs.Keys.{rule_order}
 use Rattle.desk_model.specs.Lists.{IsIn}
 use Rattle.desk_model.specs.Texts.{sorted_set}

@@ -56,6 +56,24 @@ first_less Less p e = refl
 first_less Equal p e = cc
 first_less Greater p e = cc
 
+-- keys made of a text, a number and a text
+abbrev pub three_cmp : List ℕ × ℕ × List ℕ → List ℕ × ℕ × List ℕ → Ordering
+three_cmp = then_cmp (then_cmp (on (λ p. p.0) (slice_cmp nat_cmp)) (on (λ p. p.1) nat_cmp))
+    (on (λ p. p.2) (slice_cmp nat_cmp))
+
+pub three_total : IsTotalOrder three_cmp
+three_total =
+    then_total (then_total (on_total (λ p. p.0) nat_list_cmp_total)
+    (on_total (λ p. p.1) nat_cmp_total)) (on_total (λ p. p.2) nat_list_cmp_total)
+
+pub three_less : (a b c d : Ordering) → is_lt (ordering_then (ordering_then a b) c) ≡ true
+    → is_lt (ordering_then a (ordering_then b (ordering_then c d))) ≡ true
+three_less Less b c d e = refl
+three_less Equal Less c d e = refl
+three_less Equal Equal c d e = first_less c d e
+three_less Equal Greater c d e = cc
+three_less Greater b c d e = cc
+
 -- The rows with a key are those on neither side of it
 
 pub texts_meet : (a b : List ℕ) → bytes_eq a b ≡ is_eq (slice_cmp nat_cmp a b)
@@ -69,6 +87,15 @@ pub then_meets : (o p : Ordering) (a b : Bool) → a ≡ is_eq o → b ≡ is_eq
 then_meets Less p a b e f = rw e refl
 then_meets Equal p a b e f = rw e f
 then_meets Greater p a b e f = rw e refl
+
+pub three_meet : (text other : List ℕ) (m n : ℕ) (last end : List ℕ)
+    → ((bytes_eq text other && (m == n)) && bytes_eq last end)
+    ≡ is_eq (three_cmp (text, m, last) (other, n, end))
+three_meet text other m n last end =
+    then_meets (ordering_then (slice_cmp nat_cmp text other) (nat_cmp m n))
+    (slice_cmp nat_cmp last end) (bytes_eq text other && (m == n)) (bytes_eq last end)
+    (then_meets (slice_cmp nat_cmp text other) (nat_cmp m n) (bytes_eq text other) (m == n)
+    (texts_meet text other) (numbers_meet m n)) (texts_meet last end)
 
 -- Rows with the same key are on no side of each other
 

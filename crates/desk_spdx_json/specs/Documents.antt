@@ -3,8 +3,8 @@
 -- belongs.
 use Rattle.std.specs.Prelude.{ℕ, Bool, ◌&&◌, List, [], ◌∷◌, ◌++◌, Option, Some, None}
 use Rattle.std.specs.Prelude.{option_and_then, is_some, false, codes, if◌then◌else◌}
-use Rattle.std.specs.List.{list_any}
 use Rattle.std.specs.Str.{bytes_eq}
+use Rattle.desk_base.specs.TextSets.{is_among}
 use Rattle.serde_json.specs.Data.{Data, Items, no_items, item}
 use Rattle.serde_json.specs.Find.{get, as_str, as_array}
 use Rattle.desk_spdx_json.specs.declared.parts.Part.{Part}
@@ -44,9 +44,6 @@ targets_in (item d ds) = target_of d ++ targets_in ds
 abbrev pub targets_of : Option Items → List (List ℕ)
 targets_of None = []
 targets_of (Some ds) = targets_in ds
-
-abbrev pub is_among : List (List ℕ) → List ℕ → Bool
-is_among ids id = list_any (λ x. bytes_eq x id) ids
 
 abbrev pub is_listed : List (List ℕ) → Option (List ℕ) → Bool
 is_listed ids None = false

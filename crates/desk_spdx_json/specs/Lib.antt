@@ -5,4 +5,3 @@ pub mod Values
 pub mod Parts
 pub mod Items
 pub mod Documents
-pub mod Sets

@@ -7,13 +7,14 @@ ghost use Rattle.desk_base.specs.Borrowed.{texts, texts_in};
 ghost use Rattle.desk_spdx_json.specs.Steps.{member_at};
 ghost use Rattle.desk_spdx_json.specs.Values.{if_array, items_steps};
 ghost use Rattle.desk_spdx_json.specs.Documents.{creation_steps, all_parts, is_describing, target_of, targets_in, targets, described_steps, steps_at, document_steps};
-ghost use Rattle.desk_spdx_json.specs.Sets.{IsSetOf};
+ghost use Rattle.desk_base.specs.TextSets.{IsSetOf};
 
 use crate::composed::word_in;
 use crate::members::{CREATION_MEMBERS, DOCUMENT_MEMBERS};
 use crate::parts::{Part, add_object, add_parts};
 use crate::steps::{Steps, What, item_at, member_at};
 use crate::ties::add_tie;
+use desk_base::text_set;
 use serde_json::Value;
 use std::alloc::{AllocError, Global};
 use std::collections::BTreeSet;
@@ -99,17 +100,6 @@ fn targets<'a>(alloc: Global, value: &'a Value) -> Result<Vec<&'a str>, AllocErr
     }
 }
 
-// The set of some texts.
-fn set_of<'a>(alloc: Global, listed: &[&'a str]) -> Result<BTreeSet<&'a str>, AllocError>
-    ensures { IfOk result (IsSetOf (texts listed.now)) }
-{
-    let mut set = BTreeSet::new(alloc);
-    for text in listed {
-        set.insert(*text)?;
-    }
-    Ok(set)
-}
-
 // Adds that the document describes an element, unless the set has that element.
 fn add_described(
     alloc: Global,
@@ -168,7 +158,7 @@ fn add_all_described(
         return steps.add(alloc, &place, What::BadType);
     };
     let listed = targets(alloc, value)?;
-    let listed = set_of(alloc, listed.as_slice())?;
+    let listed = text_set(alloc, listed.as_slice())?;
     add_described_items(alloc, steps, &place, &listed, list.as_slice())
 }
 

@@ -2,17 +2,14 @@
 use Rattle.std.proofs.Common.{◌≡◌, ℕ, suc, ◌+◌, ◌-◌, ◌<◌, true, false, List, [], ◌∷◌, ◌++◌, length}
 use Rattle.std.proofs.Common.{take, drop, get_or, Option, Some, None, sym, ap, subst, refl, ◌∙◌}
 use Rattle.std.proofs.Common.{eqb, arith}
-use Rattle.std.specs.Prelude.{codes, option_map, unwrap_or, IfNone, IfSome, MatchOption}
+use Rattle.std.specs.Prelude.{codes, option_map, IfNone, IfSome}
 use Rattle.std.specs.List.{starts_with}
-use Rattle.std.specs.Str.{IsCharBoundary}
-use Rattle.std.specs.Str.Pattern.{FindsTextSuffix, StripsSuffix}
-use Rattle.std.proofs.lemmas.Str.Pattern.{ends_text}
 use denote.Ref.{Bor}
 use Rattle.std.proofs.Math.Seq.{take-suc, drop-cons}
 use Rattle.std.proofs.lemmas.List.{take-append-drop}
 use Rattle.desk_expr.specs.declared.term.Term.{Term}
 use Rattle.desk_expr.specs.Spelling.{SpellsTermWithin}
-use Rattle.desk_texts.specs.Terms.{AreTerms, SpellsNoTerm, without_plus, behind_with}
+use Rattle.desk_texts.specs.Terms.{AreTerms, SpellsNoTerm, behind_with}
 
 one_more : (texts : List (List ℕ)) (ts : List Term) (text : List ℕ) (t : Term) → AreTerms texts ts
     → SpellsTermWithin text t → AreTerms (texts ++ text ∷ []) (ts ++ t ∷ [])
@@ -54,21 +51,6 @@ bad_term texts i d within bad ts are =
     ∙ ap (λ (l : List (List ℕ)). take i texts ++ l) (drop-cons texts i d within) in
     bad_among (take i texts) (get_or texts i d) (drop (suc i) texts) ts bad
     (subst (λ (xs : List (List ℕ)). AreTerms xs ts) parts are)
-
--- a word whose last plus was cut off
-pub plus_off : (word : Bor (List ℕ)) (r : Option (Bor (List ℕ)))
-    → MatchOption r (FindsTextSuffix (codes "+") word.now None)
-    (λ x. StripsSuffix (FindsTextSuffix (codes "+")) word.now x.now)
-    → (unwrap_or r word).now ≡ without_plus word.now
-plus_off word None h = rw (sym (ends_text false (codes "+") word.now h)) refl
-plus_off word (Some x) (n, (one, ends, cut), is, counts) =
-    let plus = ends_text true (codes "+") word.now (
-      n,
-      (one, ends, cut),
-      omega (arith, counts),
-      subst (λ k. IsCharBoundary word.now (length word.now - k)) (sym one) cut,
-    ) in
-    rw (sym plus) (is ∙ ap (λ k. take (length word.now - k) word.now) one)
 
 -- what follows WITH, which was cut off at the start
 pub with_off : (rest : List ℕ) (r : Option (Bor (List ℕ)))

@@ -1,10 +1,10 @@
 -- Terms as texts (SPDX 2.3, Annex D.2 to D.4).
 use Rattle.std.specs.Prelude.{ℕ, ◌&&◌, not, Bool, List, [], ◌∷◌, ◌++◌, drop, codes, nat_eq, Option}
 use Rattle.std.specs.Prelude.{Some, None, if◌then◌else◌}
-use Rattle.std.specs.List.{starts_with, ends_with}
+use Rattle.std.specs.List.{starts_with}
 use Rattle.desk_base.specs.Idstring.{is_idstring}
 use Rattle.desk_expr.specs.declared.term.Term.{Term}
-use Rattle.desk_tokens.specs.Words.{is_reference, without_last}
+use Rattle.desk_tokens.specs.Words.{is_reference, without_plus}
 use Rattle.desk_expr.specs.Spelling.{SpellsTermWithin}
 use Rattle.desk_fields.specs.Text.{first_word, after_word}
 
@@ -41,10 +41,6 @@ is_licence term = is_idstring term && not (is_reference term)
 -- if it has one
 abbrev pub adopted_as : List ℕ → List ℕ → List ℕ
 adopted_as licence term = licence ++ after_word term
-
--- a word without a plus at its end
-abbrev pub without_plus : List ℕ → List ℕ
-without_plus word = if ends_with nat_eq word (codes "+") then without_last word else word
 
 -- the id of the licence that a printed term names: its first word, without the plus that may follow
 -- an id (Annex D.3)

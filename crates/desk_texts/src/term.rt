@@ -3,13 +3,13 @@
 ghost use Rattle.std.specs.Prelude.{◌≡◌, IfOk};
 ghost use Rattle.std.specs.Option.{option_map};
 ghost use Rattle.desk_catalogue.specs.Terms.{IsTermOf};
-ghost use Rattle.desk_texts.specs.Terms.{IsTerm, reference_in, is_licence, adopted_as, without_plus, licence_id_in, exception_in};
+ghost use Rattle.desk_texts.specs.Terms.{IsTerm, reference_in, is_licence, adopted_as, licence_id_in, exception_in};
 
 use desk_base::{Text, is_idstring_of_bytes};
 use desk_expr::{Term, parse_term, print_term, told};
 use desk_fields::split_word;
 use desk_tagvalue::behind;
-use desk_tokens::is_reference;
+use desk_tokens::{is_reference, without_plus};
 use std::alloc::{AllocError, Global};
 
 /// The term that a text spells.
@@ -75,13 +75,6 @@ pub(crate) fn adopted_as(alloc: Global, licence: &str, term: &str) -> Result<Tex
     let mut adopted = String::from_str(alloc, licence)?;
     adopted.push_str(exception)?;
     Text::of(alloc, adopted.as_str())
-}
-
-/// A word without a plus at its end.
-fn without_plus(word: &str) -> &str
-    ensures { result.now ≡ without_plus word.now }
-{
-    word.strip_suffix("+").unwrap_or(word)
 }
 
 /// The id of the licence that a printed term names, without its plus and exception.

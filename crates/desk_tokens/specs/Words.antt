@@ -33,6 +33,10 @@ begins_like_reference w = starts_with nat_eq w (codes "LicenseRef-")
 abbrev pub without_last : List ℕ → List ℕ
 without_last w = take (length w - 1) w
 
+-- a word without a plus at its end
+abbrev pub without_plus : List ℕ → List ℕ
+without_plus w = if ends_with nat_eq w (codes "+") then without_last w else w
+
 -- a licence id directly followed by a plus
 abbrev pub is_licence_or_later : List ℕ → Bool
 is_licence_or_later w = ends_with nat_eq w (codes "+") && is_idstring (without_last w)

@@ -8,6 +8,8 @@
 
 mod cut;
 mod token;
+mod word;
 
 pub use cut::{TokenCuts, is_reference};
 pub use token::{Kind, Token, tokens, tokens_in};
+pub use word::without_plus;

@@ -4,7 +4,8 @@ ghost use Rattle.std.specs.Prelude.{◌≡◌, ◌⊎◌, ℕ, List, IfOk, IfErr
 ghost use Rattle.desk_bom.specs.Codes.{IsCode};
 ghost use Rattle.desk_tree_infos.specs.Readers.{Reader, IsRightReader};
 ghost use Rattle.desk_tree_document.specs.Drafts.{draft_with, draft_of};
-ghost use Rattle.desk_tree_document.specs.Shown.{Gives, named};
+ghost use Rattle.desk_tree_gather.specs.Shown.{Gives};
+ghost use Rattle.desk_tree_document.specs.Shown.{named};
 ghost use Rattle.desk_tree_document.specs.Texts.{copyright_of, expression_read};
 ghost use Rattle.desk_tree_document.specs.Drafts.{package_licences, package_notices};
 

@@ -6,7 +6,7 @@ ghost use Rattle.desk_tree_infos.specs.Readers.{Reader, IsRightReader};
 ghost use Rattle.desk_tree_infos.specs.Sharing.{outline_in};
 ghost use Rattle.desk_tree_document.specs.Drafts.{package_licences, package_notices};
 ghost use Rattle.desk_tree_document.specs.Told.{file_told, files_told};
-ghost use Rattle.desk_tree_document.specs.Shown.{Gives};
+ghost use Rattle.desk_tree_gather.specs.Shown.{Gives};
 
 use crate::texts::{copyright_of, expression_read};
 use desk_base::Items;

@@ -5,7 +5,7 @@ ghost use Rattle.std.specs.List.{list_any};
 ghost use Rattle.std.specs.String.{string_bytes};
 ghost use Rattle.desk_tree_annotations.specs.Right.{Reading, IsRight};
 ghost use Rattle.desk_tree_document.specs.Texts.{holds_close, others_joined, expression_of, expression_read, others_below, copyright_of};
-ghost use Rattle.desk_tree_document.specs.Shown.{Gives};
+ghost use Rattle.desk_tree_gather.specs.Shown.{Gives};
 
 use desk_base::Text;
 use desk_tree_annotations::{SharedText, is_expression};

@@ -4,13 +4,11 @@ use Rattle.std.proofs.Common.{length, get_or, take, drop, map, sym, ap, refl, fi
 use Rattle.std.specs.Prelude.{◌||◌, ◌&&◌, not}
 use Rattle.std.specs.Str.{bytes_eq}
 use Rattle.std.specs.List.{flat_map}
-use Rattle.std.specs.BTreeSet.{BTreeSet, UpdatesBy}
+use Rattle.std.specs.BTreeSet.{BTreeSet}
 use Rattle.std.proofs.lemmas.Bool.{false≢true}
 use Rattle.std.proofs.lemmas.List.{drop_more, flat_map_more, map_more, map-append, take_more}
-use Rattle.std.proofs.lemmas.Map.Text.{is_eq-slice_cmp}
+use Rattle.desk_base.specs.TextSets.{is_among, has_text}
 use denote.Ref.{Bor}
-use Rattle.desk_base.specs.Borrowed.{borrowed_cmp}
-use Rattle.desk_catalogue.specs.Values.{is_among}
 use Rattle.desk_model.specs.Texts.{sorted_set}
 use Rattle.desk_tree_annotations.specs.declared.annotation.Annotation.{Annotation}
 use Rattle.desk_tree_infos.specs.declared.firsts.First.{First}
@@ -19,7 +17,7 @@ use Rattle.desk_tree_infos.specs.declared.information.Sources.{Sources}
 use Rattle.desk_tree_infos.specs.declared.information.Subject.{Subject}
 use Rattle.desk_tree_infos.specs.declared.information.Subject.TheVariants.{Notices, Licences}
 use Rattle.desk_tree_infos.specs.declared.infos.Covered.{Covered}
-use Rattle.desk_tree_infos.specs.Firsts.{FirstTexts, AddsUnseen, has_text, firsts_behind}
+use Rattle.desk_tree_infos.specs.Firsts.{FirstTexts, AddsUnseen, firsts_behind}
 use Rattle.desk_tree_infos.specs.Firsts.{firsts_of, first_in, first_texts, texts_in}
 use Rattle.desk_tree_infos.specs.Sharing.{all_texts, sources_in, info_at, infos_at}
 use Rattle.desk_tree_infos.proofs.AmongLemmas.{or_false, among-append, among-set, among-filter}
@@ -30,13 +28,6 @@ use Rattle.desk_tree_infos.proofs.AmongLemmas.{among_same, set_filtered, set_onc
 either : (b c : Bool) → cond b true c ≡ (b || c)
 either true c = refl
 either false c = refl
-
-pub one_more : (v : Bor (List ℕ)) (old new : BTreeSet (Bor (List ℕ)))
-    → UpdatesBy borrowed_cmp (borrowed_cmp v) old new true → (q : List ℕ)
-    → has_text new q ≡ (bytes_eq v.now q || has_text old q)
-one_more v old new h q =
-    h.0 (record v { now = q }) ∙ ap (λ b. cond b true (has_text old q)) (is_eq-slice_cmp v.now q)
-    ∙ either (bytes_eq v.now q) (has_text old q)
 
 -- ---- tests: a text is the next one, it is among those so far, it was in the set, it was listed
 

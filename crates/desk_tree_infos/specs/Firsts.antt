@@ -1,11 +1,10 @@
 -- Each text at the first file that has it.
-use Rattle.std.specs.Prelude.{◌≡◌, ℕ, ◌&&◌, ◌||◌, not, Bool, true, List, [], ◌∷◌, ◌++◌, filter}
+use Rattle.std.specs.Prelude.{◌≡◌, ℕ, ◌&&◌, ◌||◌, not, true, List, [], ◌∷◌, ◌++◌, filter}
 use Rattle.std.specs.List.{flat_map}
-use Rattle.std.specs.BTreeSet.{BTreeSet, contains, contains_by}
-use Rattle.std.specs.Cmp.Lexicographic.{slice_cmp}
+use Rattle.std.specs.BTreeSet.{BTreeSet, contains}
 use Rattle.std.specs.Ordering.{nat_cmp}
+use Rattle.desk_base.specs.TextSets.{is_among, has_text}
 use denote.Ref.{Bor}
-use Rattle.desk_catalogue.specs.Values.{is_among}
 use Rattle.desk_tree_annotations.specs.declared.annotation.Annotation.{Annotation}
 use Rattle.desk_tree_infos.specs.declared.firsts.First.{First}
 use Rattle.desk_tree_infos.specs.declared.firsts.Seen.{Seen}
@@ -41,10 +40,6 @@ abbrev pub first_in : First → FirstTexts
 first_in f = record { path = f.path.now; texts = f.texts }
 
 -- ---- what was seen
-
--- whether a text is in a set
-abbrev pub has_text : BTreeSet (Bor (List ℕ)) → List ℕ → Bool
-has_text set text = contains_by (λ (k : Bor (List ℕ)). slice_cmp nat_cmp text k.now) set
 
 -- texts are added to a set, and those that it didn't have to a list
 pub record AddsUnseen (texts : List (List ℕ)) (old new : BTreeSet (Bor (List ℕ)))

@@ -1,9 +1,9 @@
 //! Each text at the first file that has it.
 
 ghost use Rattle.std.specs.Prelude.{◌≡◌, ◌∷◌, [], ◌||◌, not, List, ℕ, IfOk, OnOk, filter, map};
-ghost use Rattle.desk_catalogue.specs.Values.{is_among};
+ghost use Rattle.desk_base.specs.TextSets.{is_among, has_text};
 ghost use Rattle.desk_model.specs.Texts.{sorted_set};
-ghost use Rattle.desk_tree_infos.specs.Firsts.{AddsUnseen, Knows, has_text, first_in, firsts_of};
+ghost use Rattle.desk_tree_infos.specs.Firsts.{AddsUnseen, Knows, first_in, firsts_of};
 ghost use Rattle.desk_tree_infos.specs.Sharing.{texts_at, all_texts, infos_at};
 
 use crate::information::{Sources, Subject, texts_at};

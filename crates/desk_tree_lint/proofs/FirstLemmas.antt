@@ -14,11 +14,11 @@ use Rattle.std.proofs.lemmas.List.{map_more, map-set, take_more}
 use Rattle.std.proofs.lemmas.Cmp.{nat_list_eq_equiv}
 use Rattle.std.proofs.lemmas.Slice.Eq.{bytes_eq-Decides}
 use Rattle.std.proofs.lemmas.Map.Text.{is_eq-slice_cmp}
+use Rattle.desk_base.specs.TextSets.{is_among}
 use denote.Ref.{Bor}
 use Rattle.desk_tree_lint.specs.declared.naming.Asked.{Asked}
 use Rattle.desk_tree_lint.specs.declared.naming.Mention.{Mention}
 use Rattle.desk_tree_infos.specs.declared.infos.FileInfo.{FileInfo}
-use Rattle.desk_catalogue.specs.Values.{is_among}
 use Rattle.desk_tree_infos.specs.declared.firsts.First.{First}
 use Rattle.desk_tree_infos.specs.declared.information.Subject.TheVariants.{Licences}
 use Rattle.desk_tree_infos.specs.Firsts.{first_in, firsts_behind, firsts_of}

@@ -2,8 +2,6 @@ pub mod UsedLemmas
 pub mod ListLemmas
 pub mod NameLemmas
 pub mod OrderLemmas
-pub mod SetLemmas
 pub mod StemLemmas
 pub mod FirstLemmas
 mod RunLemmas
-mod PlusLemmas

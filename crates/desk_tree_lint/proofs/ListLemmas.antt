@@ -5,7 +5,7 @@ use Rattle.std.specs.Prelude.{filter, ◌||◌}
 use Rattle.std.proofs.lemmas.List.{drop_more}
 use denote.Ref.{Bor}
 use Rattle.desk_base.specs.Borrowed.{texts}
-use Rattle.desk_catalogue.specs.Values.{is_among}
+use Rattle.desk_base.specs.TextSets.{is_among}
 use Rattle.desk_tree_lint.specs.declared.texts.LicenceText.{LicenceText}
 use Rattle.desk_tree_lint.specs.Texts.{TextFile}
 use Rattle.desk_tree_infos.specs.declared.infos.FileInfo.{FileInfo}

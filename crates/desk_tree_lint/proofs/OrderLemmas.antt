@@ -18,7 +18,7 @@ use Rattle.std.proofs.lemmas.Map.Text.{is_eq-slice_cmp}
 use Rattle.std.proofs.str.Laws.{order}
 use denote.Ref.{Bor}
 use Rattle.desk_base.specs.Borrowed.{texts}
-use Rattle.desk_catalogue.specs.Values.{is_among}
+use Rattle.desk_base.specs.TextSets.{is_among}
 
 pub or_true : (b : Bool) → (b || true) ≡ true
 or_true true = refl

@@ -10,7 +10,8 @@ use denote.Ref.{Bor}
 use Rattle.desk_base.proofs.Bools.{or_left, or_right}
 use Rattle.desk_base.specs.Borrowed.{texts}
 use Rattle.desk_tree_lint.specs.Naming.{MentionText, cut_at, ids_in, is_operator, is_separator}
-use Rattle.desk_tree_lint.specs.Naming.{mention, runs, without_plus}
+use Rattle.desk_tokens.specs.Words.{without_plus}
+use Rattle.desk_tree_lint.specs.Naming.{mention, runs}
 
 -- ---- a licence that is not divided
 

@@ -20,13 +20,13 @@ use Rattle.desk_tree_lint.specs.declared.lists.Lint.{Lint}
 use Rattle.desk_tree_lint.specs.Texts.{text_files}
 use Rattle.desk_tree_lint.specs.Lists.{lists_of, IsLint}
 use Rattle.desk_tree_lint.specs.Used.{term_keys, keys_in, Uses, IsUsed, IsUsedIn, IsFirstUsed, SomeOf, AreUsed}
-use Rattle.desk_catalogue.specs.Values.{is_among}
 use Rattle.desk_tree_infos.specs.declared.information.Subject.TheVariants.{Licences}
 use Rattle.desk_tree_infos.specs.Firsts.{firsts_behind, firsts_of}
 use Rattle.std.specs.Str.{bytes_eq}
 use Rattle.std.proofs.lemmas.Slice.Eq.{bytes_eq-Decides}
 use Rattle.desk_base.proofs.SortedOnce.{same_sorted}
 use Rattle.desk_base.specs.contracts.key.KeyOrd.TheImpl.Laws.{total-law}
+use Rattle.desk_base.specs.TextSets.{is_among}
 use Rattle.std.specs.Ordering.{nat_cmp}
 use Rattle.std.specs.Cmp.Lexicographic.{slice_cmp}
 

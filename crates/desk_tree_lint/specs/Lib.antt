@@ -3,6 +3,5 @@ pub mod Used
 pub mod Naming
 pub mod Names
 pub mod Firsts
-pub mod Sets
 pub mod Lists
 pub mod Shown

@@ -1,10 +1,10 @@
 -- How a licence is written where it is first named, and the file that names it (SPDX 2.3, Annex D).
 -- 9, 32, 40 and 41 are the tab, the space and the parentheses.
-use Rattle.std.specs.Prelude.{ℕ, ◌==◌, ◌||◌, not, nat_eq, Bool, List, [], ◌∷◌, map, filter, codes}
+use Rattle.std.specs.Prelude.{ℕ, ◌==◌, ◌||◌, not, Bool, List, [], ◌∷◌, map, filter, codes}
 use Rattle.std.specs.Prelude.{Option, Some, None, if◌then◌else◌}
-use Rattle.std.specs.List.{flat_map, slice_split, ends_with}
+use Rattle.std.specs.List.{flat_map, slice_split}
 use Rattle.std.specs.Str.{bytes_eq}
-use Rattle.desk_tokens.specs.Words.{without_last}
+use Rattle.desk_tokens.specs.Words.{without_plus}
 use Rattle.desk_tree_infos.specs.declared.infos.FileInfo.{FileInfo}
 use Rattle.desk_tree_lint.specs.declared.naming.Name.{Name}
 use Rattle.desk_tree_lint.specs.Texts.{key_of}
@@ -27,10 +27,7 @@ abbrev pub is_operator : List ℕ → Bool
 is_operator run = bytes_eq run (codes "AND")
     || (bytes_eq run (codes "OR") || bytes_eq run (codes "WITH"))
 
--- the identifier of a licence, a reference or an exception, before a plus
-abbrev pub without_plus : List ℕ → List ℕ
-without_plus run = if ends_with nat_eq run (codes "+") then without_last run else run
-
+-- the identifiers of licences, references and exceptions, without a plus behind them
 abbrev pub ids_in : List (List ℕ) → List (List ℕ)
 ids_in listed = map without_plus (filter (λ run. not (is_operator run)) listed)
 

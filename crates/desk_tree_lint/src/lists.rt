@@ -4,16 +4,15 @@ ghost use Rattle.std.specs.Prelude.{◌≡◌, ◌++◌, ◌||◌, IfOk, OnOk, m
 ghost use Rattle.std.specs.Cmp.Lexicographic.{slice_cmp};
 ghost use Rattle.std.specs.List.Sorted.{IsStrictlySortedBy};
 ghost use Rattle.std.specs.Ordering.{nat_cmp};
-ghost use Rattle.desk_catalogue.specs.Values.{is_among};
+ghost use Rattle.desk_base.specs.TextSets.{is_among, IsSetOf};
 ghost use Rattle.desk_tree_infos.specs.Sharing.{outline_in};
-ghost use Rattle.desk_tree_lint.specs.Sets.{IsSetOf};
 ghost use Rattle.desk_tree_lint.specs.Texts.{TextFile};
 ghost use Rattle.desk_tree_lint.specs.Lists.{missing, unused, bare, bare_in};
 ghost use Rattle.desk_tree_lint.specs.Shown.{bytes_in, only, texts_in};
 ghost use Rattle.desk_base.specs.Borrowed.{texts};
 
 use crate::texts::LicenceText;
-use desk_base::{Items, Text, TextList};
+use desk_base::{Items, Text, TextList, text_set};
 use desk_tree_gather::{Infos, Outline};
 use std::alloc::{AllocError, Global};
 use std::collections::BTreeSet;
@@ -28,17 +27,6 @@ pub struct Lint {
     pub unused: Items<Text>,
     /// Paths of covered files without a copyright notice or without a licence, in byte order.
     pub bare: Items<Text>,
-}
-
-// The set of some texts.
-fn set_of<'a>(alloc: Global, listed: &[&'a str]) -> Result<BTreeSet<&'a str>, AllocError>
-    ensures { IfOk result (IsSetOf (texts listed.now)) }
-{
-    let mut set = BTreeSet::new(alloc);
-    for text in listed {
-        set.insert(*text)?;
-    }
-    Ok(set)
 }
 
 // The keys of texts.
@@ -60,7 +48,7 @@ fn known_by<'a>(
     ensures { IfOk result (IsSetOf (map (λ (t : TextFile). t.key) (texts_in listed.now))) }
 {
     let keys = keys_of(alloc, listed)?;
-    set_of(alloc, keys.as_slice())
+    text_set(alloc, keys.as_slice())
 }
 
 // Whether a key is among others, which are in order.

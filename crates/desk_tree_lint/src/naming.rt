@@ -6,12 +6,12 @@ ghost use Rattle.std.specs.List.{flat_map, list_any, slice_split};
 ghost use Rattle.std.specs.List.Sorted.{IsStrictlySortedBy};
 ghost use Rattle.std.specs.Ordering.{nat_cmp};
 ghost use Rattle.desk_base.specs.Borrowed.{texts, texts_in};
-ghost use Rattle.desk_catalogue.specs.Values.{is_among};
+ghost use Rattle.desk_base.specs.TextSets.{is_among};
 ghost use Rattle.desk_model.specs.Texts.{sorted_set};
 ghost use Rattle.desk_tree_infos.specs.Firsts.{first_in, firsts_of};
 ghost use Rattle.desk_tree_infos.specs.declared.infos.FileInfo.{FileInfo};
 ghost use Rattle.desk_tree_infos.specs.declared.information.Subject.TheVariants.{Licences};
-ghost use Rattle.desk_tree_lint.specs.Naming.{is_separator, cut_at, runs, is_operator, without_plus, ids_in, mention, MentionText, mentions_by, first_with, name_by, name_of};
+ghost use Rattle.desk_tree_lint.specs.Naming.{is_separator, cut_at, runs, is_operator, ids_in, mention, MentionText, mentions_by, first_with, name_by, name_of};
 ghost use Rattle.desk_tree_lint.specs.declared.naming.Asked.{Asked};
 ghost use Rattle.desk_tree_lint.specs.Firsts.{mention_in, asked_in, asked_of, keys_asked, Holds, first_mentions};
 
@@ -20,6 +20,7 @@ use crate::ordering::{are_in_order, ordered};
 use crate::path::SharedPath;
 use crate::texts::key_of;
 use desk_base::{Text, TextList};
+use desk_tokens::without_plus;
 use desk_tree_annotations::SharedText;
 use desk_tree_gather::First;
 use std::alloc::{AllocError, Global};
@@ -99,13 +100,6 @@ fn is_operator(run: &str) -> bool
     ensures { result ≡ is_operator run.now }
 {
     run == "AND" || run == "OR" || run == "WITH"
-}
-
-// The identifier without a plus at its end.
-fn without_plus(run: &str) -> &str
-    ensures { result.now ≡ without_plus run.now }
-{
-    run.strip_suffix("+").unwrap_or(run)
 }
 
 // The keys with no mentions.

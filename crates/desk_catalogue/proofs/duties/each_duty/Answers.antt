@@ -4,7 +4,6 @@ use Rattle.toml.specs.View.{view}
 use Rattle.desk_model.specs.Texts.{put_new}
 use Rattle.desk_model.specs.declared.refusal.CatalogueFault.TheVariants.{Twice}
 use Rattle.desk_model.specs.declared.refusal.CataloguePart.TheVariants as part
-use Rattle.desk_catalogue.specs.Values.{is_among}
 use Rattle.desk_catalogue.specs.Reading.{duty_at}
 use Rattle.desk_catalogue.specs.Shown.{Gives}
 use Rattle.desk_catalogue.proofs.EntryLemmas.{step_twice, step_added}
@@ -12,6 +11,7 @@ use Rattle.desk_model.proofs.TextSets.{texts-insert_key}
 use Rattle.desk_catalogue.proofs.SetLemmas.{has_text}
 use Rattle.desk_catalogue.proofs.duties.each_duty.Goals as goal
 use Rattle.desk_base.specs.Borrowed.{texts}
+use Rattle.desk_base.specs.TextSets.{is_among}
 
 pub returns-then-not-branch : goal.returns-then-not-branch
 returns-then-not-branch c =

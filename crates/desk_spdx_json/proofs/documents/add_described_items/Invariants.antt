@@ -1,6 +1,6 @@
 use Rattle.std.proofs.Common.{◌≡◌, ◌++◌, drop, List, ℕ}
+use Rattle.desk_base.specs.TextSets.{IsSetOf}
 use Rattle.serde_json.specs.View.{items_view}
-use Rattle.desk_spdx_json.specs.Sets.{IsSetOf}
 use Rattle.desk_spdx_json.specs.Documents.{described_steps}
 use Rattle.desk_spdx_json.specs.Values.{items_steps}
 use Rattle.desk_spdx_json.proofs.documents.add_described_items.Given as goal

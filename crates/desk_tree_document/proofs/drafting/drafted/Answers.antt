@@ -4,7 +4,8 @@ use Rattle.desk_tree_gather.specs.Shown as gathering
 use Rattle.desk_tree_gather.specs.Telling.{told}
 use Rattle.desk_tree_gather.specs.Trees.{Read}
 use Rattle.desk_tagvalue.specs.declared.drafts.Draft.{Draft}
-use Rattle.desk_tree_document.specs.Shown.{Gives, named}
+use Rattle.desk_tree_gather.specs.Shown.{Gives}
+use Rattle.desk_tree_document.specs.Shown.{named}
 use Rattle.desk_tree_document.specs.Told.{files_told}
 use Rattle.desk_tree_document.proofs.ToldLemmas.{draft_found, draft_unjoined}
 use Rattle.desk_tree_document.proofs.drafting.drafted.Goals as goal

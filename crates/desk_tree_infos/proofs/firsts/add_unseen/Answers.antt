@@ -2,8 +2,10 @@ use Rattle.std.proofs.Common.{◌≡◌, ◌∙◌, true, false, ap, subst, ◌+
 use Rattle.std.specs.Prelude.{◌||◌}
 use Rattle.std.specs.Str.{bytes_eq}
 use Rattle.std.proofs.lemmas.List.{take_all}
-use Rattle.desk_tree_infos.specs.Firsts.{AddsUnseen, has_text}
-use Rattle.desk_tree_infos.proofs.FirstsLemmas.{adds_nothing, adds_known, adds_new, one_more, was_there, was_new}
+use Rattle.desk_base.specs.TextSets.{has_text}
+use Rattle.desk_base.proofs.SetLemmas.{one_more}
+use Rattle.desk_tree_infos.specs.Firsts.{AddsUnseen}
+use Rattle.desk_tree_infos.proofs.FirstsLemmas.{adds_nothing, adds_known, adds_new, was_there, was_new}
 use Rattle.desk_tree_infos.proofs.firsts.add_unseen.Goals as goal
 
 pub loop-text-init : goal.loop-text-init

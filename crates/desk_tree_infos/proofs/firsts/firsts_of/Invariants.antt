@@ -1,7 +1,7 @@
 use Rattle.std.proofs.Common.{◌≡◌, ◌++◌, ℕ, List, take, drop, map}
 use Rattle.std.specs.List.{flat_map}
-use Rattle.desk_catalogue.specs.Values.{is_among}
-use Rattle.desk_tree_infos.specs.Firsts.{Knows, has_text, first_in, firsts_behind, firsts_of, texts_in}
+use Rattle.desk_base.specs.TextSets.{is_among, has_text}
+use Rattle.desk_tree_infos.specs.Firsts.{Knows, first_in, firsts_behind, firsts_of, texts_in}
 use Rattle.desk_tree_infos.specs.Sharing.{infos_at}
 use Rattle.desk_tree_infos.proofs.firsts.firsts_of.Given as goal
 

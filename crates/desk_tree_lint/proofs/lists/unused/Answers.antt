@@ -1,6 +1,6 @@
 use Rattle.std.proofs.Common.{◌∙◌, ap, not, drop, ◌++◌, ◌+◌}
 use Rattle.desk_base.specs.Borrowed.{texts}
-use Rattle.desk_catalogue.specs.Values.{is_among}
+use Rattle.desk_base.specs.TextSets.{is_among}
 use Rattle.desk_tree_lint.specs.Lists.{unused}
 use Rattle.desk_tree_lint.specs.Shown.{text_in, texts_in}
 use Rattle.desk_tree_lint.proofs.ListLemmas.{unused_more}

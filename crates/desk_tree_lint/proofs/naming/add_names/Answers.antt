@@ -1,7 +1,7 @@
 use Rattle.std.proofs.Common.{◌∙◌, ◌++◌, ◌∷◌, [], ◌<◌, ℕ, List, ap}
 use Rattle.std.proofs.Common.{append_assoc, arith, get_or, length, map, sym, take}
 use Rattle.std.proofs.lemmas.List.{map_more}
-use Rattle.desk_catalogue.specs.Values.{is_among}
+use Rattle.desk_base.specs.TextSets.{is_among}
 use Rattle.desk_tree_lint.specs.Naming.{first_with, name_by}
 use Rattle.desk_tree_lint.specs.declared.naming.Name.{Name}
 use Rattle.desk_tree_lint.proofs.FirstLemmas.{here_among}

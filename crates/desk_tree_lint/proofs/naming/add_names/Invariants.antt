@@ -1,5 +1,5 @@
 use Rattle.std.proofs.Common.{◌≡◌, ◌++◌, true, ℕ, List, take, map}
-use Rattle.desk_catalogue.specs.Values.{is_among}
+use Rattle.desk_base.specs.TextSets.{is_among}
 use Rattle.desk_tree_lint.specs.Firsts.{Holds}
 use Rattle.desk_tree_lint.specs.Naming.{MentionText, first_with, name_by}
 use Rattle.desk_tree_lint.proofs.naming.add_names.Given as goal

@@ -1,6 +1,6 @@
 use Rattle.std.proofs.Common.{◌∙◌, ap}
-use Rattle.desk_texts.proofs.Terms.{plus_off}
-use Rattle.desk_texts.proofs.term.without_plus.Goals as goal
+use Rattle.desk_tokens.proofs.PlusLemmas.{plus_off}
+use Rattle.desk_tokens.proofs.word.without_plus.Goals as goal
 
 pub returns : goal.returns
 returns c = ap (λ id. id.now) c.unwrap_or.ensures

@@ -1,19 +1,22 @@
 -- Sets of borrowed texts.
-use Rattle.std.proofs.Common.{◌≡◌, ◌∙◌, ℕ, ◌+◌, ◌<◌, Bool, true, false, List, length, get_or, drop, sym, ap, refl}
+use Rattle.std.proofs.Common.{◌≡◌, ◌∙◌, ℕ, ◌+◌, ◌<◌, true, cond, List, length, get_or, drop, sym, ap}
 use Rattle.std.specs.Prelude.{◌||◌}
 use Rattle.std.specs.Str.{bytes_eq}
 use Rattle.std.specs.BTreeSet.{BTreeSet, UpdatesBy}
 use Rattle.std.proofs.lemmas.List.{drop_more}
+use Rattle.std.proofs.lemmas.Map.Text.{is_eq-slice_cmp}
 use denote.Ref.{Bor}
-use Rattle.desk_catalogue.specs.Values.{is_among}
-use Rattle.desk_tree_infos.specs.Firsts.{has_text}
-use Rattle.desk_tree_infos.proofs.FirstsLemmas.{one_more}
 use Rattle.desk_base.specs.Borrowed.{texts, borrowed_cmp}
+use Rattle.desk_base.specs.TextSets.{has_text, is_among}
+use Rattle.desk_base.proofs.Bools.{cond_or, or_moves}
 
-or_moves : (a b c : Bool) → (b || (a || c)) ≡ ((a || b) || c)
-or_moves true true c = refl
-or_moves true false c = refl
-or_moves false b c = refl
+-- one more text
+pub one_more : (v : Bor (List ℕ)) (old new : BTreeSet (Bor (List ℕ)))
+    → UpdatesBy borrowed_cmp (borrowed_cmp v) old new true → (q : List ℕ)
+    → has_text new q ≡ (bytes_eq v.now q || has_text old q)
+one_more v old new h q =
+    h.0 (record v { now = q }) ∙ ap (λ b. cond b true (has_text old q)) (is_eq-slice_cmp v.now q)
+    ∙ cond_or (bytes_eq v.now q) (has_text old q)
 
 -- a text goes from those to come to those in the set
 pub set_step : (listed : List (Bor (List ℕ))) (i : ℕ) (v : Bor (List ℕ))

@@ -6,7 +6,7 @@ use Rattle.std.specs.Str.{IsCharBoundary}
 use Rattle.std.specs.Str.Pattern.{FindsTextSuffix, StripsSuffix}
 use Rattle.std.proofs.lemmas.Str.Pattern.{ends_text}
 use denote.Ref.{Bor}
-use Rattle.desk_tree_lint.specs.Naming.{without_plus}
+use Rattle.desk_tokens.specs.Words.{without_plus}
 
 -- a word, from which a plus at its end was cut off
 pub plus_off : (word : Bor (List ℕ)) (r : Option (Bor (List ℕ)))

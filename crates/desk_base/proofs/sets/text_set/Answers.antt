@@ -1,6 +1,6 @@
 use Rattle.std.proofs.Common.{◌∙◌}
-use Rattle.desk_tree_lint.proofs.SetLemmas.{set_step}
-use Rattle.desk_tree_lint.proofs.lists.set_of.Goals as goal
+use Rattle.desk_base.proofs.SetLemmas.{set_step}
+use Rattle.desk_base.proofs.sets.text_set.Goals as goal
 
 pub loop-text-preserved : goal.loop-text-preserved
 loop-text-preserved c = λ q.

@@ -1,7 +1,0 @@
-use Rattle.std.proofs.Common.{◌∙◌, ap}
-use Rattle.desk_tree_lint.proofs.PlusLemmas.{plus_off}
-use Rattle.desk_tree_lint.proofs.naming.without_plus.Goals as goal
-
-pub returns : goal.returns
-returns c = ap (λ id. id.now) c.unwrap_or.ensures
-    ∙ plus_off c.args.run c.strip_suffix.result c.strip_suffix.ensures.cases
