@@ -1,5 +1,5 @@
 //! What all crates of the desk share: the test for idstrings (SPDX 2.3, Annex D.2), names that are
-//! compared by their bytes, owned texts and lists, bytes as lines, days, the profiles of operators,
+//! compared by their bytes, owned texts and lists, texts as a terminal shows them, bytes as lines, days, the profiles of operators,
 //! and the desk's limits.
 //!
 //! A contract sees a `Key` and a `Text` as the list of its bytes, `Items` as the list of its items,
@@ -15,6 +15,7 @@ pub mod limits;
 mod lines;
 mod profile;
 mod sets;
+mod terminal;
 mod text;
 mod text_list;
 
@@ -26,6 +27,6 @@ pub use key::Key;
 pub use lines::{Line, LineEnd, Lines, first_line, one_cutting};
 pub use profile::Profile;
 pub use sets::text_set;
+pub use terminal::add_shown;
 pub use text::Text;
 pub use text_list::TextList;
-

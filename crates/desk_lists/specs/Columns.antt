@@ -1,7 +1,8 @@
 -- A table laid out in columns, for a terminal. 10 is the line feed.
 use Rattle.std.specs.Prelude.{ℕ, ◌-◌, List, [], ◌∷◌, ◌++◌, length, map, take}
 use Rattle.std.specs.List.{flat_map}
-use Rattle.desk_report.specs.Columns.{filled, shown, widened, width}
+use Rattle.desk_base.specs.Terminal.{shown}
+use Rattle.desk_report.specs.Columns.{filled, widened, width}
 
 -- the widths of columns, widened for the cells of these rows
 abbrev pub widths_with : List ℕ → List (List (List ℕ)) → List ℕ

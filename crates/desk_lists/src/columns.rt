@@ -3,10 +3,11 @@
 ghost use Rattle.std.specs.Prelude.{◌≡◌, ◌++◌, [], ◌-◌, length, map, take, IfOk, OnOk};
 ghost use Rattle.std.specs.List.{flat_map};
 ghost use Rattle.desk_lists.specs.Columns.{columns_text, row_line, widths};
-ghost use Rattle.desk_report.specs.Columns.{shown, widened, width};
+ghost use Rattle.desk_base.specs.Terminal.{shown};
+ghost use Rattle.desk_report.specs.Columns.{widened, width};
 
-use desk_base::{Items, Text};
-use desk_report::{add_filled, add_shown, width};
+use desk_base::{Items, Text, add_shown};
+use desk_report::{add_filled, width};
 use std::alloc::{AllocError, Global};
 
 // The widths of texts.

@@ -1,18 +1,11 @@
--- The table of duties laid out in columns, for a terminal. 10 is the line feed, 32 the blank and 63
--- `?`.
-use Rattle.std.specs.Prelude.{ℕ, ◌-◌, ◌+◌, false, ◌==◌, ◌||◌, nat_lt, List, [], ◌∷◌, ◌++◌, map, max}
-use Rattle.std.specs.Prelude.{chars, codes, decimal, replicate, unwrap_or, if◌then◌else◌}
+-- The table of duties laid out in columns, for a terminal. 10 is the line feed and 32 the blank.
+use Rattle.std.specs.Prelude.{ℕ, ◌-◌, ◌+◌, false, List, [], ◌∷◌, ◌++◌, map, max}
+use Rattle.std.specs.Prelude.{chars, codes, decimal, replicate, unwrap_or}
 use Rattle.std.specs.List.{flat_map}
+use Rattle.desk_base.specs.Terminal.{shown}
 use Rattle.unicode_width.specs.Width.{str_width}
 use Rattle.desk_model.specs.Names.{duty_state_name}
 use Rattle.desk_model.specs.declared.command.DutyLine.{DutyLine}
-
--- a control byte is shown as a question mark
-abbrev pub shown_byte : ℕ → ℕ
-shown_byte b = if nat_lt b 32 || b == 127 then 63 else b
-
-abbrev pub shown : List ℕ → List ℕ
-shown cell = map shown_byte cell
 
 -- how many columns of a terminal a text takes
 abbrev pub width : List ℕ → ℕ

@@ -1,9 +1,10 @@
 //! The table of a release's duties in columns.
 
 ghost use Rattle.std.specs.Prelude.{◌≡◌, ◌++◌, ◌∷◌, decimal, map, replicate, IfOk, OnOk};
-ghost use Rattle.desk_report.specs.Columns.{shown, shown_byte, width, front_names, front_cells, widened, widths, filled, front_text, row_line, duty_row, columns_text};
+ghost use Rattle.desk_report.specs.Columns.{width, front_names, front_cells, widened, widths, filled, front_text, row_line, duty_row, columns_text};
 
 use crate::table::day_cell;
+use desk_base::add_shown;
 use desk_model::DutyLine;
 use std::alloc::{AllocError, Global};
 use unicode_width::UnicodeWidthStr;
@@ -15,13 +16,6 @@ const GAP: usize = 2;
 const FRONT_NAMES: [&str; 7] = [
     "number", "document", "package", "term", "rule", "code", "state",
 ];
-
-// A byte as a terminal shows it.
-fn shown_byte(byte: u8) -> u8
-    ensures { result ≡ shown_byte byte }
-{
-    if byte < 32 || byte == 127 { b'?' } else { byte }
-}
 
 /// How many columns of a terminal a text takes.
 pub fn width(text: &str) -> usize
@@ -100,16 +94,6 @@ fn widths(alloc: Global, lines: &[DutyLine]) -> Result<Vec<usize>, AllocError>
     Ok(found)
 }
 
-/// Adds a text as a terminal shows it.
-pub fn add_shown(text: &mut Vec<u8>, cell: &str) -> Result<(), AllocError>
-    ensures { OnOk result (text.new.items ≡ text.old.items ++ shown cell.now) }
-{
-    for byte in cell.as_bytes() {
-        text.push(shown_byte(*byte))?;
-    }
-    Ok(())
-}
-
 // Adds this many blanks.
 fn add_blanks(text: &mut Vec<u8>, count: usize) -> Result<(), AllocError>
     ensures { OnOk result (text.new.items ≡ text.old.items ++ replicate count 32) }
@@ -180,7 +164,7 @@ fn add_duty(
 
 /// The table of duties as a terminal shows it: the names of the columns, as in `duties_csv`, and a
 /// row for each duty, each ended by LF. A column is as wide as its widest text, with two blanks
-/// before the next one. A control byte is shown as a question mark.
+/// before the next one. A control character is shown as a question mark.
 #[tactic(auto, unfolding(crate::specs::Columns::columns_text))]
 pub fn duties_columns(alloc: Global, lines: &[DutyLine]) -> Result<Vec<u8>, AllocError>
     ensures { IfOk result (λ text. text.items ≡ columns_text lines.now) }

@@ -5,7 +5,7 @@
 //! - `duties_csv` is the table of a release's duties as comma-separated values (RFC 4180), written
 //!   by `csv`: a row of names and one for each duty, each ended by LF (`specs/CsvTable.antt`).
 //!   `duties_columns` is the same table laid out for a terminal (`specs/Columns.antt`).
-//! - `add_shown`, `add_filled` and `add_record` add cells and records to tables of other rows.
+//! - `add_filled` and `add_record` add cells and records to tables of other rows.
 //! - `totals_text` counts the duties in each state, in one line, and `changes_text` has a line for
 //!   each change of a duty (`specs/Lines.antt`).
 //!
@@ -19,7 +19,7 @@ mod table;
 mod totals;
 
 pub use changes::changes_text;
-pub use columns::{add_filled, add_shown, duties_columns, width};
+pub use columns::{add_filled, duties_columns, width};
 pub use notice::notices;
 pub use table::{add_record, duties_csv};
 pub use totals::totals_text;

@@ -16,7 +16,8 @@ use Rattle.desk_tree_reports.specs.declared.ways.Way.{Way}
 use Rattle.desk_tree_reports.specs.declared.ways.Way.TheVariants as way
 use Rattle.desk_tree_reports.specs.Items.{line_value, row_json, line_token, line_text, row_front, path_member}
 use Rattle.desk_tree_reports.specs.Items.{missing_front, missing_end, row_value}
-use Rattle.desk_tree_reports.specs.Lines.{shown, row_line}
+use Rattle.desk_base.specs.Terminal.{shown}
+use Rattle.desk_tree_reports.specs.Lines.{row_line}
 use Rattle.desk_tree_reports.specs.Pieces.{share_text}
 use Rattle.desk_tree_reports.specs.Reports.{json_text}
 use Rattle.desk_tree_problems.specs.Rows.{kind_name, named_words, text_words, missing_row}

@@ -4,7 +4,7 @@ use Rattle.std.proofs.Common.{append_assoc, Option, Some, None, subst}
 use Rattle.std.specs.Prelude.{◌==◌, codes, option_map, nat_eq, if◌then◌else◌}
 use Rattle.std.specs.List.{starts_with}
 use Rattle.desk_tree_reports.specs.declared.ways.Way.TheVariants as way
-use Rattle.desk_tree_reports.specs.Lines.{held, shown_at, shown_behind, shown}
+use Rattle.desk_base.specs.Terminal.{held, shown_at, shown_behind, shown}
 use Rattle.desk_tree_reports.specs.Pieces.{share_text}
 use Rattle.desk_tree_problems.specs.Rows.{named_words, text_words}
 use Rattle.desk_tree_reports.specs.Ways.{rendered}

@@ -4,7 +4,7 @@ use Rattle.json.specs.Print.{escape}
 use Rattle.desk_tree_reports.specs.declared.ways.Way.{Way}
 use Rattle.desk_tree_reports.specs.declared.ways.Way.TheVariants as way
 use Rattle.desk_tree_reports.specs.Items.{path_member, missing_front, missing_end}
-use Rattle.desk_tree_reports.specs.Lines.{shown}
+use Rattle.desk_base.specs.Terminal.{shown}
 use Rattle.desk_tree_problems.specs.Rows.{named_words}
 
 abbrev pub rendered : Way → List ℕ → List ℕ

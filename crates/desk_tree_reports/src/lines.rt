@@ -1,59 +1,13 @@
 //! The lines of rows.
 
-ghost use Rattle.std.specs.Prelude.{◌≡◌, ◌++◌, IfOk, OnOk, codes};
+ghost use Rattle.std.specs.Prelude.{◌≡◌, ◌++◌, IfOk, codes};
 ghost use Rattle.std.specs.String.{string_bytes};
-ghost use Rattle.desk_tree_reports.specs.Lines.{shown_byte, held, shown_at, shown_behind, shown, place, has_line};
+ghost use Rattle.desk_base.specs.Terminal.{shown};
+ghost use Rattle.desk_tree_reports.specs.Lines.{place, has_line};
 
+use desk_base::add_shown;
 use desk_tree_problems::{Kind, Row};
 use std::alloc::{AllocError, Global};
-
-// The first byte of control characters from U+0080 on, and of other characters.
-const LEAD: u8 = 194;
-
-// A byte, or a question mark instead of a control byte.
-fn shown_byte(byte: u8) -> u8
-    ensures { result ≡ shown_byte byte }
-{
-    if byte < 32 || byte == 127 { b'?' } else { byte }
-}
-
-// Adds the first byte, if one waits.
-fn add_held(text: &mut Vec<u8>, lead: bool) -> Result<(), AllocError>
-    ensures { OnOk result (text.new.items ≡ text.old.items ++ held lead) }
-{
-    if lead {
-        text.push(LEAD)?;
-    }
-    Ok(())
-}
-
-// Adds what is shown for a byte.
-fn add_at(text: &mut Vec<u8>, lead: bool, byte: u8) -> Result<(), AllocError>
-    ensures { OnOk result (text.new.items ≡ text.old.items ++ shown_at lead byte) }
-{
-    if byte == LEAD {
-        return add_held(text, lead);
-    }
-    if lead && (byte > 127 && byte < 160) {
-        text.push(b'?')?;
-        return Ok(());
-    }
-    add_held(text, lead)?;
-    text.push(shown_byte(byte))?;
-    Ok(())
-}
-
-// Adds a text as it is shown.
-fn add_shown(text: &mut Vec<u8>, bytes: &[u8]) -> Result<(), AllocError>
-    ensures { OnOk result (text.new.items ≡ text.old.items ++ shown bytes.now) }
-{
-    let mut lead = false;
-    for byte in bytes {
-        add_at(text, lead, *byte)?;
-        lead = *byte == LEAD;
-    }
-    add_held(text, lead)
-}
 
 // What is between the path and the message.
 fn place(alloc: Global, line: Option<u64>) -> Result<String, AllocError>
@@ -70,7 +24,7 @@ pub(crate) fn shown(alloc: Global, text: &str) -> Result<Vec<u8>, AllocError>
     ensures { IfOk result (λ bytes. bytes.items ≡ shown text.now) }
 {
     let mut bytes = Vec::new(alloc);
-    add_shown(&mut bytes, text.as_bytes())?;
+    add_shown(&mut bytes, text)?;
     Ok(bytes)
 }
 
@@ -80,7 +34,7 @@ pub(crate) fn behind_path(alloc: Global, row: &Row) -> Result<Vec<u8>, AllocErro
         ≡ place row.now.line ++ (shown row.now.message ++ codes "\n")) }
 {
     let mut bytes = place(alloc, row.line)?.into_bytes();
-    add_shown(&mut bytes, row.message.as_str().as_bytes())?;
+    add_shown(&mut bytes, row.message.as_str())?;
     bytes.push(b'\n')?;
     Ok(bytes)
 }
@@ -90,7 +44,7 @@ pub(crate) fn missing_front(alloc: Global, id: &str) -> Result<Vec<u8>, AllocErr
     ensures { IfOk result (λ bytes. bytes.items ≡ codes "LICENSES/: no text of " ++ shown id.now) }
 {
     let mut bytes = String::from_str(alloc, "LICENSES/: no text of ")?.into_bytes();
-    add_shown(&mut bytes, id.as_bytes())?;
+    add_shown(&mut bytes, id)?;
     Ok(bytes)
 }
 

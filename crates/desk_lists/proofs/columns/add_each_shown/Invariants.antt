@@ -1,6 +1,6 @@
 use Rattle.std.proofs.Common.{◌≡◌, ◌++◌, take}
 use Rattle.std.specs.List.{flat_map}
-use Rattle.desk_report.specs.Columns.{shown}
+use Rattle.desk_base.specs.Terminal.{shown}
 use Rattle.desk_lists.proofs.columns.add_each_shown.Given as goal
 
 -- each cell before the index

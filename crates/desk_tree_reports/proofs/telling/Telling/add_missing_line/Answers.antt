@@ -3,7 +3,7 @@ use Rattle.std.specs.Prelude.{codes}
 use Rattle.std.proofs.lemmas.Result.{on_ok_weaker}
 use Rattle.desk_tree_lint.specs.Shown.{name_at}
 use Rattle.desk_tree_reports.specs.declared.ways.Way.TheVariants.{NamedLine}
-use Rattle.desk_tree_reports.specs.Lines.{shown}
+use Rattle.desk_base.specs.Terminal.{shown}
 use Rattle.desk_tree_reports.proofs.ItemLemmas.{named_is, added_three, missing_line_is}
 use Rattle.desk_tree_reports.proofs.telling.Telling.add_missing_line.Goals as goal
 
