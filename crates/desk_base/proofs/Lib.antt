@@ -1,6 +1,7 @@
 pub mod IdstringLemmas
 pub mod LinesOnce
 pub mod Bools
+pub mod Days
 pub mod Numbers
 pub mod Texts
 pub mod Pieces

@@ -119,4 +119,15 @@ impl Day {
     {
         &self.text
     }
+
+    /// The day as it is written, as text.
+    pub fn as_str(&self) -> &str
+        ensures { result.now ≡ self.now }
+    {
+        match str::from_utf8(&self.text) {
+            Ok(text) => text,
+            // Digits and hyphens are text.
+            Err(_) => unreachable!(),
+        }
+    }
 }

@@ -1,4 +1,3 @@
-pub mod Days
 pub mod RowTexts
 pub mod Texts
 pub mod FormLemmas

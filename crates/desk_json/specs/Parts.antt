@@ -1,6 +1,5 @@
 -- The parts of replies: numbers, lists and the rows of an answer.
-use Rattle.std.specs.Prelude.{ℕ, List, [], ◌∷◌, ◌++◌, map, unwrap_or, Option, Some, None, if◌then◌else◌}
-use Rattle.std.specs.Str.{is_utf8}
+use Rattle.std.specs.Prelude.{ℕ, List, [], ◌∷◌, ◌++◌, map, unwrap_or, Option, Some, None}
 use Rattle.serde_json.specs.Data.{Data, number, unsigned, string, array}
 use Rattle.serde_json.specs.View.{items_of}
 use Rattle.desk_base.specs.Profiles.{profile_number}
@@ -24,10 +23,9 @@ abbrev pub list : List Data → Data
 list ds = array (items_of ds)
 
 -- The day of a line as it is written. It is empty if a line has no day, which doesn't happen in a
--- history, and if its bytes are not text, which is never so for a written day.
+-- history.
 abbrev pub day_text : Option (List ℕ) → List ℕ
-day_text None = []
-day_text (Some day) = if is_utf8 day then day else []
+day_text day = unwrap_or day []
 
 abbrev pub duty_row : DutyLine → Data
 duty_row line = list (whole line.number ∷ whole line.document ∷ string line.package_id
@@ -36,12 +34,12 @@ duty_row line = list (whole line.number ∷ whole line.document ∷ string line.
 
 -- the step, the day, the word and the text; for a waiver that ends, its last day too
 abbrev pub change_values : ChangeRow → List Data
-change_values row = whole row.step ∷ string (day_text (Some row.day)) ∷ string (word_name row.word)
+change_values row = whole row.step ∷ string row.day ∷ string (word_name row.word)
     ∷ string row.body ∷ []
 
 abbrev pub ending : Option (List ℕ) → List Data
 ending None = []
-ending (Some day) = string (day_text (Some day)) ∷ []
+ending (Some day) = string day ∷ []
 
 abbrev pub change_line : ChangeRow → Data
 change_line row = list (change_values row ++ ending row.last_day)

@@ -56,4 +56,3 @@ mod rows;
 pub use reading::read_command;
 pub use replies::{bad_command_line, memory_line, reply_line};
 pub use request::Request;
-pub use rows::written_days_are_told;

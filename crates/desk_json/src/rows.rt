@@ -1,7 +1,6 @@
 //! The rows of answers as JSON.
 
-ghost use Rattle.std.specs.Prelude.{◌≡◌, [], ℕ, List, IsTrue, Some, unwrap_or, refl};
-ghost use Rattle.desk_base.specs.Day.{is_day};
+ghost use Rattle.std.specs.Prelude.{◌≡◌, [], unwrap_or, refl};
 ghost use Rattle.desk_json.specs.Integers.{change_has_integers, package_has_integers, terms_have_integers, cheapest_has_integers};
 ghost use Rattle.desk_json.specs.Parts.{day_text, duty_row, change_line, totals_row, finding_line, release_line, term_list, package_values, cheapest_row, listed_release, listed_document, open_row};
 
@@ -15,23 +14,12 @@ use desk_model::{
 use serde_json::Value;
 use std::alloc::{AllocError, Global};
 
-/// A day as it is written.
-fn written_day(day: &Day) -> &str
-    ensures { result.now ≡ day_text (Some day.now) }
-{
-    // The bytes of a day are digits and hyphens, so they are text.
-    match str::from_utf8(day.as_bytes()) {
-        Ok(text) => text,
-        Err(_) => "",
-    }
-}
-
 /// The day as it is written, or an empty text if there is none.
 fn day_text(day: &Option<Day>) -> &str
     ensures { result.now ≡ day_text day.now }
 {
     match day {
-        Some(day) => written_day(day),
+        Some(day) => day.as_str(),
         None => "",
     }
 }
@@ -64,7 +52,7 @@ impl Row for ChangeRow {
     fn value(&self, alloc: Global) -> Result<Value, AllocError> {
         let cells = [
             Cell::Number(u64::from(self.step)),
-            Cell::Text(written_day(&self.day)),
+            Cell::Text(self.day.as_str()),
             Cell::Text(self.word.name()),
             Cell::Text(self.body.as_str()),
             Cell::Text(day_text(&self.last_day)),
@@ -236,8 +224,3 @@ impl Row for Cheapest {
         list(alloc, &cells)
     }
 }
-
-/// The row of a duty has its day as it is written: its bytes are text.
-pub fn written_days_are_told()
-    ensures { (day : List ℕ) → IsTrue (is_day day) → day_text (Some day) ≡ day }
-{}

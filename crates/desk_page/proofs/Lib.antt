@@ -1,4 +1,3 @@
-pub mod Days
 pub mod Inert
 pub mod Joined
 pub mod Uses

@@ -1,10 +1,9 @@
 -- The rows of a page's tables.
 use Rattle.std.specs.Prelude.{ℕ, ◌-◌, ◌&&◌, Bool, List, [], ◌∷◌, ◌++◌, codes, count_by, filter}
-use Rattle.std.specs.Prelude.{length, map, not, Option, Some, None, slice_get, unwrap_or}
-use Rattle.std.specs.Prelude.{if◌then◌else◌}
+use Rattle.std.specs.Prelude.{length, map, not, Option, slice_get, unwrap_or}
 use Rattle.std.specs.List.{flat_map}
 use Rattle.std.specs.Option.{option_map_or}
-use Rattle.std.specs.Str.{bytes_eq, is_utf8}
+use Rattle.std.specs.Str.{bytes_eq}
 use Rattle.desk_model.specs.Names.{duty_state_name, word_name}
 use Rattle.desk_model.specs.declared.bill.BillLine.{BillLine}
 use Rattle.desk_model.specs.declared.command.DutyLine.{DutyLine}
@@ -70,11 +69,9 @@ licence_row duties licence =
 
 -- ---- duties
 
--- A day as it is written. Empty if there is none, which no recorded history gives for a duty, or if
--- its bytes are not UTF-8, as those of a written day are.
+-- A day as it is written. Empty if there is none, which no recorded history gives for a duty.
 abbrev pub day_text : Option (List ℕ) → List ℕ
-day_text None = []
-day_text (Some day) = if is_utf8 day then day else []
+day_text day = unwrap_or day []
 
 unfoldable pub duty_row : DutyLine → List ℕ
 duty_row duty =
@@ -90,7 +87,7 @@ last_change changes = slice_get changes (length changes - 1)
 -- what becomes due again after a day, and why it was waived
 unfoldable pub ending_row : DutyLine → List ℕ → List ℕ → List ℕ
 ending_row duty day reason =
-    row_text (link duty.number ∷ plain duty.rule ∷ plain duty.code ∷ plain (day_text (Some day))
+    row_text (link duty.number ∷ plain duty.rule ∷ plain duty.code ∷ plain day
     ∷ last reason ∷ [])
 
 -- only a waiver has a last day
@@ -111,6 +108,6 @@ waiver_rows (duty ∷ duties) (changes ∷ more) = last_waiver duty changes ++ w
 
 unfoldable pub change_row : ChangeRow → List ℕ
 change_row change =
-    row_text (link change.duty ∷ plain (day_text (Some change.day)) ∷ plain (word_name change.word)
+    row_text (link change.duty ∷ plain change.day ∷ plain (word_name change.word)
     ∷ plain (day_text change.last_day)
     ∷ last change.body ∷ [])

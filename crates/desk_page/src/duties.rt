@@ -1,9 +1,8 @@
 //! The rows of duties, of the waivers that end, and of changes.
 
-ghost use Rattle.std.specs.Prelude.{◌≡◌, ◌++◌, ℕ, List, IsTrue, Some, OnOk};
+ghost use Rattle.std.specs.Prelude.{◌≡◌, ◌++◌, OnOk};
 ghost use Rattle.std.specs.List.{flat_map};
 ghost use Rattle.std.specs.String.{string_bytes};
-ghost use Rattle.desk_base.specs.Day.{is_day};
 ghost use Rattle.desk_page.specs.Rows.{change_row, day_text, duty_row, ending_row, waiver_row, last_waiver, waiver_rows};
 
 use crate::cell::{Cell, add_row};
@@ -11,30 +10,15 @@ use desk_base::{Day, Items};
 use desk_model::{ChangeRow, DutyLine};
 use std::alloc::{AllocError, Global};
 
-// The day as it is written.
-fn written_day(day: &Day) -> &str
-    ensures { result.now ≡ day_text (Some day.now) }
-{
-    // The bytes of a day are digits and hyphens, so they are text.
-    match str::from_utf8(day.as_bytes()) {
-        Ok(text) => text,
-        Err(_) => "",
-    }
-}
-
+// The day as it is written, or an empty text if there is none.
 fn day_text(day: &Option<Day>) -> &str
     ensures { result.now ≡ day_text day.now }
 {
     match day {
-        Some(day) => written_day(day),
+        Some(day) => day.as_str(),
         None => "",
     }
 }
-
-/// A day in the form of days is shown as it is written.
-pub fn written_days_are_shown()
-    ensures { (day : List ℕ) → IsTrue (is_day day) → day_text (Some day) ≡ day }
-{}
 
 #[tactic(auto, unfolding(crate::specs::Rows::duty_row))]
 fn add_duty(alloc: Global, text: &mut String, duty: &DutyLine) -> Result<(), AllocError>
@@ -82,7 +66,7 @@ fn add_ending<'a>(
         Cell::Link(duty.number),
         Cell::Text(duty.rule.as_str()),
         Cell::Text(duty.code.as_str()),
-        Cell::Text(written_day(day)),
+        Cell::Text(day.as_str()),
         Cell::Last(reason),
     ];
     add_row(alloc, text, &cells)
@@ -150,7 +134,7 @@ fn add_change(alloc: Global, text: &mut String, change: &ChangeRow) -> Result<()
 {
     let cells = [
         Cell::Link(change.duty),
-        Cell::Text(written_day(&change.day)),
+        Cell::Text(change.day.as_str()),
         Cell::Text(change.word.name()),
         Cell::Text(day_text(&change.last_day)),
         Cell::Last(change.body.as_str()),

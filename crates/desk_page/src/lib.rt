@@ -21,6 +21,5 @@ mod licences;
 mod packages;
 mod piece;
 
-pub use duties::written_days_are_shown;
 pub use escape::escaped_texts_are_inert;
 pub use html::page;
