@@ -22,6 +22,7 @@ STEPS = [
     ("Checking the catalogue of the examples, and its texts.", ["python3", "tests/catalogues/check.py"]),
     ("Comparing the picture of the layers with the crates.", ["python3", "docs/layers.py", "--check"]),
     ("Looking at the layout of the sources.", ["python3", "tests/format.py"]),
+    ("Looking for lemmas that stand twice.", ["python3", "tests/lemmas.py"]),
     ("Looking for the places of the edits that the prover must refuse.", ["python3", "tests/edits.py", "--texts"]),
     ("Comparing the crates with what their edits were tried on.", ["python3", "tests/edits.py", "--records"]),
     ("Running the tests of single calls, compiled with checks and no proof.", ["sh", "tests/units/run.sh"]),

@@ -16,7 +16,8 @@ use Rattle.desk_alts.specs.Sets.{IsTermSet, set_order, AreAlternatives}
 use Rattle.desk_alts.specs.SetLaws.{set_total}
 use Rattle.desk_alts.proofs.Antichains.{any_of}
 use Rattle.desk_alts.proofs.CostLemmas.{least_none, least_first, least_new, least_kept, none_cheapest, is_cheapest}
-use Rattle.desk_base.proofs.SortedOnce.{head_or_later, not_both}
+use Rattle.desk_base.proofs.SortedOnce.{not_both}
+use Rattle.desk_base.proofs.Lists.{contains_cases}
 use Rattle.desk_alts.proofs.ListingExists.{as_set, holds_or_not, alternatives_exist}
 
 -- ---- each set that satisfies a tree has a minimal subset
@@ -46,7 +47,7 @@ reduced e (x ∷ xs) s holds =
             record {
               subset = λ t at. ((rest.1 t).0 (found.1.subset t at)).0;
               holds = found.1.holds;
-              needed = λ t listed at less. elim (head_or_later x xs t listed) [
+              needed = λ t listed at less. elim (contains_cases x xs t listed) [
                 | inl is ↦ absurd (((rest.1 t).0 (found.1.subset t at)).1 (sym is))
                 | inr later ↦ found.1.needed t later at less
               ];
@@ -58,7 +59,7 @@ reduced e (x ∷ xs) s holds =
             record {
               subset = found.1.subset;
               holds = found.1.holds;
-              needed = λ t listed at less. elim (head_or_later x xs t listed) [
+              needed = λ t listed at less. elim (contains_cases x xs t listed) [
                 | inl is ↦ absurd (binds (holds_more (Without found.0 t) (Contains rest.0)
                     (λ u own. (rest.1 u).1 (found.1.subset u own.0, λ same. own.1 (same ∙ is))) e
                     less))

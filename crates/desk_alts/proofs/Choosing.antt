@@ -15,22 +15,19 @@ use Rattle.desk_expr.specs.Tree.{Tree, Trees, one, all, any, no_more, more}
 use Rattle.desk_expr.specs.Meaning.{Holds, AllHold, SomeHolds, Without, IsMinimal}
 use Rattle.desk_expr.specs.Occurring.{leaves, leaves_of, term_order}
 use Rattle.desk_alts.proofs.Minimal.{holds_more, minimal_if_none_can_go}
-use Rattle.desk_alts.proofs.SameTerms.{same_term, contains_cases, contains_here, contains_there}
+use Rattle.desk_alts.proofs.SameTerms.{same_term, contains_cases, contains_here}
 use Rattle.desk_alts.specs.declared.masks.Mask.{Mask}
 use Rattle.desk_alts.specs.Masks.{IsSubset}
 use Rattle.std.proofs.lemmas.Map.Keys.{sorted_tail, Less-from_sorted}
+use Rattle.desk_base.proofs.SortedOnce.{is_later}
 use Rattle.desk_alts.specs.Choices.{HasPlace, Chosen, IsMinimalMask, AreMinimal, IsTableFor, IsChoice}
 use Rattle.desk_alts.specs.Sets.{IsTermSet}
 use Rattle.desk_alts.proofs.SetLemmas.{head_below, sorted_consed, sorted_pushed, sorted_none, distinct_table}
+use Rattle.desk_alts.proofs.MarkLemmas.{same_item}
 
 pub subset_place : (x m : Mask) (k : ℕ) → IsSubset x m → HasPlace x k → HasPlace m k
 subset_place x m k sub has = elim has
     [ inl a ↦ inl (a.0, sub.0 k a.1) | inr b ↦ inr (b.0, sub.1 (k - 64) b.1) ]
-
-same_at : (table : List Term) (i j : ℕ) (t u : Term) → i ≡ j → slice_get table i ≡ Some t
-    → slice_get table j ≡ Some u → t ≡ u
-same_at table i j t u is a b = let e : slice_get table i ≡ slice_get table j =
-    ap (slice_get table) is in cc
 
 -- ---- every set of terms that satisfies the tree contains a listed one
 
@@ -69,7 +66,7 @@ is_listed (x ∷ xs) t =
     elim (same_term x t) [
       | inl e ↦ inl (contains_here x xs t e)
       | inr n ↦ elim (is_listed xs t) [
-        | inl a ↦ inl (contains_there x xs t a)
+        | inl a ↦ inl (is_later x xs t a)
         | inr b ↦ inr (λ at. elim (contains_cases x xs t at) [ inl e ↦ n e | inr a ↦ b a ])
       ]
     ]
@@ -192,7 +189,7 @@ satisfied_contains table e xs s fit minimal holds =
       (a.0, a.2, a.3),
       (λ t c.
           let p = found.1.only c.0 (subset_place a.1 m c.0 a.4 c.2) in
-          subst (Contains s) (same_at table c.0 c.0 p.0 t refl p.1 c.1) p.2),
+          subst (Contains s) (same_item table c.0 c.0 p.0 t refl p.1 c.1) p.2),
     )
 
 -- ---- every minimal set of terms is a listed one
@@ -248,7 +245,7 @@ list_by P dec (x ∷ xs) up =
               [ inl e ↦ (0, ap Some e, p) | inr c ↦ at_rest x xs P t ((rest.2 t).0 c) ]),
           (λ h. elim (at_cases x xs P t h) [
             | inl a ↦ contains_here x rest.0 t a.0
-            | inr b ↦ contains_there x rest.0 t ((rest.2 t).1 b)
+            | inr b ↦ is_later x rest.0 t ((rest.2 t).1 b)
           ]),
         ),
       )
@@ -320,7 +317,7 @@ minimal_choice table e m chosen few minimal same =
       c.0,
       c.1,
       rest.1.each c.0 (omega (arith, small, few))
-          (c.2, λ is. w.1 (same_at table c.0 k u t is c.1 there.1)),
+          (c.2, λ is. w.1 (same_item table c.0 k u t is c.1 there.1)),
     )) e go.2 in
     let sub = subset_from_places (λ j. HasPlace m j × (j ≢ k)) n m rest.1 (λ j p. p.0) in
     (rest.1.only k (subset_place m n k (minimal.1 n sub holds) there.2)).1 refl)
@@ -405,7 +402,7 @@ terms_more table m place xs ys x up at has is below =
         (λ h.
             elim (cases_eq h.0 place) [
               | inl same ↦ subst (Contains (xs ++ x ∷ []))
-                  (same_at table place h.0 x t (sym same) at h.2) (Contains-push xs x)
+                  (same_item table place h.0 x t (sym same) at h.2) (Contains-push xs x)
               | inr other ↦ Contains-append_left xs (x ∷ []) t
                   ((below.members t).1 (h.0, omega (arith, h.1, other), h.2, h.3))
             ]),

@@ -16,11 +16,12 @@ use Rattle.std.proofs.lemmas.Map.Keys.{Less-from_sorted, sorted_tail}
 use Rattle.std.proofs.lemmas.Bool.{cases_eq}
 use Rattle.std.proofs.lemmas.Bool.Decides.{nat_tests}
 use Rattle.std.proofs.str.Laws.{order}
+use Rattle.desk_base.proofs.SortedOnce.{is_later}
 use Rattle.desk_expr.specs.declared.term.Term.{Term}
 use Rattle.desk_expr.specs.Tree.{Tree}
 use Rattle.desk_expr.specs.Meaning.{Holds, IsMinimal, IsSubset}
 use Rattle.desk_expr.specs.Occurring.{term_order}
-use Rattle.desk_alts.proofs.SameTerms.{contains_cases, contains_here, contains_there}
+use Rattle.desk_alts.proofs.SameTerms.{contains_cases, contains_here}
 use Rattle.desk_alts.specs.Sets.{IsTermSet, set_order}
 use Rattle.desk_alts.specs.SetLaws.{set_total}
 use Rattle.desk_alts.specs.Costs.{HasCosts, set_cost, IsUpTo, IsCheapest, HasNoCosts, IsLeastOf}
@@ -131,7 +132,7 @@ head_cases x y xs ys up up' sub =
     elim (contains_cases y ys x (sub x (contains_here x xs x refl))) [
       | inl is ↦ inl (
         sym is,
-        λ t at. elim (contains_cases y ys t (sub t (contains_there x xs t at))) [
+        λ t at. elim (contains_cases y ys t (sub t (is_later x xs t at))) [
           | inl same ↦ absurd (not_below_itself t
               (ap (λ z. term_order z t) (sym same ∙ is) ∙ head_below x t xs up at))
           | inr later ↦ later

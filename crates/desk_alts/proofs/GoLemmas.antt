@@ -18,13 +18,13 @@ push_cases (z ∷ zs) x y zero at = inl at
 push_cases (z ∷ zs) x y (suc k) at = elim (push_cases zs x y k at)
     [ inl before ↦ inl before | inr here ↦ inr (omega (arith, here.0), here.1) ]
 
-push_before : {X : Type 0} (xs : List X) (x y : X) (k : ℕ) → slice_get xs k ≡ Some y
+pub push_before : {X : Type 0} (xs : List X) (x y : X) (k : ℕ) → slice_get xs k ≡ Some y
     → slice_get (xs ++ x ∷ []) k ≡ Some y
 push_before [] x y k at = cc
 push_before (z ∷ zs) x y zero at = at
 push_before (z ∷ zs) x y (suc k) at = push_before zs x y k at
 
-push_end : {X : Type 0} (xs : List X) (x : X) → slice_get (xs ++ x ∷ []) (length xs) ≡ Some x
+pub push_end : {X : Type 0} (xs : List X) (x : X) → slice_get (xs ++ x ∷ []) (length xs) ≡ Some x
 push_end [] x = refl
 push_end (z ∷ zs) x = push_end zs x
 

@@ -3,9 +3,7 @@ use Rattle.std.proofs.Common.{◌≡◌, ◌↔◌, inl, inr, List, [], length, 
 use Rattle.std.specs.Prelude.{Contains}
 use Rattle.std.specs.Cmp.Lexicographic.{slice_cmp}
 use Rattle.std.specs.FinMap.{IsAntisymmetric, slice_cmp-IsAntisymmetric}
-use Rattle.std.specs.Ordering.{nat_cmp, ordering_then}
-use Rattle.std.specs.declared.cmp.Ordering.{Ordering}
-use Rattle.std.specs.declared.cmp.Ordering.TheVariants.{Less, Equal, Greater}
+use Rattle.std.specs.Ordering.{nat_cmp}
 use Rattle.std.proofs.lemmas.List.Elements.{All-contains, All-from_get_or, Contains-get_or}
 use Rattle.desk_expr.specs.contracts.term.TermOrd.TheImpl.Laws.{total-law}
 use Rattle.desk_expr.specs.declared.term.Term.{Term}
@@ -21,6 +19,7 @@ use Rattle.desk_alts.specs.Sets.{IsTermSet, set_order, AreAlternatives}
 use Rattle.desk_alts.specs.SetLaws.{set_total}
 use Rattle.desk_alts.proofs.Choosing.{holds_on_leaves, is_listed}
 use Rattle.desk_base.proofs.SortedOnce.{same_sorted}
+use Rattle.desk_base.proofs.Orders.{second_equal}
 use Rattle.desk_alts.proofs.SetLemmas.{same_sets}
 use Rattle.desk_alts.proofs.Ordered.{in_order, having}
 use Rattle.desk_alts.proofs.Subsets.{subsets}
@@ -76,14 +75,9 @@ minimal_has_own e s least t at =
 
 -- ---- listings
 
-second_ties : (r s : Ordering) → ordering_then r s ≡ Equal → s ≡ Equal
-second_ties Less s tie = absurd (let e : Less ≡ Equal = tie in cc)
-second_ties Equal s tie = tie
-second_ties Greater s tie = absurd (let e : Greater ≡ Equal = tie in cc)
-
 sets_tie : IsAntisymmetric set_order
 sets_tie a b tie = slice_cmp-IsAntisymmetric {R = term_order} same_rank a b
-    (second_ties (nat_cmp (length a) (length b)) (slice_cmp term_order a b) tie)
+    (second_equal (nat_cmp (length a) (length b)) (slice_cmp term_order a b) tie)
 
 pub alternatives_exist : (e : Tree) → (sets : List (List Term)) × AreAlternatives e sets
 alternatives_exist e =

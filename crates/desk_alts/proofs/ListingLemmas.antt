@@ -6,7 +6,7 @@ use Rattle.std.specs.List.{AllPairs, AllZip}
 use Rattle.std.specs.Bool.{Decides}
 use Rattle.std.specs.declared.cmp.Ordering.{Ordering}
 use Rattle.std.specs.declared.cmp.Ordering.TheVariants.{Less, Equal, Greater}
-use Rattle.std.specs.Ordering.{is_lt, ordering_then, ordering_reverse, eq_by_cmp}
+use Rattle.std.specs.Ordering.{is_lt, ordering_reverse, eq_by_cmp}
 use Rattle.std.specs.Cmp.{eq_by_cmp_equiv, Equal-is}
 use Rattle.std.specs.Cmp.Lexicographic.{slice_cmp}
 use Rattle.std.specs.List.Sorted.{IsPermutation, IsSorted, IsStrictlySortedBy}
@@ -15,11 +15,13 @@ use Rattle.std.proofs.lemmas.List.Elements.{All-from_get_or, Contains-get_or}
 use Rattle.std.proofs.lemmas.List.Sorted.{Contains-permutation}
 use Rattle.std.proofs.lemmas.Map.Keys.{IsDistinct-IsPermutation, sorted_from_all_adjacent}
 use Rattle.std.proofs.lemmas.Map.Made.{AllPairs-from_IsDistinct, IsDistinct-from_AllPairs}
+use Rattle.desk_base.proofs.Lists.{zip_pushed}
+use Rattle.desk_base.proofs.Orders.{both_equal}
 use Rattle.desk_expr.specs.declared.term.Term.{Term}
 use Rattle.desk_expr.specs.Tree.{Tree}
 use Rattle.desk_expr.specs.Meaning.{Holds, IsMinimal, IsSubset}
 use Rattle.desk_expr.specs.Occurring.{term_order, AreTermsOf}
-use Rattle.desk_alts.proofs.TableLemmas.{same_rank}
+use Rattle.desk_alts.proofs.TableLemmas.{same_rank, own_rank}
 use Rattle.desk_alts.specs.declared.masks.Mask.{Mask}
 use Rattle.desk_alts.specs.Choices.{IsChoice, AreMinimal, IsTableFor}
 use Rattle.desk_alts.specs.Sets.{IsTermSet, set_order, HasMoreTerms}
@@ -30,13 +32,6 @@ use Rattle.desk_alts.proofs.Choosing.{minimal_choice, minimal_is_listed, satisfi
 use Rattle.desk_alts.proofs.SetLemmas.{same_sets}
 
 -- ---- two lists side by side
-
-zip_pushed : {A B : Type 0} (R : A → B → Type 0) (xs : List A) (ys : List B) (x : A) (y : B)
-    → AllZip R xs ys → R x y → AllZip R (xs ++ x ∷ []) (ys ++ y ∷ [])
-zip_pushed R [] [] x y zip r = (r, tt)
-zip_pushed R [] (v ∷ vs) x y zip r = absurd zip
-zip_pushed R (u ∷ us) [] x y zip r = absurd zip
-zip_pushed R (u ∷ us) (v ∷ vs) x y zip r = (zip.0, zip_pushed R us vs x y zip.1 r)
 
 zip_length : {A B : Type 0} (R : A → B → Type 0) (xs : List A) (ys : List B) → AllZip R xs ys
     → length xs ≡ length ys
@@ -137,26 +132,16 @@ all_differ table e kept sets fit minimal zip i j d below within same =
 
 -- ---- the order of sets
 
-then_equal : (r s : Ordering) → ordering_then r s ≡ Equal → (r ≡ Equal) × (s ≡ Equal)
-then_equal Less s e = absurd (cc)
-then_equal Equal s e = (refl, e)
-then_equal Greater s e = absurd (cc)
-
 same_list : (a b : List Term) → slice_cmp term_order a b ≡ Equal → a ≡ b
 same_list [] [] tie = refl
 same_list [] (y ∷ ys) tie = absurd (let e : Less ≡ Equal = tie in cc)
 same_list (x ∷ xs) [] tie = absurd (let e : Greater ≡ Equal = tie in cc)
 same_list (x ∷ xs) (y ∷ ys) tie =
-    let both = then_equal (term_order x y) (slice_cmp term_order xs ys) tie in
+    let both = both_equal (term_order x y) (slice_cmp term_order xs ys) tie in
     ap₂ (λ (z : Term) (zs : List Term). z ∷ zs) (same_rank x y both.0) (same_list xs ys both.1)
 
 pub same_set_rank : (a b : List Term) → set_order a b ≡ Equal → a ≡ b
-same_set_rank a b tie = same_list a b (then_equal _ _ tie).1
-
-own_rank : (r : Ordering) → r ≡ ordering_reverse r → r ≡ Equal
-own_rank Less e = absurd (cc)
-own_rank Equal e = refl
-own_rank Greater e = absurd (cc)
+same_set_rank a b tie = same_list a b (both_equal _ _ tie).1
 
 pub set_ranks_with_itself : (a : List Term) → set_order a a ≡ Equal
 set_ranks_with_itself a = own_rank (set_order a a) (set_total.antisymm a a)

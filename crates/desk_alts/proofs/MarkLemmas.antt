@@ -1,12 +1,13 @@
 -- Bits that say for which candidates a fact holds.
 use Rattle.std.proofs.Common.{◌≡◌, ◌↔◌, ◌∙◌, ◌⊎◌, inl, inr, ℕ, zero, suc, ◌+◌, ◌<◌, ◌≤◌, ◌^◌, max}
-use Rattle.std.proofs.Common.{◌*◌, ◌%◌, ⊎_elim, List, [], ◌∷◌, length, drop, get_or, sym, ap, refl}
+use Rattle.std.proofs.Common.{◌*◌, ◌%◌, ⊎_elim, List, length, drop, get_or, sym, ap, refl}
 use Rattle.std.proofs.Common.{arith, Some}
 use Rattle.std.specs.Prelude.{slice_get, ◌≢◌, bit_and, bit_or}
 use Rattle.std.specs.Int.{bit_at}
 use Rattle.std.proofs.lemmas.Nat.Bits.{bit_at_and, bit_at_or, bit_at-lt, bit_at_ones, bit_at_set_same, bit_at_set_other}
 use Rattle.std.proofs.str.Laws.{order}
 use Rattle.std.specs.Int.{w64}
+use Rattle.desk_base.proofs.Lists.{item_at}
 use mir.Val.{bits}
 use Rattle.desk_expr.specs.declared.term.Term.{Term}
 use Rattle.desk_expr.specs.Tree.{Tree, parts_of}
@@ -94,7 +95,7 @@ ToldBelow chosen candidates term marks k = (j place : ℕ) (gone : Term) → j <
 abbrev pub UnsetFrom : ℕ → ℕ → Type 0
 UnsetFrom marks k = (j : ℕ) → k < j + 1 → bit_at marks j ≡ 0
 
-same_item : {X : Type 0} (xs : List X) (i j : ℕ) (x y : X) → i ≡ j → slice_get xs i ≡ Some x
+pub same_item : {X : Type 0} (xs : List X) (i j : ℕ) (x y : X) → i ≡ j → slice_get xs i ≡ Some x
     → slice_get xs j ≡ Some y → x ≡ y
 same_item xs i j x y same at at' = let is : slice_get xs i ≡ slice_get xs j =
     ap (slice_get xs) same in cc
@@ -138,9 +139,3 @@ pub unset_set : (marks k : ℕ) → k < 64 → UnsetFrom marks k
 unset_set marks k low unset j above =
     let ne : j ≢ k = omega arith in
     rw (bit_at_set_other w64 marks k low j ne) (unset j (omega arith))
-
-pub item_at : {X : Type 0} (candidates : List X) (k : ℕ) → k < length candidates
-    → (t : X) × (slice_get candidates k ≡ Some t)
-item_at [] k within = absurd (omega arith)
-item_at (x ∷ xs) zero within = (x, refl)
-item_at (x ∷ xs) (suc k) within = item_at xs k (omega arith)

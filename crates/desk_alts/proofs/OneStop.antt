@@ -1,6 +1,6 @@
 -- A text has only one stop, whatever language of symbols is looked for in it.
 use Rattle.std.proofs.Common.{◌≡◌, ◌∙◌, ◌⊎◌, inl, inr, ℕ, suc, ◌<◌, ◌≤◌, List, [], ◌∷◌, ◌++◌}
-use Rattle.std.proofs.Common.{length, take, unwrap_or, sym, subst, ap, refl, arith}
+use Rattle.std.proofs.Common.{length, unwrap_or, sym, subst, ap, arith}
 use Rattle.desk_base.specs.Limits as limit
 use Rattle.desk_expr.specs.declared.fault.ParseFault.{ParseFault}
 use Rattle.desk_expr.specs.declared.fault.ParseFault.TheVariants.{Empty, BadToken, Unexpected}
@@ -13,15 +13,11 @@ use Rattle.desk_tokens.specs.Tokens.{Lexeme, AreTokensBy}
 use Rattle.desk_expr.specs.Grammar.{Symbol}
 use Rattle.desk_expr.specs.Spelling.{symbols, AllFronts, Begins, Stands, Reason, EndReason}
 use Rattle.desk_expr.specs.Spelling.{StopsAtToken, StopsAtEnd, IsStopBy}
+use Rattle.desk_expr.proofs.ParseLemmas.{front_of}
 use Rattle.desk_tokens.proofs.Lexing.{same_tokens}
 use Rattle.desk_alts.proofs.Splits.{Cuts, two_cuts}
 
 -- ---- a token
-
-front_and_one : (front : List Lexeme) (t : Lexeme) (behind : List Lexeme)
-    → take (suc (length front)) (front ++ t ∷ behind) ≡ front ++ t ∷ []
-front_and_one [] t behind = refl
-front_and_one (u ∷ front) t behind = ap (λ l. u ∷ l) (front_and_one front t behind)
 
 module _ {A : Type 0} (Language : List Symbol → A → Type 0)
     (no_bad_begins : (front : List Lexeme) (t : Lexeme) → t.kind ≡ kind.Bad
@@ -43,7 +39,7 @@ module _ {A : Type 0} (Language : List Symbol → A → Type 0)
   stands_within : (front : List Lexeme) (t : Lexeme) (more : List Lexeme) (f : ParseFault)
       → AllFronts (Stands Language) (front ++ t ∷ more) → Reason Language front t f → ⊥
   stands_within front t more f stands reason =
-      stands_or_stops front t f (subst (Stands Language) (front_and_one front t more)
+      stands_or_stops front t f (subst (Stands Language) (front_of front t more)
       (stands (suc (length front)))) reason
 
   module _ (front : List Lexeme) (t : Lexeme) where

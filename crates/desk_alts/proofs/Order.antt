@@ -11,12 +11,12 @@ use Rattle.std.specs.Cmp.Lexicographic.{slice_cmp}
 use Rattle.std.specs.declared.cmp.Ordering.{Ordering}
 use Rattle.std.specs.declared.cmp.Ordering.TheVariants.{Less, Equal, Greater}
 use Rattle.std.specs.Str.{bytes_eq}
-use Rattle.std.proofs.lemmas.Bool.{eqb-true}
+use Rattle.std.proofs.lemmas.Bool.{eqb-true, and_from}
 use Rattle.std.proofs.lemmas.Bool.Decides.{nat_tests}
 use Rattle.std.proofs.lemmas.Slice.Eq.{bytes_eq-Decides}
 use Rattle.std.proofs.lemmas.List.{take-append-drop}
 use Rattle.std.proofs.lemmas.List.Folds.{list_all-append}
-use Rattle.desk_base.proofs.Bools.{and_left, and_right, both}
+use Rattle.desk_base.proofs.Bools.{and_left, and_right}
 use Rattle.desk_base.specs.Idstring.{is_idstring_byte, is_idstring}
 use Rattle.desk_base.specs.Folded.{folded}
 use Rattle.desk_expr.specs.declared.term.Term.{Term}
@@ -40,7 +40,7 @@ id_byte_late b h = grind (arith, nat_tests)
 bytes_late : (w : List ℕ) → list_all is_idstring_byte w ≡ true → are_late w ≡ true
 bytes_late [] h = refl
 bytes_late (b ∷ bs) h =
-    both (is_late b) (are_late bs)
+    and_from (is_late b) (are_late bs)
     (id_byte_late b (and_left (is_idstring_byte b) (list_all is_idstring_byte bs) h))
     (bytes_late bs (and_right (is_idstring_byte b) (list_all is_idstring_byte bs) h))
 
@@ -48,7 +48,7 @@ idstring_late : (w : List ℕ) → is_idstring w ≡ true → are_late w ≡ tru
 idstring_late w h = bytes_late w (and_right (nat_lt 0 (length w)) (list_all is_idstring_byte w) h)
 
 joined_late : (v w : List ℕ) → are_late v ≡ true → are_late w ≡ true → are_late (v ++ w) ≡ true
-joined_late v w h k = list_all-append is_late v w ∙ both (are_late v) (are_late w) h k
+joined_late v w h k = list_all-append is_late v w ∙ and_from (are_late v) (are_late w) h k
 
 prefix_late : (w needle : List ℕ) → starts_with nat_eq w needle ≡ true → are_late needle ≡ true
     → are_late (drop (length needle) w) ≡ true → are_late w ≡ true
@@ -78,7 +78,7 @@ colon_late (x ∷ xs) h k = by_colon (λ a b. colon_late xs a b) (x == 58) refl 
         → are_late (after_first (λ b. b == 58) xs) ≡ true → are_late xs ≡ true) → (v : Bool)
         → (x == 58) ≡ v → are_late (take (cond (not v) (1 + n) 0) (x ∷ xs)) ≡ true
         → are_late (drop (cond (not v) (1 + n) 0 + 1) (x ∷ xs)) ≡ true → are_late (x ∷ xs) ≡ true
-    by_colon rest true e h k = both (is_late x) (are_late xs) (ap is_late (eqb-true x 58 e)) k
+    by_colon rest true e h k = and_from (is_late x) (are_late xs) (ap is_late (eqb-true x 58 e)) k
     by_colon rest false e h k =
         let first : suc n ≡ 1 + n = omega arith in
         let second : suc (n + 1) ≡ 1 + n + 1 = omega arith in
@@ -86,7 +86,7 @@ colon_late (x ∷ xs) h k = by_colon (λ a b. colon_late xs a b) (x == 58) refl 
         subst (λ m. are_late (take m (x ∷ xs)) ≡ true) (sym first) h in
         let k' : are_late (drop (suc (n + 1)) (x ∷ xs)) ≡ true =
         subst (λ m. are_late (drop m (x ∷ xs)) ≡ true) (sym second) k in
-        both (is_late x) (are_late xs) (and_left (is_late x) (are_late (take n xs)) h')
+        and_from (is_late x) (are_late xs) (and_left (is_late x) (are_late (take n xs)) h')
         (rest (and_right (is_late x) (are_late (take n xs)) h') k')
 
 document_late : (w : List ℕ) → is_reference_of_document w ≡ true → are_late w ≡ true

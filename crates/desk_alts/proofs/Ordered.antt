@@ -1,5 +1,5 @@
 -- The items of a list in an order, each once; and those for which a fact holds.
-use Rattle.std.proofs.Common.{◌≡◌, ◌↔◌, ◌∙◌, inl, inr, List, [], ◌∷◌, sym, ap, subst, refl, arith}
+use Rattle.std.proofs.Common.{◌≡◌, ◌↔◌, ◌∙◌, inl, inr, List, [], ◌∷◌, sym, ap, subst, refl}
 use Rattle.std.specs.Prelude.{Contains}
 use Rattle.std.specs.Cmp.{IsTotalOrder}
 use Rattle.std.specs.FinMap.{IsAntisymmetric}
@@ -9,10 +9,8 @@ use Rattle.std.specs.declared.cmp.Ordering.{Ordering}
 use Rattle.std.specs.declared.cmp.Ordering.TheVariants.{Less, Equal, Greater}
 use Rattle.std.proofs.lemmas.Map.Keys.{sorted_tail}
 use Rattle.desk_alts.proofs.Decide.{Decided}
-use Rattle.desk_base.proofs.SortedOnce.{head_or_later, is_head, is_later, head_first, sorted_onto}
-
-none_listed : {K : Type 0} (q : K) → Contains [] q → ⊥
-none_listed q at = omega (arith, at.1)
+use Rattle.desk_base.proofs.SortedOnce.{is_head, is_later, head_first, sorted_onto}
+use Rattle.desk_base.proofs.Lists.{contains_cases, none_listed}
 
 module _ {K : Type 0} (R : K → K → Ordering) (total : IsTotalOrder R)
     (same : IsAntisymmetric R) where
@@ -24,7 +22,7 @@ module _ {K : Type 0} (R : K → K → Ordering) (total : IsTotalOrder R)
   below_all : (x y : K) (ys : List K) → R x y ≡ Less → IsStrictlySortedBy R (y ∷ ys) → (z : K)
       → Contains (y ∷ ys) z → R x z ≡ Less
   below_all x y ys less up z at =
-      elim (head_or_later y ys z at) [
+      elim (contains_cases y ys z at) [
         | inl is ↦ ap (R x) (sym is) ∙ less
         | inr later ↦ total.trans x y z less (head_first R total y z ys up later)
       ]
@@ -41,7 +39,7 @@ module _ {K : Type 0} (R : K → K → Ordering) (total : IsTotalOrder R)
     up,
     λ q. (
       (λ at. is_later x (y ∷ ys) q at),
-      (λ at. elim (head_or_later x (y ∷ ys) q at) [
+      (λ at. elim (contains_cases x (y ∷ ys) q at) [
         | inl own ↦ subst (Contains (y ∷ ys)) (sym (same x y is) ∙ own) (is_head y ys)
         | inr later ↦ later
       ]),
@@ -50,22 +48,22 @@ module _ {K : Type 0} (R : K → K → Ordering) (total : IsTotalOrder R)
   insert_by x y ys Greater is up rest = (
     y ∷ rest.0,
     sorted_onto R y rest.0 rest.1
-        (λ z at. elim (head_or_later x ys z ((rest.2 z).0 at)) [
+        (λ z at. elim (contains_cases x ys z ((rest.2 z).0 at)) [
           | inl own ↦ ap (R y) (sym own) ∙ (total.antisymm y x ∙ ap ordering_reverse is)
           | inr later ↦ head_first R total y z ys up later
         ]),
     λ q. (
-      (λ at. elim (head_or_later y rest.0 q at) [
+      (λ at. elim (contains_cases y rest.0 q at) [
         | inl own ↦ is_later x (y ∷ ys) q (subst (Contains (y ∷ ys)) own (is_head y ys))
-        | inr inside ↦ elim (head_or_later x ys q ((rest.2 q).0 inside)) [
+        | inr inside ↦ elim (contains_cases x ys q ((rest.2 q).0 inside)) [
           | inl own ↦ subst (Contains (x ∷ y ∷ ys)) own (is_head x (y ∷ ys))
           | inr later ↦ is_later x (y ∷ ys) q (is_later y ys q later)
         ]
       ]),
-      (λ at. elim (head_or_later x (y ∷ ys) q at) [
+      (λ at. elim (contains_cases x (y ∷ ys) q at) [
         | inl own ↦ is_later y rest.0 q
             ((rest.2 q).1 (subst (Contains (x ∷ ys)) own (is_head x ys)))
-        | inr inside ↦ elim (head_or_later y ys q inside) [
+        | inr inside ↦ elim (contains_cases y ys q inside) [
           | inl own ↦ subst (Contains (y ∷ rest.0)) own (is_head y rest.0)
           | inr later ↦ is_later y rest.0 q ((rest.2 q).1 (is_later x ys q later))
         ]
@@ -84,7 +82,7 @@ module _ {K : Type 0} (R : K → K → Ordering) (total : IsTotalOrder R)
   same_head : (x : K) (xs ys : List K) → ((q : K) → Contains ys q → Contains xs q) → (q : K)
       → Contains (x ∷ ys) q → Contains (x ∷ xs) q
   same_head x xs ys sub q at =
-      elim (head_or_later x ys q at) [
+      elim (contains_cases x ys q at) [
         | inl own ↦ subst (Contains (x ∷ xs)) own (is_head x xs)
         | inr later ↦ is_later x xs q (sub q later)
       ]
@@ -118,11 +116,11 @@ having P known (x ∷ xs) =
       | inl holds ↦ (
         x ∷ rest.0,
         λ q. (
-          (λ at. elim (head_or_later x rest.0 q at) [
+          (λ at. elim (contains_cases x rest.0 q at) [
             | inl own ↦ (subst (Contains (x ∷ xs)) own (is_head x xs), subst P own holds)
             | inr later ↦ let old = (rest.1 q).0 later in (is_later x xs q old.0, old.1)
           ]),
-          (λ h. elim (head_or_later x xs q h.0) [
+          (λ h. elim (contains_cases x xs q h.0) [
             | inl own ↦ subst (Contains (x ∷ rest.0)) own (is_head x rest.0)
             | inr later ↦ is_later x rest.0 q ((rest.1 q).1 (later, h.1))
           ]),
@@ -132,7 +130,7 @@ having P known (x ∷ xs) =
         rest.0,
         λ q. (
           (λ at. let old = (rest.1 q).0 at in (is_later x xs q old.0, old.1)),
-          (λ h. elim (head_or_later x xs q h.0) [
+          (λ h. elim (contains_cases x xs q h.0) [
             | inl own ↦ absurd (fails (subst P (sym own) h.1))
             | inr later ↦ (rest.1 q).1 (later, h.1)
           ]),

@@ -10,10 +10,11 @@ use Rattle.std.proofs.lemmas.Option.{slice_get_within, get_or_from_slice_get}
 use Rattle.std.proofs.lemmas.Bool.{cases_eq}
 use Rattle.std.proofs.str.Laws.{order}
 use Rattle.desk_base.proofs.SortedOnce.{sorted_onto, not_below_own, not_both, head_first, same_sorted}
+use Rattle.desk_base.proofs.SortedOnce.{is_later}
 use Rattle.desk_expr.specs.contracts.term.TermOrd.TheImpl.Laws.{total-law}
 use Rattle.desk_expr.specs.declared.term.Term.{Term}
 use Rattle.desk_expr.specs.Occurring.{term_order}
-use Rattle.desk_alts.proofs.SameTerms.{contains_here, contains_there}
+use Rattle.desk_alts.proofs.SameTerms.{contains_here}
 use Rattle.desk_alts.specs.Sets.{IsTermSet}
 
 pub not_below_itself : (t : Term) → term_order t t ≡ Less → ⊥
@@ -48,7 +49,7 @@ sorted_pushed (x ∷ xs) y up below = (
       (All-push (λ z. term_order x z ≡ Less) xs y
       (All-from_recursion (λ z. term_order x z ≡ Less) xs up.0)
       (below x (contains_here x xs x refl))),
-  sorted_pushed xs y up.1 (λ z at. below z (contains_there x xs z at)),
+  sorted_pushed xs y up.1 (λ z at. below z (is_later x xs z at)),
 )
 
 -- no term is at two places

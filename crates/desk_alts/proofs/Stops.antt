@@ -5,6 +5,7 @@ use Rattle.std.specs.Prelude.{slice_get}
 use Rattle.std.proofs.lemmas.List.{take_all}
 use Rattle.desk_base.specs.Limits as limit
 use Rattle.desk_base.specs.declared.profile.Profile.{Profile}
+use Rattle.desk_base.proofs.Lists.{item_at}
 use Rattle.desk_expr.specs.declared.fault.ParseFault.{ParseFault}
 use Rattle.desk_expr.specs.declared.fault.ParseFault.TheVariants.{Empty, BadToken, Unexpected}
 use Rattle.desk_expr.specs.declared.fault.ParseFault.TheVariants.{Unclosed, TooDeep, TooLong}
@@ -23,11 +24,6 @@ use Rattle.desk_alts.proofs.Decide.{Decided, SomeOrNone, decided_le, first_below
 bad_or_not : (k : Kind) → Decided (k ≡ kind.Bad)
 bad_or_not kind.Bad = inl refl
 bad_or_not k = inr (λ e. cc)
-
-place_at : (places : List ℕ) (k : ℕ) → k < length places → (p : ℕ) × (slice_get places k ≡ Some p)
-place_at [] k within = absurd (omega arith)
-place_at (p ∷ places) zero within = (p, refl)
-place_at (p ∷ places) (suc k) within = place_at places k (omega arith)
 
 module _ {A : Type 0} (Language : List Symbol → A → Type 0)
     (begins_or_not : (ss : List Symbol) → Decided (Begins Language ss))
@@ -141,7 +137,7 @@ module _ {A : Type 0} (Language : List Symbol → A → Type 0)
     last_open ts zero a h none = absurd (none a
         (subst (λ l. Language l a) (append-nil (symbols ts)) h))
     last_open ts (suc n) a h none = let few = few_close ts (suc n) a h in
-        place_at (still_open ts) (length (still_open ts) - 1) (omega arith)
+        item_at (still_open ts) (length (still_open ts) - 1) (omega arith)
 
     at_end : (t : Lexeme) (behind : List Lexeme) → AreTokensBy profile 0 text (t ∷ behind)
         → AllFronts (Stands Language) (t ∷ behind)

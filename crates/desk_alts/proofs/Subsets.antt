@@ -8,14 +8,15 @@ use Rattle.desk_expr.specs.Meaning.{IsSubset}
 use Rattle.desk_expr.specs.Occurring.{term_order}
 use Rattle.desk_alts.specs.Sets.{IsTermSet}
 use Rattle.desk_alts.proofs.CostLemmas.{head_cases}
-use Rattle.desk_base.proofs.SortedOnce.{head_or_later, is_head, is_later}
+use Rattle.desk_base.proofs.SortedOnce.{is_head, is_later}
+use Rattle.desk_base.proofs.Lists.{contains_cases}
 use Rattle.desk_alts.proofs.SetLemmas.{head_below, sorted_none, sorted_consed}
 
 mapped : {X Y : Type 0} (f : X → Y) (xs : List X) (x : X) → Contains xs x
     → Contains (map f xs) (f x)
 mapped f [] x at = absurd (omega (arith, at.1))
 mapped f (y ∷ ys) x at =
-    elim (head_or_later y ys x at) [
+    elim (contains_cases y ys x at) [
       | inl is ↦ subst (λ z. Contains (f y ∷ map f ys) (f z)) is (is_head (f y) (map f ys))
       | inr later ↦ is_later (f y) (map f ys) (f x) (mapped f ys x later)
     ]
@@ -24,7 +25,7 @@ from_mapped : {X Y : Type 0} (f : X → Y) (xs : List X) (z : Y) → Contains (m
     → (x : X) × Contains xs x × (f x ≡ z)
 from_mapped f [] z at = absurd (omega (arith, at.1))
 from_mapped f (y ∷ ys) z at =
-    elim (head_or_later (f y) (map f ys) z at) [
+    elim (contains_cases (f y) (map f ys) z at) [
       | inl is ↦ (y, is_head y ys, is)
       | inr later ↦ let rest = from_mapped f ys z later in
           (rest.0, is_later y ys rest.0 rest.1, rest.2)
@@ -43,7 +44,7 @@ with_first : (t : Term) (ts r : List Term) → IsTermSet (t ∷ ts) → IsTermSe
     → IsTermSet (t ∷ r) × IsSubset (t ∷ r) (t ∷ ts)
 with_first t ts r up own = (
   sorted_consed t r own.0 (λ y at. head_below t y ts up (own.1 y at)),
-  λ u at. elim (head_or_later t r u at) [
+  λ u at. elim (contains_cases t r u at) [
     | inl is ↦ subst (Contains (t ∷ ts)) is (is_head t ts)
     | inr later ↦ is_later t ts u (own.1 u later)
   ],
@@ -85,7 +86,7 @@ pub subsets : (ts : List Term) → IsTermSet ts
 subsets [] up = (
   [] ∷ [],
   λ s. (
-    (λ at. elim (head_or_later [] [] s at) [
+    (λ at. elim (contains_cases [] [] s at) [
       | inl is ↦ subst (λ (l : List Term). IsTermSet l × IsSubset l []) is (sorted_none, λ t h. h)
       | inr later ↦ absurd (omega (arith, later.1))
     ]),

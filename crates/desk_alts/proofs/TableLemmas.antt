@@ -1,6 +1,6 @@
 -- What a binary search in a strictly sorted list of terms finds.
-use Rattle.std.proofs.Common.{◌≡◌, ◌∙◌, ⊎_elim, ℕ, ◌+◌, true, List, length, get_or, sym, ap, subst}
-use Rattle.std.proofs.Common.{refl, arith, rules, Option, Some, Result, Ok, Err}
+use Rattle.std.proofs.Common.{◌≡◌, ◌∙◌, ⊎_elim, ℕ, ◌+◌, List, length, get_or, sym, ap, subst}
+use Rattle.std.proofs.Common.{refl, arith, Option, Some, Result, Ok, Err}
 use Rattle.std.specs.Prelude.{slice_get, Contains, IfSome, IfNone}
 use Rattle.std.specs.Result.{result_ok}
 use Rattle.std.specs.Ordering.{is_lt, is_eq, ordering_reverse}
@@ -12,18 +12,15 @@ use Rattle.std.proofs.lemmas.Map.Keys.{Less-from_sorted}
 use Rattle.std.proofs.lemmas.Option.{slice_get_read}
 use Rattle.std.proofs.str.Laws.{order}
 use Rattle.desk_expr.specs.contracts.term.TermOrd.TheImpl.Laws.{total-law, matches_eq-law}
-use Rattle.desk_expr.specs.contracts.term.TermPartialEq.TheImpl.{ghosts}
 use Rattle.desk_expr.specs.declared.term.Term.{Term}
 use Rattle.desk_expr.specs.Occurring.{term_order}
-
-same : (x y : Term) → ghosts.eq x y ≡ true → x ≡ y
-same x y h = search rules
+use Rattle.desk_expr.proofs.TermLemmas.{equal_terms}
 
 -- terms that tie are equal
 pub same_rank : (x y : Term) → term_order x y ≡ Equal → x ≡ y
-same_rank x y tie = same x y (matches_eq-law x y ∙ ap is_eq tie)
+same_rank x y tie = equal_terms x y (matches_eq-law x y ∙ ap is_eq tie)
 
-own_rank : (r : Ordering) → r ≡ ordering_reverse r → r ≡ Equal
+pub own_rank : (r : Ordering) → r ≡ ordering_reverse r → r ≡ Equal
 own_rank Less e = absurd (cc)
 own_rank Equal e = refl
 own_rank Greater e = absurd (cc)

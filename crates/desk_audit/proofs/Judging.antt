@@ -1,11 +1,12 @@
 -- Judges rows one by one by the conditions of an audit.
 use Rattle.std.proofs.Common.{◌≡◌, ℕ, ◌+◌, Bool, true, false, List, [], ◌∷◌, map, filter, Some, None, refl, sym}
+use Rattle.std.proofs.lemmas.Bool.{and_from}
 use Rattle.std.specs.Prelude.{ℤ, pos, ◌&&◌}
 use Rattle.std.specs.List.{list_all, AllByRecursion}
 use Rattle.std.specs.Ordering.{int_eq}
 use Rattle.std.specs.Cmp.{signed_Decides}
 use Rattle.std.specs.Prelude.{nat_le, length, MatchBool}
-use Rattle.desk_base.proofs.Bools.{and_left, and_right, both, contrary}
+use Rattle.desk_base.proofs.Bools.{and_left, and_right, contrary}
 use Rattle.desk_snapshot.specs.Conditions.{AreChanges, AreNumbered, was_frozen}
 use Rattle.desk_snapshot.specs.Changes.{AreChangesOf, are_moves, go_on, is_formed, is_raising}
 use Rattle.desk_snapshot.specs.Changes.{is_waived, is_within, last_change, leaves}
@@ -33,7 +34,8 @@ pub to_count : (n : ℕ) (rows : List StoredDuty) → AreFrom n (map (λ row. ro
     → count_from n rows ≡ true
 to_count n [] h = refl
 to_count n (row ∷ rows) h =
-    both (int_eq row.number (pos n)) (count_from (n + 1) rows) (number_same row.number (pos n) h.0)
+    and_from (int_eq row.number (pos n)) (count_from (n + 1) rows)
+    (number_same row.number (pos n) h.0)
     (to_count (n + 1) rows h.1)
 
 module _ (s : Snapshot) (state : List ℕ) where
@@ -61,9 +63,9 @@ module _ (s : Snapshot) (state : List ℕ) where
               (is_formed row && follows s (Some before) row) here),
           more.steps,
         );
-        formed = both (is_formed row) (list_all is_formed rows)
+        formed = and_from (is_formed row) (list_all is_formed rows)
             (and_left (is_formed row) (follows s (Some before) row) rest) more.formed;
-        goes = both (follows s (Some before) row) (go_on s row rows)
+        goes = and_from (follows s (Some before) row) (go_on s row rows)
             (and_right (is_formed row) (follows s (Some before) row) rest) more.goes;
         ends = more.ends;
       }
@@ -72,12 +74,12 @@ module _ (s : Snapshot) (state : List ℕ) where
       → lead s state (Some before) n rows ≡ true
   led before n [] h = h.ends
   led before n (row ∷ rows) h =
-      let next = both (int_eq row.step (pos n)) (is_formed row && follows s (Some before) row)
+      let next = and_from (int_eq row.step (pos n)) (is_formed row && follows s (Some before) row)
       (number_same row.step (pos n) h.steps.0)
-      (both (is_formed row) (follows s (Some before) row)
+      (and_from (is_formed row) (follows s (Some before) row)
       (and_left (is_formed row) (list_all is_formed rows) h.formed)
       (and_left (follows s (Some before) row) (go_on s row rows) h.goes)) in
-      both (is_next s (Some before) n row) (lead s state (Some row) (n + 1) rows) next
+      and_from (is_next s (Some before) n row) (lead s state (Some row) (n + 1) rows) next
       (led row (n + 1) rows (record {
         steps = h.steps.1;
         formed = and_right (is_formed row) (list_all is_formed rows) h.formed;
@@ -107,11 +109,11 @@ to_moves s state (row ∷ rows) e =
             (is_formed row && is_raising row) here),
         more.steps,
       );
-      formed = both (is_formed row) (list_all is_formed rows)
+      formed = and_from (is_formed row) (list_all is_formed rows)
           (and_left (is_formed row) (is_raising row) rest) more.formed;
-      moves = both (is_raising row) (go_on s row rows && leaves state (last_change row rows))
+      moves = and_from (is_raising row) (go_on s row rows && leaves state (last_change row rows))
           (and_right (is_formed row) (is_raising row) rest)
-          (both (go_on s row rows) (leaves state (last_change row rows)) more.goes more.ends);
+          (and_from (go_on s row rows) (leaves state (last_change row rows)) more.goes more.ends);
     }
 
 from_moves : (s : Snapshot) (state : List ℕ) (rows : List StoredChange) → AreMoves s state rows
@@ -120,13 +122,13 @@ from_moves s state [] h = h.moves
 from_moves s state (row ∷ rows) h =
     let later = and_right (is_raising row) (go_on s row rows && leaves state (last_change row rows))
     h.moves in
-    let next = both (int_eq row.step (pos 1)) (is_formed row && is_raising row)
+    let next = and_from (int_eq row.step (pos 1)) (is_formed row && is_raising row)
     (number_same row.step (pos 1) h.steps.0)
-    (both (is_formed row) (is_raising row)
+    (and_from (is_formed row) (is_raising row)
     (and_left (is_formed row) (list_all is_formed rows) h.formed)
     (and_left (is_raising row) (go_on s row rows && leaves state (last_change row rows))
     h.moves)) in
-    both (is_next s None 1 row) (lead s state (Some row) 2 rows) next
+    and_from (is_next s None 1 row) (lead s state (Some row) 2 rows) next
     (led s state row 2 rows (record {
       steps = h.steps.1;
       formed = and_right (is_formed row) (list_all is_formed rows) h.formed;
@@ -151,7 +153,7 @@ pub led_each : (s : Snapshot) (duties : List StoredDuty) → AllByRecursion (Are
     → list_all (leads_to s) duties ≡ true
 led_each s [] h = refl
 led_each s (duty ∷ duties) h =
-    both (leads_to s duty) (list_all (leads_to s) duties)
+    and_from (leads_to s duty) (list_all (leads_to s) duties)
     (from_moves s duty.state (changes_of s duty)
     (record { steps = h.0.steps; formed = h.0.formed; moves = h.0.moves }))
     (led_each s duties h.1)

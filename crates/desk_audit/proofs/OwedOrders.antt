@@ -9,9 +9,10 @@ use Rattle.std.specs.Ordering.{nat_cmp, int_cmp, is_eq, is_lt, ordering_then}
 use Rattle.std.proofs.lemmas.Cmp.{tied_itself}
 use Rattle.std.proofs.lemmas.List.Sorted.{IsPermutation-map, IsPermutation-trans, IsPermutation-sym}
 use Rattle.std.proofs.lemmas.List.Sorted.{length_permutation, ranks_by}
-use Rattle.std.proofs.lemmas.Map.Text.{is_eq-slice_cmp}
-use Rattle.desk_base.proofs.Bools.{and_left, and_right, both, contrary}
-use Rattle.desk_base.proofs.Texts.{texts_equal}
+use Rattle.std.proofs.lemmas.Bool.{and_from}
+use Rattle.std.proofs.Math.Bool.{and-false}
+use Rattle.desk_base.proofs.Bools.{and_left, and_right, contrary}
+use Rattle.desk_base.proofs.Orders.{second_equal, texts_tie}
 use Rattle.desk_model.specs.Keys.{below_by}
 use Rattle.desk_model.specs.Lists.{ascends, over}
 use Rattle.desk_snapshot.specs.Conditions.{Owed}
@@ -26,14 +27,6 @@ then_left Less p e = cc
 then_left Equal p e = refl
 then_left Greater p e = cc
 
-then_right : (o p : Ordering) → ordering_then o p ≡ Equal → p ≡ Equal
-then_right Less p e = cc
-then_right Equal p e = e
-then_right Greater p e = cc
-
-same_text : (a b : List ℕ) → slice_cmp nat_cmp a b ≡ Equal → a ≡ b
-same_text a b e = texts_equal a b (sym (is_eq-slice_cmp a b) ∙ ap is_eq e)
-
 same_number : (m n : ℤ) → int_cmp m n ≡ Equal → m ≡ n
 same_number m n e = (signed_Decides m n).0 (ap is_eq e)
 
@@ -45,20 +38,20 @@ same_owed x y e =
     let terms = ordering_then (text x.term y.term) codes in
     let packages = ordering_then (text x.package_id y.package_id) terms in
     let documents = ordering_then (int_cmp x.document y.document) packages in
-    let e1 : documents ≡ Equal = then_right (text x.release y.release) documents e in
-    let e2 : packages ≡ Equal = then_right (int_cmp x.document y.document) packages e1 in
-    let e3 : terms ≡ Equal = then_right (text x.package_id y.package_id) terms e2 in
-    let e4 : codes ≡ Equal = then_right (text x.term y.term) codes e3 in
-    let e5 : rules ≡ Equal = then_right (text x.code y.code) rules e4 in
-    let release = same_text x.release y.release
+    let e1 : documents ≡ Equal = second_equal (text x.release y.release) documents e in
+    let e2 : packages ≡ Equal = second_equal (int_cmp x.document y.document) packages e1 in
+    let e3 : terms ≡ Equal = second_equal (text x.package_id y.package_id) terms e2 in
+    let e4 : codes ≡ Equal = second_equal (text x.term y.term) codes e3 in
+    let e5 : rules ≡ Equal = second_equal (text x.code y.code) rules e4 in
+    let release = texts_tie x.release y.release
     (then_left (text x.release y.release) documents e) in
     let document = same_number x.document y.document
     (then_left (int_cmp x.document y.document) packages e1) in
-    let package_id = same_text x.package_id y.package_id
+    let package_id = texts_tie x.package_id y.package_id
     (then_left (text x.package_id y.package_id) terms e2) in
-    let term = same_text x.term y.term (then_left (text x.term y.term) codes e3) in
-    let code = same_text x.code y.code (then_left (text x.code y.code) rules e4) in
-    let rule = same_text x.rule y.rule e5 in
+    let term = texts_tie x.term y.term (then_left (text x.term y.term) codes e3) in
+    let code = texts_tie x.code y.code (then_left (text x.code y.code) rules e4) in
+    let rule = texts_tie x.rule y.rule e5 in
     λ i. record {
       release = release i;
       document = document i;
@@ -95,14 +88,10 @@ same_alike (x ∷ xs) [] e = cc
 same_alike (x ∷ xs) (y ∷ ys) e =
     let here : owed_in x ≡ owed_in y = cc in
     let more : map owed_in xs ≡ map owed_in ys = cc in
-    both (is_eq (owed_order (owed_in x) (owed_in y))) (are_alike xs ys)
+    and_from (is_eq (owed_order (owed_in x) (owed_in y))) (are_alike xs ys)
     (ap (λ z. is_eq (owed_order z (owed_in y))) here
     ∙ ap is_eq (tied_itself owed_total (owed_in y)))
     (same_alike xs ys more)
-
-no_more : (b : Bool) → (b && false) ≡ false
-no_more true = refl
-no_more false = refl
 
 -- lists of different lengths
 pub uneven : (xs ys : List OwedFor) → (length xs ≡ length ys → ⊥) → are_alike xs ys ≡ false
@@ -111,7 +100,7 @@ uneven [] (y ∷ ys) h = refl
 uneven (x ∷ xs) [] h = refl
 uneven (x ∷ xs) (y ∷ ys) h =
     ap (λ b. is_eq (owed_order (owed_in x) (owed_in y)) && b) (uneven xs ys (λ e. h (ap suc e)))
-    ∙ no_more (is_eq (owed_order (owed_in x) (owed_in y)))
+    ∙ and-false (is_eq (owed_order (owed_in x) (owed_in y)))
 
 -- a sorted list of what is owed is in order
 

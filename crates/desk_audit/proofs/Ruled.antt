@@ -10,6 +10,8 @@ use Rattle.std.specs.Cmp.{IsTotalOrder}
 use Rattle.std.specs.Ordering.{is_lt, is_eq, ordering_reverse}
 use Rattle.std.proofs.lemmas.List.Elements.{filter_agree}
 use Rattle.std.proofs.lemmas.List.Sorted.{list_any-IsPermutation}
+use Rattle.desk_base.proofs.Orders.{equal_is, is_eq-reverse}
+use Rattle.desk_base.proofs.Lists.{found_passes}
 use Rattle.desk_model.specs.Keys.{below_by}
 use Rattle.desk_snapshot.specs.Rows.{is_rule_spelled}
 use Rattle.desk_snapshot.specs.declared.rows.StoredRule.{StoredRule}
@@ -25,20 +27,6 @@ first_kept {A} p (x ∷ xs) = go (p x) refl (first_kept p xs)
         → find p (x ∷ xs) ≡ slice_get (filter p (x ∷ xs)) 0
     go true e more = rw e refl
     go false e more = rw e more
-
-equal_of : (o : Ordering) → is_eq o ≡ true → o ≡ Equal
-equal_of Less e = cc
-equal_of Equal e = refl
-equal_of Greater e = cc
-
-found_passes : {A : Type 0} (p : A → Bool) (xs : List A) (x : A) → find p xs ≡ Some x → p x ≡ true
-found_passes p [] x e = cc
-found_passes {A} p (y ∷ ys) x e = go (p y) refl (λ f. found_passes p ys x f) e
-  where
-    go : (b : Bool) → p y ≡ b → (find p ys ≡ Some x → p x ≡ true)
-        → cond b (Some y) (find p ys) ≡ Some x → p x ≡ true
-    go true f more e = let one : y ≡ x = cc in ap p (sym one) ∙ f
-    go false f more e = more e
 
 none_passes : {A : Type 0} (p : A → Bool) (xs : List A) → find p xs ≡ None → list_any p xs ≡ false
 none_passes p [] e = refl
@@ -84,21 +72,16 @@ module _ {A : Type 0} (order : A → A → Ordering) (total : IsTotalOrder order
           (kept x here ys ∙ stable x ∙ sym (kept x here xs))
           ∙ sym (first_kept at xs) ∙ e
 
-is_eq-turned : (o : Ordering) → is_eq (ordering_reverse o) ≡ is_eq o
-is_eq-turned Less = refl
-is_eq-turned Equal = refl
-is_eq-turned Greater = refl
-
 spelled_alike : (revision : ℤ) (form spelled : List ℕ) (x y : RuleAt)
     → is_spelled revision form spelled x ≡ true
     → is_spelled revision form spelled y ≡ is_eq (spelled_order x y)
 spelled_alike revision form spelled x y e =
     let key : ℤ × List ℕ × List ℕ = (revision, form, spelled) in
     let here : spelling_cmp (spelling x) key ≡ Equal =
-    equal_of (spelling_cmp (spelling x) key) (sym (spelled_meets revision form spelled x) ∙ e) in
+    equal_is (spelling_cmp (spelling x) key) (sym (spelled_meets revision form spelled x) ∙ e) in
     spelled_meets revision form spelled y
     ∙ (ap is_eq (spelling_total.antisymm (spelling y) key)
-    ∙ is_eq-turned (spelling_cmp key (spelling y)))
+    ∙ is_eq-reverse (spelling_cmp key (spelling y)))
     ∙ sym (ap is_eq (spelling_total.congr (spelling x) key (spelling y) here))
 
 abbrev ruled : RuleAt → StoredRule

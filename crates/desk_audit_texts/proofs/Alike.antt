@@ -1,9 +1,10 @@
 -- Choices for one package in one release.
-use Rattle.std.proofs.Common.{◌≡◌, ◌∙◌, Bool, true, false, ◌&&◌, Option, Some, Bor, refl, sym, subst}
+use Rattle.std.proofs.Common.{◌≡◌, ◌∙◌, Bool, true, ◌&&◌, Option, Some, Bor, sym, subst}
 use Rattle.std.specs.Prelude.{IfSome}
 use Rattle.std.specs.Ordering.{int_eq}
 use Rattle.std.specs.Str.{bytes_eq}
 use Rattle.std.proofs.lemmas.Bool.Decides.{Decides-int_eq}
+use Rattle.std.proofs.lemmas.Bool.{and_parts}
 use Rattle.desk_base.proofs.Texts.{texts_equal}
 use Rattle.desk_model.specs.Readings.{Readings}
 use Rattle.desk_snapshot.specs.Conditions.{is_choice}
@@ -11,18 +12,14 @@ use Rattle.desk_snapshot.specs.Rows.{is_choice_of}
 use Rattle.desk_snapshot.specs.declared.rows.StoredChoice.{StoredChoice}
 use Rattle.desk_snapshot.specs.declared.snapshot.Snapshot.{Snapshot}
 
-both : (a b : Bool) → (a && b) ≡ true → (a ≡ true) × (b ≡ true)
-both true b is = (refl, is)
-both false b is = absurd (let wrong : false ≡ true = is in cc)
-
 -- the test of a choice depends only on its release, document and package
 pub alike : (w : Readings) (s : Snapshot) (before row : StoredChoice)
     → is_choice_of before.release before.document before.package_id row ≡ true
     → is_choice w s row ≡ is_choice w s before
 alike w s before row is =
-    let parts = both (bytes_eq row.release before.release)
+    let parts = and_parts (bytes_eq row.release before.release)
     (int_eq row.document before.document && bytes_eq row.package_id before.package_id) is in
-    let more = both (int_eq row.document before.document)
+    let more = and_parts (int_eq row.document before.document)
     (bytes_eq row.package_id before.package_id) parts.1 in
     let release : row.release ≡ before.release = texts_equal row.release before.release parts.0 in
     let document : row.document ≡ before.document =

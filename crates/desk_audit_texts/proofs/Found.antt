@@ -4,15 +4,7 @@ use Rattle.std.proofs.Common.{find, Option, Some, None, Bor, sym, ap, refl, leng
 use Rattle.std.proofs.Common.{arith, add-one}
 use Rattle.std.specs.List.{list_all, list_any}
 use Rattle.std.specs.Option.{is_some, option_copied}
-
-pub found_any : {X : Type 0} (p : X → Bool) (xs : List X) → is_some (find p xs) ≡ list_any p xs
-found_any p [] = refl
-found_any {X} p (x ∷ xs) = go (p x) refl (found_any p xs)
-  where
-    go : (b : Bool) → p x ≡ b → is_some (find p xs) ≡ list_any p xs
-        → is_some (find p (x ∷ xs)) ≡ list_any p (x ∷ xs)
-    go true is more = rw is refl
-    go false is more = rw is more
+use Rattle.desk_sorted.proofs.Walking.{find_any}
 
 some_copied : {X : Type 0} (found : Option (Bor X)) → is_some (option_copied found) ≡ is_some found
 some_copied None = refl
@@ -21,7 +13,7 @@ some_copied (Some x) = refl
 -- something was found if and only if something passes
 pub found_is_any : {X : Type 0} (p : X → Bool) (xs : List X) (found : Option (Bor X))
     → option_copied found ≡ find p xs → is_some found ≡ list_any p xs
-found_is_any p xs found is = sym (some_copied found) ∙ (ap is_some is ∙ found_any p xs)
+found_is_any p xs found is = sym (some_copied found) ∙ (ap is_some is ∙ find_any p xs)
 
 all_from : {X : Type 0} (p : X → Bool) (xs : List X) (i : ℕ) (x : X) → i < length xs
     → p (get_or xs i x) ≡ true → list_all p (drop (i + 1) xs) ≡ list_all p (drop i xs)

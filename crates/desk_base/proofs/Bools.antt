@@ -10,10 +10,6 @@ pub and_right : (a b : Bool) → (a && b) ≡ true → b ≡ true
 and_right true b e = e
 and_right false b e = cc
 
-pub both : (a b : Bool) → a ≡ true → b ≡ true → (a && b) ≡ true
-both true b e f = f
-both false b e f = e
-
 pub or_left : (a b : Bool) → (a || b) ≡ false → a ≡ false
 or_left true b e = e
 or_left false b e = refl
@@ -21,10 +17,6 @@ or_left false b e = refl
 pub or_right : (a b : Bool) → (a || b) ≡ false → b ≡ false
 or_right true b e = cc
 or_right false b e = e
-
-pub not_true : (b : Bool) → not b ≡ true → b ≡ false
-not_true true e = cc
-not_true false e = refl
 
 pub contrary : (b : Bool) → b ≡ true → b ≡ false → ⊥
 contrary true e f = cc
@@ -43,6 +35,12 @@ same_answer false false there back = refl
 pub cond_or : (b c : Bool) → cond b true c ≡ (b || c)
 cond_or true c = refl
 cond_or false c = refl
+
+pub cond_or_turned : (b c : Bool) → cond b true c ≡ (c || b)
+cond_or_turned true true = refl
+cond_or_turned true false = refl
+cond_or_turned false true = refl
+cond_or_turned false false = refl
 
 pub or_moves : (a b c : Bool) → (b || (a || c)) ≡ ((a || b) || c)
 or_moves true true c = refl

@@ -2,6 +2,8 @@ pub mod IdstringLemmas
 pub mod LinesOnce
 pub mod Bools
 pub mod Days
+pub mod Lists
+pub mod Orders
 pub mod Numbers
 pub mod Texts
 pub mod Pieces

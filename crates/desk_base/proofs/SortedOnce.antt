@@ -1,5 +1,6 @@
 -- Two strictly sorted lists of the same items are equal.
-use Rattle.std.proofs.Common.{◌≡◌, ◌↔◌, ◌∙◌, ◌⊎◌, inl, inr, zero, suc, List, [], ◌∷◌, get_or, sym, ap, ap₂, refl, arith}
+use Rattle.std.proofs.Common.{◌≡◌, ◌↔◌, ◌∙◌, inl, inr, zero, suc, List, [], ◌∷◌, get_or, sym, ap}
+use Rattle.std.proofs.Common.{ap₂, refl, arith}
 use Rattle.std.specs.Prelude.{Contains}
 use Rattle.std.specs.List.Sorted.{IsStrictlySortedBy}
 use Rattle.std.specs.Cmp.{IsTotalOrder}
@@ -8,11 +9,7 @@ use Rattle.std.specs.Ordering.{ordering_reverse}
 use Rattle.std.specs.declared.cmp.Ordering.TheVariants.{Less}
 use Rattle.std.proofs.lemmas.List.Elements.{recursion_from_All, All-from_get_or, Contains-get_or}
 use Rattle.std.proofs.lemmas.Map.Keys.{Less-from_sorted, sorted_tail}
-
-pub head_or_later : {K : Type 0} (x : K) (xs : List K) (q : K) → Contains (x ∷ xs) q
-    → (x ≡ q) ⊎ Contains xs q
-head_or_later x xs q (zero, within, is) = inl is
-head_or_later x xs q (suc k, within, is) = inr (k, omega arith, is)
+use Rattle.desk_base.proofs.Lists.{contains_cases}
 
 pub is_head : {K : Type 0} (x : K) (xs : List K) → Contains (x ∷ xs) x
 is_head x xs = (zero, omega arith, refl)
@@ -60,9 +57,9 @@ module _ {K : Type 0} (R : K → K → Ordering) (o : IsTotalOrder R) where
       omega (arith, at.1))
   same_sorted (x ∷ xs) (y ∷ ys) up up' same =
       let head : x ≡ y =
-      elim (head_or_later y ys x ((same x).0 (is_head x xs))) [
+      elim (contains_cases y ys x ((same x).0 (is_head x xs))) [
         | inl is ↦ sym is
-        | inr later ↦ elim (head_or_later x xs y ((same y).1 (is_head y ys))) [
+        | inr later ↦ elim (contains_cases x xs y ((same y).1 (is_head y ys))) [
           | inl is ↦ is
           | inr late ↦ absurd (not_both x y (head_first x y xs up late)
               (head_first y x ys up' later))
@@ -70,12 +67,12 @@ module _ {K : Type 0} (R : K → K → Ordering) (o : IsTotalOrder R) where
       ] in
       let tails : xs ≡ ys = same_sorted xs ys (sorted_tail R x xs up) (sorted_tail R y ys up')
       (λ t. (
-        (λ at. elim (head_or_later y ys t ((same t).0 (is_later x xs t at))) [
+        (λ at. elim (contains_cases y ys t ((same t).0 (is_later x xs t at))) [
           | inl is ↦ absurd (not_below_own t
               (ap (λ z. R z t) (sym is ∙ sym head) ∙ head_first x t xs up at))
           | inr later ↦ later
         ]),
-        (λ at. elim (head_or_later x xs t ((same t).1 (is_later y ys t at))) [
+        (λ at. elim (contains_cases x xs t ((same t).1 (is_later y ys t at))) [
           | inl is ↦ absurd (not_below_own t
               (ap (λ z. R z t) (sym is ∙ head) ∙ head_first y t ys up' at))
           | inr later ↦ later

@@ -2,6 +2,7 @@
 use Rattle.std.proofs.Common.{◌≡◌, ◌≢◌, ℕ, Bool, true, false, List, refl, inl, inr}
 use Rattle.std.specs.Prelude.{◌⊎◌}
 use Rattle.std.specs.Str.{bytes_eq}
+use Rattle.std.proofs.lemmas.Cmp.{nat_list_eq_equiv}
 use Rattle.std.proofs.lemmas.Slice.Eq.{bytes_eq-Decides}
 
 -- a test of two texts says whether they are the same
@@ -23,3 +24,6 @@ texts_equal a b e = (bytes_eq-Decides a b).0 e
 
 pub same_text : (a : List ℕ) → bytes_eq a a ≡ true
 same_text a = (bytes_eq-Decides a a).1 refl
+
+pub texts_turned : (a b : List ℕ) → bytes_eq a b ≡ bytes_eq b a
+texts_turned a b = nat_list_eq_equiv.symm a b

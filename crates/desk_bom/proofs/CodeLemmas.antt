@@ -11,7 +11,7 @@ use Rattle.std.proofs.lemmas.Str.Pattern.{ends_text}
 use denote.Ref.{Bor}
 use Rattle.std.specs.Char.{to_ascii_lowercase}
 use Rattle.std.proofs.lemmas.Str.{IsCharBoundary-after_ascii}
-use Rattle.std.proofs.lemmas.Bool.{leb-true}
+use Rattle.std.proofs.lemmas.Bool.{leb-true, and_right}
 use Rattle.std.proofs.lemmas.Bool.Decides.{nat_tests}
 use Rattle.std.proofs.lemmas.List.Folds.{list_all_at}
 use Rattle.std.proofs.Common.{zero, suc, ◌/◌, ◌%◌, lit<, length-take, get_or-take}
@@ -28,14 +28,10 @@ use Rattle.desk_bom.specs.Contents.{AreFilesOf}
 use Rattle.desk_bom.specs.declared.state.CodeState.{CodeState}
 use Rattle.desk_bom.specs.declared.state.CodeState.TheVariants.{Absent, Unchecked, Agrees, Differs}
 
-false_and : (a b : Bool) → b ≡ false → (a && b) ≡ false
-false_and true b h = h
-false_and false b h = refl
-
 pub not_list : (text rest : List ℕ) (r : Option (Bor (List ℕ))) → rest ≡ drop 1 text
     → MatchOption r (FindsTextSuffix (codes ")") rest None)
     (λ x. StripsSuffix (FindsTextSuffix (codes ")")) rest x.now) → IfNone r (is_list text ≡ false)
-not_list text rest None is h = false_and (starts_with eqb text (codes "("))
+not_list text rest None is h = and_right (starts_with eqb text (codes "("))
     (ends_with eqb (drop 1 text) (codes ")"))
     (ap (λ l. ends_with eqb l (codes ")")) (sym is) ∙ sym (ends_text false (codes ")") rest h))
 not_list text rest (Some x) is h = tt

@@ -1,5 +1,5 @@
 -- A walk from some places along arrows.
-use Rattle.std.proofs.Common.{◌≡◌, ◌∙◌, ◌⊎◌, inl, inr, ⊎_elim, eq-eqb, ℕ, ◌+◌, ◌<◌, ◌≤◌, Bool, true}
+use Rattle.std.proofs.Common.{◌≡◌, ◌∙◌, ◌⊎◌, ⊎_elim, eq-eqb, ℕ, ◌+◌, ◌<◌, ◌≤◌, Bool, true}
 use Rattle.std.proofs.Common.{false, cond, List, [], ◌∷◌, ◌++◌, length, drop, get_or, ap, sym, refl}
 use Rattle.std.proofs.Common.{subst, arith, append_assoc, append-nil}
 use Rattle.std.specs.Prelude.{◌||◌, ◌==◌, map, Contains, All}
@@ -7,8 +7,11 @@ use Rattle.std.specs.List.Sorted.{IsPermutation}
 use Rattle.std.proofs.lemmas.List.Sorted.{IsPermutation-sym, Contains-permutation}
 use Rattle.std.proofs.lemmas.List.{drop_more, drop_all, drop-append-le, get_or-map, length-map}
 use Rattle.std.proofs.lemmas.List.Elements.{Contains-append_right, Contains-get_or, All-contains}
-use Rattle.std.proofs.lemmas.Bool.{eqb-true}
+use Rattle.std.proofs.lemmas.Bool.{or_cases, or_left, or_right}
 use Rattle.std.proofs.lemmas.List.Folds.{list_any-append, list_any_at}
+use Rattle.std.proofs.Math.Bool.{or-false}
+use Rattle.desk_base.proofs.Numbers.{numbers_equal}
+use Rattle.desk_base.proofs.SortedOnce.{is_head}
 use Rattle.desk_bom.specs.declared.arrows.Arrow.{Arrow}
 use Rattle.desk_bom.specs.Marks.{among, added, added_all, IsClosedFrom, IsLeastFrom}
 use Rattle.desk_bom.specs.Targets.{AreTargets}
@@ -22,28 +25,9 @@ pub record Walks (start : ℕ → Bool) (arrows : List Arrow) (order : List ℕ)
   pub least : (other : ℕ → Bool) → IsClosedFrom start arrows other → (a : ℕ) → among order a ≡ true
       → other a ≡ true
 
-or_cases : (a b : Bool) → (a || b) ≡ true → (a ≡ true) ⊎ (b ≡ true)
-or_cases true b h = inl refl
-or_cases false b h = inr h
-
-or_left : (a b : Bool) → a ≡ true → (a || b) ≡ true
-or_left true b h = refl
-or_left false b h = absurd cc
-
-or_right : (a b : Bool) → b ≡ true → (a || b) ≡ true
-or_right true b h = refl
-or_right false b h = h
-
-or_false : (a : Bool) → (a || false) ≡ a
-or_false true = refl
-or_false false = refl
-
 or_assoc : (a b c : Bool) → ((a || b) || c) ≡ (a || (b || c))
 or_assoc true b c = refl
 or_assoc false b c = refl
-
-same_place : (a b : ℕ) → (a == b) ≡ true → a ≡ b
-same_place a b h = eqb-true a b h
 
 pub among-added : (a b : ℕ) (places : List ℕ)
     → among (added a places) b ≡ (among places b || a == b)
@@ -51,20 +35,20 @@ among-added a b places = at (among places a) refl
   where
     there : (e : Bool) → (a == b) ≡ e → among places a ≡ true
         → among places b ≡ (among places b || e)
-    there true is h = let s : a ≡ b = same_place a b is in
+    there true is h = let s : a ≡ b = numbers_equal a b is in
         let t : among places b ≡ true = subst (λ q. among places q ≡ true) s h in t
         ∙ sym (or_right (among places b) true refl)
-    there false is h = sym (or_false (among places b))
+    there false is h = sym (or-false (among places b))
 
     at : (v : Bool) → among places a ≡ v
         → among (cond v places (places ++ a ∷ [])) b ≡ (among places b || a == b)
     at true h = there (a == b) refl h
     at false h = list_any-append (λ c. c == b) places (a ∷ [])
-        ∙ ap (λ v. among places b || v) (or_false (a == b))
+        ∙ ap (λ v. among places b || v) (or-false (a == b))
 
 pub among-added_all : (more places : List ℕ) (b : ℕ)
     → among (added_all more places) b ≡ (among places b || among more b)
-among-added_all [] places b = sym (or_false (among places b))
+among-added_all [] places b = sym (or-false (among places b))
 among-added_all (a ∷ more) places b =
     among-added_all more (added a places) b ∙ ap (λ v. v || among more b) (among-added a b places)
     ∙ or_assoc (among places b) (a == b) (among more b)
@@ -85,9 +69,6 @@ added_all_grows (a ∷ more) places =
     let rest = added_all_grows more (added a places) in
     (one.0 ++ rest.0, rest.1 ∙ ap (λ l. l ++ rest.0) one.1 ∙ append_assoc places one.0 rest.0)
 
-contains_head : {X : Type 0} (x : X) (xs : List X) → Contains (x ∷ xs) x
-contains_head x xs = (0, omega arith, refl)
-
 contains_tail : {X : Type 0} (x y : X) (xs : List X) → Contains xs x → Contains (y ∷ xs) x
 contains_tail x y xs h = Contains-append_right (y ∷ []) xs x h
 
@@ -96,7 +77,7 @@ among_to : (ts : List Arrow) (a : ℕ) → among (map (λ x. x.to) ts) a ≡ tru
     → (x : Arrow) × Contains ts x × (x.to ≡ a)
 among_to [] a h = absurd cc
 among_to (t ∷ ts) a h =
-    ⊎_elim (λ e. (t, contains_head t ts, same_place t.to a e))
+    ⊎_elim (λ e. (t, is_head t ts, numbers_equal t.to a e))
     (λ e. let r = among_to ts a e in (r.0, contains_tail r.0 t ts r.1, r.2))
     (or_cases (t.to == a) (among (map (λ x. x.to) ts) a) h)
 
@@ -162,7 +143,7 @@ module _ (start : ℕ → Bool) (arrows : List Arrow) (order : List ℕ) (done p
       ap (λ b. b == x.from || among (drop (done + 1) order) x.from) is
       ∙ ap (λ l. among l x.from) (sym (drop_more order done place inside)) ∙ h in
       ⊎_elim (λ e. or_left _ _ (target_comes x
-      (targets.all x there (sym (same_place place x.from e)))))
+      (targets.all x there (sym (numbers_equal place x.from e)))))
       (λ e. or_right (among reached x.to) _ (old_waits x.from e)) (or_cases _ _ split)
 
   walks_within : (x : Arrow) → Contains arrows x → among reached x.from ≡ true
@@ -222,7 +203,7 @@ pub walks_all : (start : ℕ → Bool) (arrows : List Arrow) (order : List ℕ) 
 walks_all start arrows order done past w = record {
   closed = record {
     starts = w.starts;
-    arrows_within = λ x there h. sym (or_false (among order x.to))
+    arrows_within = λ x there h. sym (or-false (among order x.to))
         ∙ subst (λ l. (among order x.to || among l x.from) ≡ true) (drop_all done order past)
         (w.within x there h);
   };

@@ -1,9 +1,9 @@
 -- Rules in their places.
-use Rattle.std.proofs.Common.{◌≡◌, ◌∙◌, inl, inr, ℕ, Bool, true, false, cond, List, [], ◌∷◌}
+use Rattle.std.proofs.Common.{◌≡◌, ◌∙◌, Bool, true, false, cond, List, [], ◌∷◌}
 use Rattle.std.proofs.Common.{map, Option, Some, sym, ap, refl, Ordering, Less, Equal, Greater}
-use Rattle.std.proofs.Common.{nat_cmp, is_eq, subst}
+use Rattle.std.proofs.Common.{nat_cmp, is_eq}
 use Rattle.std.specs.Prelude.{◌&&◌, ◌||◌, not, is_some}
-use Rattle.std.specs.Ordering.{on, then_cmp, match_ordering, ordering_then}
+use Rattle.std.specs.Ordering.{on, then_cmp, match_ordering}
 use Rattle.std.specs.Str.{bytes_eq}
 use Rattle.std.specs.Cmp.Lexicographic.{slice_cmp}
 use Rattle.std.specs.BTreeMap.{insert_entry, is_at}
@@ -16,17 +16,13 @@ use Rattle.desk_catalogue.specs.declared.order.Subject.{Subject}
 use Rattle.desk_catalogue.specs.declared.order.Said.{Said}
 use Rattle.desk_catalogue.specs.Kept.{put_rule, has_rule}
 use Rattle.desk_catalogue.specs.Shown.{rule_of_entry}
-use Rattle.desk_base.proofs.Texts.{text_tells}
+use Rattle.desk_base.proofs.Texts.{texts_turned}
+use Rattle.desk_base.proofs.Orders.{both_equal, either_equal}
 
 -- ---- rules
 
 abbrev pub subject_cmp : Subject → Subject → Ordering
 subject_cmp = then_cmp (on (λ s. s.term) (slice_cmp nat_cmp)) (on (λ s. s.form) (slice_cmp nat_cmp))
-
-pub both_equal : (o p : Ordering) → ordering_then o p ≡ Equal → (o ≡ Equal) × (p ≡ Equal)
-both_equal Less p is = absurd cc
-both_equal Equal p is = (refl, is)
-both_equal Greater p is = absurd cc
 
 same_subject : (a b : Subject) → subject_cmp a b ≡ Equal → a ≡ b
 same_subject a b is =
@@ -60,26 +56,13 @@ rules-insert_entry (e ∷ es) k v =
 
 -- ---- what is there already
 
--- texts are the same either way round
-pub flipped : (a b : List ℕ) → bytes_eq a b ≡ bytes_eq b a
-flipped a b =
-    elim (text_tells a b) [
-      | inl w ↦ subst (λ (t : List ℕ). bytes_eq a t ≡ bytes_eq t a) w.1 refl
-      | inr w ↦ (elim (text_tells b a) [ inl v ↦ absurd (w.1 (sym v.1)) | inr v ↦ w.0 ∙ sym v.0 ])
-    ]
-
-pub either_equal : (o p : Ordering) → is_eq (ordering_then o p) ≡ (is_eq o && is_eq p)
-either_equal Less p = refl
-either_equal Equal p = refl
-either_equal Greater p = refl
-
 at_subject : (k : Subject) (r : Subject × Said)
     → is_eq (subject_cmp k r.0) ≡ is_rule k.term k.form (rule_of_entry r)
 at_subject k r =
     let terms : is_eq (slice_cmp nat_cmp k.term r.0.term) ≡ bytes_eq r.0.term k.term =
-    is_eq-slice_cmp k.term r.0.term ∙ flipped k.term r.0.term in
+    is_eq-slice_cmp k.term r.0.term ∙ texts_turned k.term r.0.term in
     let forms : is_eq (slice_cmp nat_cmp k.form r.0.form) ≡ bytes_eq r.0.form k.form =
-    is_eq-slice_cmp k.form r.0.form ∙ flipped k.form r.0.form in
+    is_eq-slice_cmp k.form r.0.form ∙ texts_turned k.form r.0.form in
     either_equal (slice_cmp nat_cmp k.term r.0.term) (slice_cmp nat_cmp k.form r.0.form)
     ∙ (λ i. terms i && forms i)
 

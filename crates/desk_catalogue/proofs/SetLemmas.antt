@@ -15,15 +15,16 @@ use Rattle.desk_base.specs.Folded.{folded}
 use Rattle.desk_catalogue.specs.declared.catalogue.LicenceText.{LicenceText}
 use Rattle.desk_catalogue.specs.Kept.{is_text_of}
 use Rattle.desk_catalogue.specs.Shown.{HasIds}
-use Rattle.desk_catalogue.proofs.KeptLemmas.{flipped}
 use Rattle.desk_base.specs.Borrowed.{texts}
 use Rattle.desk_base.specs.TextSets.{is_among}
+use Rattle.desk_base.proofs.Texts.{texts_turned}
+use Rattle.desk_base.proofs.Bools.{cond_or_turned}
 
 -- a text is found in a set if it is among its texts
 pub has_text : (ks : List (Bor (List ℕ))) (q : List ℕ)
     → list_any (is_at (λ (k : Bor (List ℕ)). slice_cmp nat_cmp q k.now)) ks ≡ is_among (texts ks) q
 has_text [] q = refl
-has_text (k ∷ ks) q = (λ i. (is_eq-slice_cmp q k.now ∙ flipped q k.now) i || has_text ks q i)
+has_text (k ∷ ks) q = (λ i. (is_eq-slice_cmp q k.now ∙ texts_turned q k.now) i || has_text ks q i)
 
 -- a code that is known, and one that isn't
 pub all_go : (known : List (List ℕ)) (listed : List (Bor (List ℕ))) (i : ℕ) (v : Bor (List ℕ))
@@ -43,12 +44,6 @@ all_stop known listed i v within is =
 
 -- ---- ids of texts
 
-either : (b c : Bool) → cond b true c ≡ (c || b)
-either true true = refl
-either true false = refl
-either false true = refl
-either false false = refl
-
 -- an id is new if none of the texts has it
 pub is_new : (listed : List LicenceText) (seen : BTreeSet (List ℕ)) (text : LicenceText)
     (key : List ℕ) (added : Bool) → key ≡ folded text.licence → HasIds listed seen
@@ -65,7 +60,7 @@ ids_more listed text old new key is h has more put = λ id.
     h.0 (folded id)
     ∙ (λ i. cond ((is_eq-slice_cmp key (folded id) ∙ ap (λ k. bytes_eq k (folded id)) is) i) true
     (has id i))
-    ∙ either (is_text_of id text) (list_any (is_text_of id) listed)
+    ∙ cond_or_turned (is_text_of id text) (list_any (is_text_of id) listed)
     ∙ ap (λ b. list_any (is_text_of id) listed || b) (none_more (is_text_of id text))
     ∙ sym (list_any-append (is_text_of id) listed (text ∷ []))
     ∙ ap (list_any (is_text_of id)) (sym put)

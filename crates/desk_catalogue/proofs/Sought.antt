@@ -16,6 +16,8 @@ use Rattle.std.proofs.lemmas.Cmp.{tied_itself, alike_right, nat_cmp_total}
 use Rattle.std.proofs.lemmas.Map.Lookups.{exact_unsigned}
 use Rattle.std.proofs.lemmas.Map.Text.{is_eq-slice_cmp}
 use Rattle.std.proofs.lemmas.Map.Keys.{Less-from_sorted, sorted_tail}
+use Rattle.std.proofs.lemmas.Bool.{cases_lt}
+use Rattle.desk_base.proofs.Orders.{either_equal}
 use Rattle.desk_expr.specs.declared.term.Term.{Term}
 use Rattle.desk_expr.specs.Printing.{printed_term, printed_exception}
 use Rattle.desk_model.specs.Keys.{is_rule, rule_order}
@@ -24,7 +26,7 @@ use Rattle.desk_catalogue.specs.Lookup.{sought}
 use Rattle.desk_catalogue.specs.declared.order.Subject.{Subject}
 use Rattle.desk_catalogue.specs.declared.order.Said.{Said}
 use Rattle.desk_catalogue.specs.Shown.{rule_of_entry}
-use Rattle.desk_catalogue.proofs.KeptLemmas.{either_equal, subject_cmp}
+use Rattle.desk_catalogue.proofs.KeptLemmas.{subject_cmp}
 use Rattle.desk_catalogue.proofs.OrderLaws.{rule_order_total}
 
 -- ---- bytes compared with others, piece by piece
@@ -89,12 +91,6 @@ same_or_less zero (suc j) le = inr (omega arith)
 same_or_less (suc i) zero le = absurd (omega (arith, le))
 same_or_less (suc i) (suc j) le = elim (same_or_less i j (omega (arith, le)))
     [ inl same ↦ inl (ap suc same) | inr less ↦ inr (omega (arith, less)) ]
-
-order : (k i : ℕ) → (k < i) ⊎ (i ≤ k)
-order k zero = inr (omega arith)
-order zero (suc i) = inl (omega arith)
-order (suc k) (suc i) = elim (order k i)
-    [ inl lt ↦ inl (omega (arith, lt)) | inr le ↦ inr (omega (arith, le)) ]
 
 module _ (term form : List ℕ) where
   abbrev side : Rule → Ordering
@@ -162,7 +158,7 @@ module _ (term form : List ℕ) where
       → IsBinarySearchResult side rs (Err i) → None ≡ find (is_rule term form) rs
   not_found rs sorted i h =
       let parts = h (rises rs sorted) in
-      none_found rs (λ k d lt. elim (order k i) [
+      none_found rs (λ k d lt. elim (cases_lt k i) [
         | inl below ↦ ap is_eq (parts.0 k d (omega arith) below)
         | inr above ↦ ap is_eq (parts.1 k d above lt)
       ])

@@ -39,4 +39,3 @@ strings (item d ds) = option_and_then (λ text. option_map (λ more. text ∷ mo
 
 abbrev pub texts_of : Data → Option (List (List ℕ))
 texts_of d = option_and_then strings (as_array d)
-

@@ -10,6 +10,7 @@ use Rattle.std.specs.Str.{bytes_eq}
 use Rattle.std.proofs.lemmas.List.Folds.{list_all-append}
 use Rattle.desk_base.specs.Limits as most
 use Rattle.std.proofs.lemmas.Bool.Decides.{nat_tests}
+use Rattle.std.proofs.lemmas.Bool.{and_from}
 use Rattle.desk_model.specs.Readings.{Readings}
 use Rattle.desk_model.specs.Tables.{Tables}
 use Rattle.desk_model.specs.declared.row.Owed.{Owed}
@@ -43,7 +44,7 @@ use Rattle.desk_model.specs.declared.row.Standing.{Standing}
 use Rattle.desk_model.specs.declared.state.Word.TheVariants as word
 use Rattle.desk_model.specs.Tables.{choice_row}
 use Rattle.desk_model.specs.History.{term_set}
-use Rattle.desk_base.proofs.Bools.{and_left, and_right, both}
+use Rattle.desk_base.proofs.Bools.{and_left, and_right}
 use Rattle.desk_base.proofs.Numbers.{same_number}
 use Rattle.desk_history.specs.FromTables.{answer_from, choosing_found, freezing_found, change_for}
 use Rattle.desk_history.specs.FromTables.{moved_found, duty_found, new_duty, raised_row, owed_found}
@@ -54,6 +55,7 @@ use Rattle.desk_history.specs.FromTables.{ends, next_row}
 use Rattle.desk_access.specs.Follows.{Follows, AreNext, are_numbered, are_first, are_next}
 use Rattle.desk_access.specs.Follows.{are_of_duties, are_open_of, rise}
 use Rattle.desk_base.proofs.Texts.{same_text}
+use Rattle.desk_base.proofs.Lists.{filter-true}
 
 numbered_on : (n : ℕ) (owed : List Owed)
     → are_numbered n (map new_duty (enumerate_from n owed)) ≡ true
@@ -101,9 +103,10 @@ stands t word q day text until recorded =
 next_one : (t : Tables) (q : ℕ) (m : Move) → is_some (duty_found t q) ≡ true
     → AreNext t (change_row q (steps_found t q + 1) m ∷ [])
 next_one t q m some = (
-  both (steps_found t q + 1 == steps_found t q + 1) true (same_number (steps_found t q + 1)) refl,
+  and_from (steps_found t q + 1 == steps_found t q + 1) true
+      (same_number (steps_found t q + 1)) refl,
   λ e. refl,
-  both (is_some (duty_found t q)) true some refl,
+  and_from (is_some (duty_found t q)) true some refl,
 )
 
 -- the changes of the duties that pass two tests
@@ -124,7 +127,7 @@ next_all t m is test (row ∷ rows) =
           (cond b (standing_found t row ∷ filter is (map (standing_found t) (filter test rows)))
           (filter is (map (standing_found t) (filter test rows))))) ≡ true) [
             | false ↦ rest
-            | true ↦ both (steps_found t row.number + 1 == steps_found t row.number + 1)
+            | true ↦ and_from (steps_found t row.number + 1 == steps_found t row.number + 1)
                 (are_next t (those t m is test rows)) (same_number (steps_found t row.number + 1))
                 rest
           ]
@@ -154,7 +157,7 @@ above_kept t m is test n (row ∷ rows) e =
           ∷ filter is (map (standing_found t) (filter test rows)))
           (filter is (map (standing_found t) (filter test rows)))))) ≡ true) [
             | false ↦ rest
-            | true ↦ both (nat_lt n row.number)
+            | true ↦ and_from (nat_lt n row.number)
                 (list_all (nat_lt n) (duties_of (those t m is test rows))) here rest
           ]
     ]
@@ -177,7 +180,7 @@ rise_kept t m is test (row ∷ rows) e =
           (cond b (standing_found t row ∷ filter is (map (standing_found t) (filter test rows)))
           (filter is (map (standing_found t) (filter test rows)))))) ≡ true) [
             | false ↦ rest
-            | true ↦ both (list_all (nat_lt row.number) (duties_of (those t m is test rows)))
+            | true ↦ and_from (list_all (nat_lt row.number) (duties_of (those t m is test rows)))
                 (rise (duties_of (those t m is test rows))) above rest
           ]
     ]
@@ -185,7 +188,7 @@ rise_kept t m is test (row ∷ rows) e =
 weaker : {A : Type 0} (p q : A → Bool) → ((x : A) → p x ≡ true → q x ≡ true) → (xs : List A)
     → list_all p xs ≡ true → list_all q xs ≡ true
 weaker p q h [] e = refl
-weaker p q h (x ∷ xs) e = both (q x) (list_all q xs) (h x (and_left (p x) (list_all p xs) e))
+weaker p q h (x ∷ xs) e = and_from (q x) (list_all q xs) (h x (and_left (p x) (list_all p xs) e))
     (weaker p q h xs (and_right (p x) (list_all p xs) e))
 
 found_behind : (x : DutyRow) (rows : List DutyRow) (n : ℕ) → is_some (find (is_duty n) rows) ≡ true
@@ -198,7 +201,7 @@ each_found : (rows : List DutyRow)
     → list_all (λ row. is_some (find (is_duty row.number) rows)) rows ≡ true
 each_found [] = refl
 each_found (x ∷ rows) =
-    both (is_some (find (is_duty x.number) (x ∷ rows)))
+    and_from (is_some (find (is_duty x.number) (x ∷ rows)))
     (list_all (λ (row : DutyRow). is_some (find (is_duty row.number) (x ∷ rows))) rows)
     (rw (same_number x.number) refl)
     (weaker (λ (row : DutyRow). is_some (find (is_duty row.number) rows))
@@ -222,7 +225,7 @@ stand_kept t m is test (row ∷ rows) e =
           (cond b (standing_found t row ∷ filter is (map (standing_found t) (filter test rows)))
           (filter is (map (standing_found t) (filter test rows))))) ≡ true) [
             | false ↦ rest
-            | true ↦ both (some row) (are_of_duties t (those t m is test rows)) here rest
+            | true ↦ and_from (some row) (are_of_duties t (those t m is test rows)) here rest
           ]
     ]
 
@@ -234,14 +237,10 @@ next_many t m is test = (
   stand_kept t m is test t.duty (each_found t.duty),
 )
 
-filter_true : {A : Type 0} (xs : List A) → filter (λ x. true) xs ≡ xs
-filter_true [] = refl
-filter_true (x ∷ xs) = ap (λ ys. x ∷ ys) (filter_true xs)
-
 next_ended : (t : Tables) (m : Move) (test : DutyRow → Bool)
     → AreNext t (map (next_row m) (map (standing_found t) (filter test t.duty)))
 next_ended t m test = subst (AreNext t)
-    (ap (map (next_row m)) (filter_true (map (standing_found t) (filter test t.duty))))
+    (ap (map (next_row m)) (filter-true (map (standing_found t) (filter test t.duty))))
     (next_many t m (λ s. true) test)
 
 -- Releases that exist
@@ -308,8 +307,10 @@ pub open_on : (r : List ℕ) (n : ℕ) (owed : List Owed) → list_all (is_owed_
     → are_open_of r (map new_duty (enumerate_from n owed)) ≡ true
 open_on r n [] all = refl
 open_on r n (o ∷ owed) all =
-    both (bytes_eq o.release r && true) (are_open_of r (map new_duty (enumerate_from (n + 1) owed)))
-    (both (bytes_eq o.release r) true (and_left (is_owed_by r o) (list_all (is_owed_by r) owed) all)
+    and_from (bytes_eq o.release r && true)
+    (are_open_of r (map new_duty (enumerate_from (n + 1) owed)))
+    (and_from (bytes_eq o.release r) true
+    (and_left (is_owed_by r o) (list_all (is_owed_by r) owed) all)
     refl)
     (open_on r (n + 1) owed (and_right (is_owed_by r o) (list_all (is_owed_by r) owed) all))
 
@@ -322,7 +323,8 @@ all_flat : {A B : Type 0} (test : B → Bool) (f : A → List B)
     → ((x : A) → list_all test (f x) ≡ true) → (xs : List A) → list_all test (flat_map f xs) ≡ true
 all_flat test f each [] = refl
 all_flat test f each (x ∷ xs) = list_all-append test (f x) (flat_map f xs)
-    ∙ both (list_all test (f x)) (list_all test (flat_map f xs)) (each x) (all_flat test f each xs)
+    ∙ and_from (list_all test (f x)) (list_all test (flat_map f xs)) (each x)
+    (all_flat test f each xs)
 
 pub owed_codes : (r : List ℕ) (p : PackageRow) (term : List ℕ) (rule : Rule) (codes : List (List ℕ))
     → list_all (is_owed_by r) (map (owed_code r p term rule) codes) ≡ true

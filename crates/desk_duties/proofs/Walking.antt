@@ -1,10 +1,11 @@
 -- One more term, and one more package, of a walk.
-use Rattle.std.proofs.Common.{◌≡◌, ℕ, ◌+◌, ◌<◌, List, [], ◌∷◌, ◌++◌, length, map, drop, get_or}
-use Rattle.std.proofs.Common.{Option, Some, None, sym, refl, ap, ◌∙◌, subst, add-one, add-zero}
-use Rattle.std.proofs.Common.{drop-cons, append_assoc, suc, arith}
+use Rattle.std.proofs.Common.{◌≡◌, ℕ, ◌+◌, List, [], ◌∷◌, ◌++◌, length, map}
+use Rattle.std.proofs.Common.{Option, Some, None, sym, refl, ap, ◌∙◌, subst}
+use Rattle.std.proofs.Common.{append_assoc}
 use Rattle.desk_model.specs.Readings.{Readings}
 use Rattle.std.specs.List.{enumerate_from}
 use Rattle.std.proofs.lemmas.List.{map-append}
+use Rattle.desk_base.proofs.Lists.{numbered_push}
 use Rattle.desk_model.specs.Tables.{Tables}
 use Rattle.desk_history.specs.FromTables.{new_duty, conclusion_found, rules_found, choice_found}
 use Rattle.desk_duties.specs.Freezing.{GathersPackage, GathersTerm, unfit_package}
@@ -21,12 +22,6 @@ use Rattle.desk_model.specs.Lists.{or_else}
 use Rattle.desk_model.specs.declared.reading.Conclusion.{Conclusion}
 use Rattle.desk_model.specs.declared.reading.Rule.{Rule}
 use Rattle.desk_model.specs.declared.row.PackageRow.{PackageRow}
-
--- an item and those after it
-pub drop_item : {A : Type 0} (xs : List A) (i : ℕ) (x : A) → i < length xs → x ≡ get_or xs i x
-    → drop i xs ≡ x ∷ drop (i + 1) xs
-drop_item xs i x lt is = rw (add-one i)
-    (drop-cons xs i x lt ∙ ap (λ y. y ∷ drop (suc i) xs) (sym is))
 
 -- a list so far, with some more
 pub more_of : {A : Type 0} (old new here before rest total : List A) → new ≡ old ++ here
@@ -78,12 +73,6 @@ terms_on w licences rules form r p terms rest term old new o split g e =
     }
 
 -- Numbered duties
-
-numbered_push : {A : Type 0} (n : ℕ) (xs : List A) (x : A)
-    → enumerate_from n (xs ++ x ∷ []) ≡ enumerate_from n xs ++ (n + length xs, x) ∷ []
-numbered_push n [] x = ap (λ k. (k, x) ∷ []) (sym (add-zero n))
-numbered_push n (y ∷ xs) x = ap (λ zs. (n, y) ∷ zs)
-    (numbered_push (n + 1) xs x ∙ ap (λ k. enumerate_from (n + 1) xs ++ (k, x) ∷ []) (omega arith))
 
 pub duties_push : (first : ℕ) (xs : List Owed) (x : Owed) (n : ℕ) (rows rows' : List DutyRow)
     → n ≡ first + length xs → rows ≡ map new_duty (enumerate_from first xs)

@@ -1,13 +1,13 @@
 -- Texts put together from tokens and blanks.
 use Rattle.std.proofs.Common.{◌≡◌, ◌∙◌, inl, inr, ℕ, ◌+◌, ◌<◌, List, [], ◌∷◌, ◌++◌, length, sym}
 use Rattle.std.proofs.Common.{subst, ap, refl, arith, true, length-append, append_assoc, add-zero}
+use Rattle.std.proofs.lemmas.List.Elements.{All-cons}
 use Rattle.std.specs.Prelude.{IsTrue, All}
 use Rattle.desk_base.specs.declared.profile.Profile.TheVariants.{Capitals}
 use Rattle.desk_tokens.specs.Words.{kind_by}
 use Rattle.desk_tokens.specs.Tokens.{is_parenthesis, is_run_byte, NoRunBegins, IsPiece, Lexeme, AreTokens}
 use Rattle.desk_expr.specs.Grammar.{Symbol}
 use Rattle.desk_expr.specs.Spelling.{symbol, symbols}
-use Rattle.desk_tokens.proofs.Lexing.{all_more}
 use Rattle.desk_base.specs.Bytes.{is_blank}
 
 -- whatever follows, the tokens of the text are those of its front and those of what follows
@@ -77,12 +77,12 @@ then_alone a b ss tt h k place y us stops are =
 
 blank_before : (place : ℕ) (y : List ℕ) (us : List Lexeme) → AreTokens (place + 1) y us
     → AreTokens place (32 ∷ y) us
-blank_before place y [] are = all_more (λ b. IsTrue (is_blank b)) 32 y refl are
+blank_before place y [] are = All-cons (λ b. IsTrue (is_blank b)) 32 y refl are
 blank_before place y (t ∷ us) (rest, first, more) = (
   rest,
   record {
     blanks = 32 ∷ first.blanks;
-    only_blanks = all_more (λ b. IsTrue (is_blank b)) 32 first.blanks refl first.only_blanks;
+    only_blanks = All-cons (λ b. IsTrue (is_blank b)) 32 first.blanks refl first.only_blanks;
     cut = ap (λ l. 32 ∷ l) first.cut;
     start = (let is = first.start in omega (arith, is));
     end = first.end;

@@ -11,3 +11,4 @@ pub mod TermLemmas
 pub mod Lexes
 pub mod WordKinds
 pub mod Prints
+pub mod FaultLemmas

@@ -32,6 +32,11 @@ spells_once profile text a b (ts, are, h) (us, are', k) =
     let same : us ≡ ts = same_tokens profile 0 text us ts are' are in
     one_tree (symbols ts) a b h (subst (λ l. SpellsTree (symbols l) b) same k)
 
+pub one_within : (profile : Profile) (text : List ℕ) (a b : Tree) → SpellsWithinBy profile text a
+    → SpellsWithinBy profile text b → a ≡ b
+one_within profile text a b (short, ts, are, h, keeps) (short', us, are', k, keeps') =
+    spells_once profile text a b (ts, are, h) (us, are', k)
+
 -- ---- the tokens so far
 
 -- the tokens of the rest, whatever they are, complete those so far
@@ -149,7 +154,7 @@ stop_at_end profile text ts (Memory e) short are stands h = tt
 
 -- ---- a text that stops spells nothing within the limits
 
-front_of : (front : List Lexeme) (t : Lexeme) (behind : List Lexeme)
+pub front_of : (front : List Lexeme) (t : Lexeme) (behind : List Lexeme)
     → take (suc (length front)) (front ++ t ∷ behind) ≡ front ++ t ∷ []
 front_of [] t behind = refl
 front_of (u ∷ front) t behind = ap (λ l. u ∷ l) (front_of front t behind)

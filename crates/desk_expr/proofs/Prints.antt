@@ -3,6 +3,7 @@ use Rattle.std.proofs.Common.{◌≡◌, ◌∙◌, ℕ, List, [], ◌∷◌, �
 use Rattle.std.proofs.Common.{Option, Some, None, codes, append_assoc, arith, lit<}
 use Rattle.std.specs.Prelude.{◌&&◌, ◌||◌, not}
 use Rattle.std.proofs.lemmas.List.{append-nil}
+use Rattle.std.proofs.lemmas.Bool.{and_parts}
 use Rattle.desk_expr.specs.declared.printing.Place.TheVariants.{InAll, InAny}
 use Rattle.desk_expr.specs.declared.term.Term.{Term}
 use Rattle.desk_expr.specs.Tree.{Tree, Trees, one, all, any, no_more, more, parts_of}
@@ -17,7 +18,6 @@ use Rattle.desk_expr.specs.Spelling.{symbols, Spells, SpellsTermAlone}
 use Rattle.desk_expr.specs.Printing.{printed_exception, printed_word, printed_term, enclosed}
 use Rattle.desk_expr.specs.Printing.{printed_in, joined, printed, IsSeveral, IsWellFormed}
 use Rattle.desk_expr.specs.Printing.{AreWellFormed}
-use Rattle.desk_expr.proofs.WordLemmas.{and_true}
 use Rattle.desk_expr.proofs.WordKinds.{IsWord, id_word, plain_word, all_run}
 use Rattle.desk_expr.proofs.Lexes.{Lexes, LexesAlone, EndsRuns, lexes_alone, lexes_then, alone_then}
 use Rattle.desk_expr.proofs.Lexes.{alone_then_alone, then_alone, lexes_blank, lexes_parenthesis}
@@ -70,7 +70,7 @@ prints_term t h = by_exception t.exception refl
 
     parts : ((is_folded_id t.key || (is_reference t.key && not t.plus)) ≡ true)
         × (is_exception t.exception ≡ true)
-    parts = and_true (is_folded_id t.key || (is_reference t.key && not t.plus))
+    parts = and_parts (is_folded_id t.key || (is_reference t.key && not t.plus))
         (is_exception t.exception) h
 
     w : (o : Option (List ℕ)) × IsWord (printed_word t) (word plain o)

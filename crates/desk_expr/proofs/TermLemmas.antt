@@ -2,6 +2,7 @@
 use Rattle.std.proofs.Common.{◌≡◌, ◌↔◌, ◌∙◌, ◌⊎◌, inl, inr, ℕ, zero, suc, ◌+◌, ◌-◌, ◌≤◌, Bool, true}
 use Rattle.std.proofs.Common.{false, List, [], ◌∷◌, ◌++◌, length, take, sym, subst, ap, refl, arith}
 use Rattle.std.proofs.Common.{Option, Some, None, Result, Ok, Err, length-append, length-take}
+use Rattle.std.proofs.Common.{rules}
 use Rattle.std.specs.Prelude.{map, fold, IfOk, IfErr, alloc_error, ◌≢◌, ◌&&◌, not, if◌then◌else◌}
 use Rattle.std.proofs.lemmas.List.{append-nil, length-map}
 use Rattle.desk_base.specs.declared.profile.Profile.{Profile}
@@ -29,6 +30,7 @@ use Rattle.desk_expr.specs.Spelling.{operand_words_after, closings, AllFronts, B
 use Rattle.desk_expr.specs.Spelling.{Reason, StopsAtToken, StopsAtEnd, IsStopBy, SpellsTermAloneBy}
 use Rattle.desk_expr.specs.Spelling.{SpellsTermWithinBy}
 use Rattle.desk_expr.specs.TermReading.{TermRest, HasBegun, TermSteps, TermStops, TermEnds, TermFalls}
+use Rattle.desk_expr.specs.contracts.term.TermPartialEq.TheImpl.{ghosts}
 use Rattle.desk_tokens.proofs.Lexing.{same_tokens}
 use Rattle.desk_expr.proofs.ProgressLemmas.{symbols_push, fronts_push}
 use Rattle.desk_expr.proofs.ParseLemmas.{SoFar, faults_spell, stop_spells, symbols_behind, symbols_split}
@@ -424,3 +426,7 @@ faults_spell_no_term profile text =
     faults_spell SpellsTerm (SpellsTermWithinBy profile text) profile text
     (λ e h. (h.0, h.1.0, h.1.1, h.1.2)) words
     (no_reason profile text)
+
+-- terms that the code takes as equal are the same
+pub equal_terms : (a b : Term) → ghosts.eq a b ≡ true → a ≡ b
+equal_terms a b is = search rules

@@ -2,7 +2,8 @@
 use Rattle.std.proofs.Common.{◌≡◌, ◌∙◌, ℕ, zero, suc, ◌+◌, ◌-◌, ◌<◌, List, [], ◌∷◌, ◌++◌, length}
 use Rattle.std.proofs.Common.{take, drop, Bool, true, false, refl, sym, ap, subst, arith, Option}
 use Rattle.std.proofs.Common.{Some, None, codes, nat_eq, length-append, ◌⊎◌, inl, inr, cond}
-use Rattle.std.proofs.lemmas.Bool.{eqb-true}
+use Rattle.std.proofs.lemmas.Bool.{eqb-true, false_from_ne_true, or_from, or_cases, or_left}
+use Rattle.std.proofs.lemmas.Bool.{or_right, and_parts, and_from}
 use Rattle.std.specs.Prelude.{IsTrue, All, ◌&&◌, ◌||◌, not, if◌then◌else◌, nat_lt, ◌==◌}
 use Rattle.std.specs.Char.{to_ascii_lowercase}
 use Rattle.std.specs.List.{list_all, starts_with, ends_with, before_first, after_first, position_or_len}
@@ -26,19 +27,11 @@ use Rattle.desk_tokens.specs.Tokens.{is_run_byte}
 use Rattle.desk_expr.specs.Grammar.{Symbol, word}
 use Rattle.desk_expr.specs.Spelling.{symbol}
 use Rattle.desk_expr.specs.Printing.{printed_word}
-use Rattle.desk_expr.proofs.WordLemmas.{and_true, both_true}
 
 -- ---- tests
 
-is_not : (b : Bool) → (b ≡ true → ⊥) → b ≡ false
-is_not true h = absurd (h refl)
-is_not false h = refl
-
 unequal : (w v : List ℕ) → (w ≡ v → ⊥) → bytes_eq w v ≡ false
-unequal w v h = is_not (bytes_eq w v) (λ is. h ((bytes_eq-Decides w v).0 is))
-
-or_false : (x y : Bool) → x ≡ false → y ≡ false → (x || y) ≡ false
-or_false x y h k = (λ i. h i || k i)
+unequal w v h = false_from_ne_true (bytes_eq w v) (λ is. h ((bytes_eq-Decides w v).0 is))
 
 -- the first byte
 first_is : List ℕ → ℕ → Type 0
@@ -63,8 +56,8 @@ kind_from w k no_opening no_closing no_and no_or no_with is = rw (
 id_bytes : (w : List ℕ) → is_folded_id w ≡ true
     → (list_all is_idstring_byte w ≡ true) × (folded w ≡ w) × (0 < length w)
 id_bytes w h =
-    let parts = and_true (is_idstring w) (bytes_eq (folded w) w) h in
-    let test = and_true (nat_lt 0 (length w)) (list_all is_idstring_byte w) parts.0 in
+    let parts = and_parts (is_idstring w) (bytes_eq (folded w) w) h in
+    let test = and_parts (nat_lt 0 (length w)) (list_all is_idstring_byte w) parts.0 in
     (test.1, (bytes_eq-Decides (folded w) w).0 parts.1, some_bytes w test.0)
   where
     some_bytes : (w : List ℕ) → nat_lt 0 (length w) ≡ true → 0 < length w
@@ -72,7 +65,7 @@ id_bytes w h =
 
 head_test : (b : ℕ) (bs : List ℕ) → list_all is_idstring_byte (b ∷ bs) ≡ true
     → is_idstring_byte b ≡ true
-head_test b bs h = (and_true (is_idstring_byte b) (list_all is_idstring_byte bs) h).0
+head_test b bs h = (and_parts (is_idstring_byte b) (list_all is_idstring_byte bs) h).0
 
 head_fold : (b : ℕ) (bs : List ℕ) → folded (b ∷ bs) ≡ b ∷ bs → to_ascii_lowercase b ≡ b
 head_fold b bs h = cc
@@ -130,12 +123,12 @@ no_name w b bs is id small = record {
   and_word = unequal w (codes "AND") (λ e. first 65 (codes "ND") (e) bad_a);
   or_word = unequal w (codes "OR") (λ e. first 79 (codes "R") (e) bad_o);
   with_word = unequal w (codes "WITH") (λ e. first 87 (codes "ITH") (e) bad_w);
-  reference = or_false (starts_with nat_eq w (codes "LicenseRef-"))
+  reference = or_from (starts_with nat_eq w (codes "LicenseRef-"))
       (starts_with nat_eq w (codes "DocumentRef-"))
-      (is_not (starts_with nat_eq w (codes "LicenseRef-"))
+      (false_from_ne_true (starts_with nat_eq w (codes "LicenseRef-"))
       (λ h. let p = prefix_first w (codes "LicenseRef-") 76 (codes "icenseRef-") refl h in
       first 76 p.0 p.1 bad_l))
-      (is_not (starts_with nat_eq w (codes "DocumentRef-"))
+      (false_from_ne_true (starts_with nat_eq w (codes "DocumentRef-"))
       (λ h. let p = prefix_first w (codes "DocumentRef-") 68 (codes "ocumentRef-") refl h in
       first 68 p.0 p.1 bad_d));
 }
@@ -179,7 +172,7 @@ id_no_name w v h =
 pub licence_kind : (w : List ℕ) → is_folded_id w ≡ true → kind_by Capitals w ≡ Licence
 licence_kind w h =
     let name : NoName w = subst NoName (append-nil w) (id_no_name w [] h) in
-    let id : is_idstring w ≡ true = (and_true (is_idstring w) (bytes_eq (folded w) w) h).0 in
+    let id : is_idstring w ≡ true = (and_parts (is_idstring w) (bytes_eq (folded w) w) h).0 in
     kind_from w Licence name.opening name.closing name.and_word name.or_word name.with_word
     (rw (name.reference, id) refl)
 
@@ -187,11 +180,11 @@ licence_kind w h =
 
 plus_is_none : (w : List ℕ) → is_idstring (w ++ codes "+") ≡ false
 plus_is_none w =
-    is_not (is_idstring (w ++ codes "+"))
+    false_from_ne_true (is_idstring (w ++ codes "+"))
     (λ h.
-    let all = (and_true (nat_lt 0 (length (w ++ codes "+")))
+    let all = (and_parts (nat_lt 0 (length (w ++ codes "+")))
     (list_all is_idstring_byte (w ++ codes "+")) h).1 in
-    let last = (and_true (list_all is_idstring_byte w) (list_all is_idstring_byte (codes "+"))
+    let last = (and_parts (list_all is_idstring_byte w) (list_all is_idstring_byte (codes "+"))
     (sym (list_all-append is_idstring_byte w (codes "+")) ∙ all)).1 in
     cc)
 
@@ -212,7 +205,7 @@ pub plus_front : (w : List ℕ) → without_last (w ++ codes "+") ≡ w
 plus_front w = take_front w (codes "+") (length (w ++ codes "+") - 1)
     (omega (arith, length-append w (codes "+")))
 
-plus_ends : (w : List ℕ) → ends_with nat_eq (w ++ codes "+") (codes "+") ≡ true
+pub plus_ends : (w : List ℕ) → ends_with nat_eq (w ++ codes "+") (codes "+") ≡ true
 plus_ends w =
     (bytes_eq-Decides (codes "+") (drop (length (w ++ codes "+") - 1) (w ++ codes "+"))).1
     (sym (drop_all w (codes "+") (length (w ++ codes "+") - 1)
@@ -224,9 +217,9 @@ or_later_kind w h =
     let name = id_no_name w (codes "+") h in
     let id : is_idstring (without_last (w ++ codes "+")) ≡ true =
     subst (λ l. is_idstring l ≡ true) (sym (plus_front w))
-    ((and_true (is_idstring w) (bytes_eq (folded w) w) h).0) in
+    ((and_parts (is_idstring w) (bytes_eq (folded w) w) h).0) in
     let later : is_licence_or_later (w ++ codes "+") ≡ true =
-    both_true (ends_with nat_eq (w ++ codes "+") (codes "+"))
+    and_from (ends_with nat_eq (w ++ codes "+") (codes "+"))
     (is_idstring (without_last (w ++ codes "+"))) (plus_ends w) id in
     kind_from (w ++ codes "+") LicenceOrLater name.opening name.closing name.and_word name.or_word
     name.with_word (rw (name.reference, plus_is_none w, later) refl)
@@ -235,19 +228,8 @@ or_later_kind w h =
 
 local_prefix : (w : List ℕ) → is_local_reference w ≡ true
     → starts_with nat_eq w (codes "LicenseRef-") ≡ true
-local_prefix w h = (and_true (starts_with nat_eq w (codes "LicenseRef-")) (is_idstring (drop 11 w))
+local_prefix w h = (and_parts (starts_with nat_eq w (codes "LicenseRef-")) (is_idstring (drop 11 w))
     h).0
-
-or_cases : (x y : Bool) → (x || y) ≡ true → (x ≡ true) ⊎ (y ≡ true)
-or_cases true y h = inl refl
-or_cases false y h = inr h
-
-or_left : (x y : Bool) → x ≡ true → (x || y) ≡ true
-or_left x y h = (λ i. h i || y)
-
-or_right : (x y : Bool) → y ≡ true → (x || y) ≡ true
-or_right true y h = refl
-or_right false y h = h
 
 reference_begins : (w : List ℕ) → is_reference w ≡ true → begins_like_reference w ≡ true
 reference_begins w h =
@@ -257,7 +239,7 @@ reference_begins w h =
           (starts_with nat_eq w (codes "DocumentRef-")) (local_prefix w a)
       | inr b ↦ or_right (starts_with nat_eq w (codes "LicenseRef-"))
           (starts_with nat_eq w (codes "DocumentRef-"))
-          (and_true (starts_with nat_eq w (codes "DocumentRef-"))
+          (and_parts (starts_with nat_eq w (codes "DocumentRef-"))
           (is_reference_of_document (drop 12 w)) b).0
     ]
 
@@ -301,17 +283,17 @@ id_run_byte b h = grind (arith, nat_tests)
 run_bytes : (w : List ℕ) → list_all is_idstring_byte w ≡ true → list_all is_run_byte w ≡ true
 run_bytes [] h = refl
 run_bytes (b ∷ bs) h =
-    let parts = and_true (is_idstring_byte b) (list_all is_idstring_byte bs) h in
-    both_true (is_run_byte b) (list_all is_run_byte bs) (id_run_byte b parts.0)
+    let parts = and_parts (is_idstring_byte b) (list_all is_idstring_byte bs) h in
+    and_from (is_run_byte b) (list_all is_run_byte bs) (id_run_byte b parts.0)
     (run_bytes bs parts.1)
 
 idstring_run : (w : List ℕ) → is_idstring w ≡ true → list_all is_run_byte w ≡ true
-idstring_run w h = run_bytes w (and_true (nat_lt 0 (length w)) (list_all is_idstring_byte w) h).1
+idstring_run w h = run_bytes w (and_parts (nat_lt 0 (length w)) (list_all is_idstring_byte w) h).1
 
 joined_run : (v w : List ℕ) → list_all is_run_byte v ≡ true → list_all is_run_byte w ≡ true
     → list_all is_run_byte (v ++ w) ≡ true
 joined_run v w h k = list_all-append is_run_byte v w
-    ∙ both_true (list_all is_run_byte v) (list_all is_run_byte w) h k
+    ∙ and_from (list_all is_run_byte v) (list_all is_run_byte w) h k
 
 -- bytes that begin with bytes of a run and continue with them are all bytes of a run
 prefix_run : (w needle : List ℕ) → starts_with nat_eq w needle ≡ true
@@ -326,7 +308,8 @@ prefix_run w needle h run rest =
 
 local_run : (w : List ℕ) → is_local_reference w ≡ true → list_all is_run_byte w ≡ true
 local_run w h =
-    let parts = and_true (starts_with nat_eq w (codes "LicenseRef-")) (is_idstring (drop 11 w)) h in
+    let parts = and_parts (starts_with nat_eq w (codes "LicenseRef-"))
+    (is_idstring (drop 11 w)) h in
     prefix_run w (codes "LicenseRef-") parts.0 refl (idstring_run (drop 11 w) parts.1)
 
 colon_run : (xs : List ℕ) → list_all is_run_byte (before_first (λ b. b == 58) xs) ≡ true
@@ -345,7 +328,7 @@ colon_run (x ∷ xs) h k = by_colon (λ a b. colon_run xs a b) (x == 58) refl h 
         → list_all is_run_byte (x ∷ xs) ≡ true
     by_colon rest true e h k =
         let is : x ≡ 58 = eqb-true x 58 e in
-        both_true (is_run_byte x) (list_all is_run_byte xs) (ap is_run_byte is) k
+        and_from (is_run_byte x) (list_all is_run_byte xs) (ap is_run_byte is) k
     by_colon rest false e h k =
         let first : suc n ≡ 1 + n = omega arith in
         let second : suc (n + 1) ≡ 1 + n + 1 = omega arith in
@@ -353,8 +336,8 @@ colon_run (x ∷ xs) h k = by_colon (λ a b. colon_run xs a b) (x == 58) refl h 
         subst (λ m. list_all is_run_byte (take m (x ∷ xs)) ≡ true) (sym first) h in
         let k' : list_all is_run_byte (drop (suc (n + 1)) (x ∷ xs)) ≡ true =
         subst (λ m. list_all is_run_byte (drop m (x ∷ xs)) ≡ true) (sym second) k in
-        let parts = and_true (is_run_byte x) (list_all is_run_byte (take n xs)) h' in
-        both_true (is_run_byte x) (list_all is_run_byte xs) parts.0 (rest parts.1 k')
+        let parts = and_parts (is_run_byte x) (list_all is_run_byte (take n xs)) h' in
+        and_from (is_run_byte x) (list_all is_run_byte xs) parts.0 (rest parts.1 k')
 
 reference_run : (w : List ℕ) → is_reference w ≡ true → list_all is_run_byte w ≡ true
 reference_run w h =
@@ -362,9 +345,9 @@ reference_run w h =
     (starts_with nat_eq w (codes "DocumentRef-") && is_reference_of_document (drop 12 w)) h) [
       | inl a ↦ local_run w a
       | inr b ↦
-          let parts = and_true (starts_with nat_eq w (codes "DocumentRef-"))
+          let parts = and_parts (starts_with nat_eq w (codes "DocumentRef-"))
           (is_reference_of_document (drop 12 w)) b in
-          let inner = and_true (is_idstring (before_first (λ b. b == 58) (drop 12 w)))
+          let inner = and_parts (is_idstring (before_first (λ b. b == 58) (drop 12 w)))
           (is_local_reference (after_first (λ b. b == 58) (drop 12 w))) parts.1 in
           prefix_run w (codes "DocumentRef-") parts.0 refl
           (colon_run (drop 12 w) (idstring_run (before_first (λ b. b == 58) (drop 12 w)) inner.0)
@@ -396,7 +379,7 @@ id_word w h =
 pub plain_word : (t : Term) → is_term t ≡ true
     → (o : Option (List ℕ)) × IsWord (printed_word t) (word (record t { exception = None }) o)
 plain_word t h = by_plus t.key t.plus
-    (and_true (is_folded_id t.key || (is_reference t.key && not t.plus)) (is_exception t.exception)
+    (and_parts (is_folded_id t.key || (is_reference t.key && not t.plus)) (is_exception t.exception)
     h).0
   where
     by_plus : (k : List ℕ) (p : Bool) → (is_folded_id k || (is_reference k && not p)) ≡ true
@@ -410,7 +393,7 @@ plain_word t h = by_plus t.key t.plus
                 (Some k))) (sym (append-nil k)) (id_word k a),
           )
           | inr b ↦
-              let reference : is_reference k ≡ true = (and_true (is_reference k) true b).0 in
+              let reference : is_reference k ≡ true = (and_parts (is_reference k) true b).0 in
               let head = reference_first k (reference_begins k reference) in (
                 None,
                 subst (λ w. IsWord w (word (record { key = k; plus = false; exception = None })
@@ -438,5 +421,5 @@ plain_word t h = by_plus t.key t.plus
                       }) None);
                 },
               )
-          | inr b ↦ let never = (and_true (is_reference k) false b).1 in absurd (cc)
+          | inr b ↦ let never = (and_parts (is_reference k) false b).1 in absurd (cc)
         ]

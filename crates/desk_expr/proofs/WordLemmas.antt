@@ -9,6 +9,7 @@ use Rattle.std.proofs.lemmas.Bool.Decides.{nat_tests}
 use Rattle.std.proofs.lemmas.Str.Ascii.{lowercase-lowercase}
 use Rattle.std.proofs.lemmas.Slice.Eq.{bytes_eq-Decides}
 use Rattle.std.proofs.lemmas.List.{length-map, get_or-drop}
+use Rattle.std.proofs.lemmas.Bool.{and_parts, and_from, or_left, or_right}
 use Rattle.desk_base.specs.Idstring.{is_idstring_byte, is_idstring}
 use Rattle.desk_base.specs.Folded.{folded}
 use Rattle.desk_base.specs.declared.profile.Profile.{Profile}
@@ -74,26 +75,18 @@ lowercase_byte : (b : ℕ) → is_idstring_byte b ≡ true
     → is_idstring_byte (to_ascii_lowercase b) ≡ true
 lowercase_byte b h = grind (arith, nat_tests)
 
-pub and_true : (x y : Bool) → (x && y) ≡ true → (x ≡ true) × (y ≡ true)
-and_true true true h = (refl, refl)
-and_true true false h = absurd (cc)
-and_true false y h = absurd (cc)
-
-pub both_true : (x y : Bool) → x ≡ true → y ≡ true → (x && y) ≡ true
-both_true x y h k = (λ i. h i && k i)
-
 folded_bytes : (w : List ℕ) → list_all is_idstring_byte w ≡ true
     → list_all is_idstring_byte (folded w) ≡ true
 folded_bytes [] h = refl
 folded_bytes (b ∷ bs) h =
-    let parts = and_true (is_idstring_byte b) (list_all is_idstring_byte bs) h in
-    both_true (is_idstring_byte (to_ascii_lowercase b)) (list_all is_idstring_byte (folded bs))
+    let parts = and_parts (is_idstring_byte b) (list_all is_idstring_byte bs) h in
+    and_from (is_idstring_byte (to_ascii_lowercase b)) (list_all is_idstring_byte (folded bs))
     (lowercase_byte b parts.0) (folded_bytes bs parts.1)
 
 folded_idstring : (w : List ℕ) → is_idstring w ≡ true → is_idstring (folded w) ≡ true
 folded_idstring w h =
-    let parts = and_true (nat_lt 0 (length w)) (list_all is_idstring_byte w) h in
-    both_true (nat_lt 0 (length (folded w))) (list_all is_idstring_byte (folded w))
+    let parts = and_parts (nat_lt 0 (length w)) (list_all is_idstring_byte w) h in
+    and_from (nat_lt 0 (length (folded w))) (list_all is_idstring_byte (folded w))
     (rw length-map parts.0) (folded_bytes w parts.1)
 
 pub folded_twice : (w : List ℕ) → folded (folded w) ≡ folded w
@@ -103,30 +96,23 @@ folded_twice (b ∷ bs) = (λ i. lowercase-lowercase b i ∷ folded_twice bs i)
 -- a folded idstring is a folded id
 pub folded_id : (w : List ℕ) → is_idstring w ≡ true → is_folded_id (folded w) ≡ true
 folded_id w h =
-    both_true (is_idstring (folded w)) (bytes_eq (folded (folded w)) (folded w))
+    and_from (is_idstring (folded w)) (bytes_eq (folded (folded w)) (folded w))
     (folded_idstring w h) ((bytes_eq-Decides (folded (folded w)) (folded w)).1 (folded_twice w))
 
 -- ---- well-formed terms
 
-or_left : (x y : Bool) → x ≡ true → (x || y) ≡ true
-or_left x y h = (λ i. h i || y)
-
-or_right : (x y : Bool) → y ≡ true → (x || y) ≡ true
-or_right true y h = refl
-or_right false y h = h
-
 pub licence_is_term : (w k : List ℕ) → k ≡ folded w → is_idstring w ≡ true
     → is_term (record { key = k; plus = false; exception = None }) ≡ true
 licence_is_term w k is h =
-    rw is (both_true (is_folded_id (folded w) || (is_reference (folded w) && true)) true
+    rw is (and_from (is_folded_id (folded w) || (is_reference (folded w) && true)) true
     (or_left (is_folded_id (folded w)) (is_reference (folded w) && true) (folded_id w h)) refl)
 
 pub or_later_is_term : (w k : List ℕ) → k ≡ folded (without_last w) → is_licence_or_later w ≡ true
     → is_term (record { key = k; plus = true; exception = None }) ≡ true
 or_later_is_term w k is h =
     let id : is_idstring (without_last w) ≡ true =
-    (and_true (ends_with nat_eq w (codes "+")) (is_idstring (without_last w)) h).1 in
-    rw is (both_true (is_folded_id (folded (without_last w))
+    (and_parts (ends_with nat_eq w (codes "+")) (is_idstring (without_last w)) h).1 in
+    rw is (and_from (is_folded_id (folded (without_last w))
     || (is_reference (folded (without_last w)) && false)) true
     (or_left (is_folded_id (folded (without_last w)))
     (is_reference (folded (without_last w)) && false) (folded_id (without_last w) id)) refl)
@@ -134,16 +120,16 @@ or_later_is_term w k is h =
 pub reference_is_term : (w k : List ℕ) → k ≡ w → is_reference w ≡ true
     → is_term (record { key = k; plus = false; exception = None }) ≡ true
 reference_is_term w k is h =
-    rw is (both_true (is_folded_id w || (is_reference w && true)) true
-    (or_right (is_folded_id w) (is_reference w && true) (both_true (is_reference w) true h refl))
+    rw is (and_from (is_folded_id w || (is_reference w && true)) true
+    (or_right (is_folded_id w) (is_reference w && true) (and_from (is_reference w) true h refl))
     refl)
 
 -- a well-formed term is still well formed with another exception
 pub excepted_is_term : (t : Term) (x : List ℕ) → is_term t ≡ true → is_folded_id x ≡ true
     → is_term (record t { exception = Some x }) ≡ true
 excepted_is_term t x h k =
-    both_true (is_folded_id t.key || (is_reference t.key && not t.plus)) (is_folded_id x)
-    (and_true (is_folded_id t.key || (is_reference t.key && not t.plus)) (is_exception t.exception)
+    and_from (is_folded_id t.key || (is_reference t.key && not t.plus)) (is_folded_id x)
+    (and_parts (is_folded_id t.key || (is_reference t.key && not t.plus)) (is_exception t.exception)
     h).0 k
 
 -- ---- the plus at the end
@@ -151,7 +137,7 @@ excepted_is_term t x h k =
 pub last_is_plus : (w : List ℕ) → is_licence_or_later w ≡ true → get_or w (length w - 1) 0 ≡ 43
 last_is_plus w h =
     let ends : bytes_eq (codes "+") (drop (length w - 1) w) ≡ true =
-    (and_true (ends_with nat_eq w (codes "+")) (is_idstring (without_last w)) h).0 in
+    (and_parts (ends_with nat_eq w (codes "+")) (is_idstring (without_last w)) h).0 in
     let is : codes "+" ≡ drop (length w - 1) w =
     (bytes_eq-Decides (codes "+") (drop (length w - 1) w)).0 ends in
     ap (λ k. get_or w k 0) (sym (add-zero (length w - 1))) ∙ sym (get_or-drop (length w - 1) w 0 0)

@@ -84,7 +84,7 @@ behind_no_lf body front behind h e =
 abbrev pub gap_of : List ℕ → List ℕ
 gap_of xs = take (prefix_len is_blank xs) xs
 
-drop_next : (n b : ℕ) (xs : List ℕ) → drop (1 + n) (b ∷ xs) ≡ drop n xs
+pub drop_next : (n b : ℕ) (xs : List ℕ) → drop (1 + n) (b ∷ xs) ≡ drop n xs
 drop_next n b xs = let e : 1 + n ≡ suc n = omega arith in ap (λ k. drop k (b ∷ xs)) e
 
 take_next : (n b : ℕ) (xs : List ℕ) → take (1 + n) (b ∷ xs) ≡ b ∷ take n xs
@@ -130,7 +130,3 @@ opening_last body front after inner e s = opening_cut body front after inner e s
 pub opening_whole : (front after inner : List ℕ)
     → opened front (gap_of after) inner ≡ opened front (gap_of after) [] ++ inner
 opening_whole front after inner = simp append_assoc refl
-
-pub nil_of : (l : List ℕ) → length l ≡ 0 → l ≡ []
-nil_of [] e = refl
-nil_of (b ∷ l) e = absurd (omega arith)

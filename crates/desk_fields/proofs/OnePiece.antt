@@ -1,6 +1,6 @@
 -- A text begins with one piece, or fails in one way.
 use Rattle.std.proofs.Common.{◌≡◌, ◌≢◌, ◌∙◌, ℕ, ◌-◌, ◌<◌, List, [], ◌∷◌, ◌++◌, length, get_or, sym}
-use Rattle.std.proofs.Common.{subst, ap, refl, arith, Bool, true, false, append_assoc}
+use Rattle.std.proofs.Common.{subst, ap, refl, arith, true, append_assoc}
 use Rattle.std.proofs.Common.{length-append}
 use Rattle.std.specs.Prelude.{All, codes}
 use Rattle.std.proofs.lemmas.List.Elements.{All-append, All-cons}
@@ -12,10 +12,8 @@ use Rattle.desk_fields.specs.Text.{trimmed}
 use Rattle.desk_fields.specs.Pieces.{Piece, bare, one_line, text, bytes_of, IsTagged, Opens, is_bare}
 use Rattle.desk_fields.specs.Cutting.{Begins}
 use Rattle.desk_base.proofs.LinesOnce.{cut_once, line_once}
+use Rattle.desk_base.proofs.Bools.{contrary}
 use Rattle.desk_fields.proofs.Once.{opened_once, opened_line, close_once, tagged_not_bare, IsOpened, gap_no_lf}
-
-pub true_not_false : (b : Bool) → b ≡ true → b ≡ false → ⊥
-true_not_false b t f = cc
 
 -- a piece on one line is the first line
 pub bare_line : (t l : List ℕ) (e : LineEnd) (r : List ℕ) → Begins t (bare l) e r → IsLine t l e r
@@ -42,7 +40,7 @@ pub opened_not_bare : (t f g i l : List ℕ) (e : LineEnd) (r : List ℕ) → Is
     → IsLine t l e r → is_bare l ≡ true → ⊥
 opened_not_bare t f g i l e r o line h =
     let w = opened_line t f g i l e r o line in
-    true_not_false (is_bare l) h (ap is_bare w.1 ∙ tagged_not_bare f w.0 o.tagged)
+    contrary (is_bare l) h (ap is_bare w.1 ∙ tagged_not_bare f w.0 o.tagged)
 
 pub opened_not_closed : (t f g i b a : List ℕ) (e : LineEnd) (r : List ℕ) → IsOpened t f g i
     → IsLine t (b ++ (58 ∷ a)) e r → IsTagged b → (Opens a → ⊥) → ⊥
@@ -116,13 +114,13 @@ begins_once t (bare l) e r (bare m) d s a b =
 begins_once t (bare l) e r (one_line f x) d s a b =
     let z = line_once t l e r (f ++ (58 ∷ x)) d s (bare_line t l e r a)
     (one_line_line t f x d s b) in
-    absurd (true_not_false (is_bare l) a.piece.1 (ap is_bare z.0 ∙ tagged_not_bare f x b.piece.0))
+    absurd (contrary (is_bare l) a.piece.1 (ap is_bare z.0 ∙ tagged_not_bare f x b.piece.0))
 begins_once t (bare l) e r (text f g v x) d s a b = absurd (opened_not_bare t f g _ l e r
     (text_opened t f g v x d s b) (bare_line t l e r a) a.piece.1)
 begins_once t (one_line f x) e r (bare l) d s b a =
     let z = line_once t l d s (f ++ (58 ∷ x)) e r (bare_line t l d s a)
     (one_line_line t f x e r b) in
-    absurd (true_not_false (is_bare l) a.piece.1 (ap is_bare z.0 ∙ tagged_not_bare f x b.piece.0))
+    absurd (contrary (is_bare l) a.piece.1 (ap is_bare z.0 ∙ tagged_not_bare f x b.piece.0))
 begins_once t (one_line f x) e r (one_line g y) d s a b =
     let z = line_once t (f ++ (58 ∷ x)) e r (g ++ (58 ∷ y)) d s (one_line_line t f x e r a)
     (one_line_line t g y d s b) in

@@ -12,8 +12,9 @@ use Rattle.desk_fields.specs.Pieces.{IsFirstEnd, IsTagged, is_bare}
 use Rattle.desk_fields.specs.Cutting.{Begins, Fails, Reads, done, more, fails, FieldText, with_piece, line_after}
 use Rattle.desk_fields.proofs.Founds.{ends_append}
 use Rattle.desk_base.proofs.LinesOnce.{line_once, line_some}
+use Rattle.desk_base.proofs.Bools.{contrary}
 use Rattle.desk_fields.proofs.Once.{close_once, IsOpened}
-use Rattle.desk_fields.proofs.OnePiece.{true_not_false, bare_line, one_line_line, text_opened}
+use Rattle.desk_fields.proofs.OnePiece.{bare_line, one_line_line, text_opened}
 use Rattle.desk_fields.proofs.OnePiece.{opened_not_bare, opened_not_closed, opened_has_tag}
 use Rattle.desk_fields.proofs.OnePiece.{opened_same, tail_line, begins_once}
 
@@ -60,7 +61,7 @@ pub begins_fails : (line : ℕ) (t : List ℕ) (p : Piece) (e : LineEnd) (r : Li
     → Begins t p e r → Fails line t f → ⊥
 begins_fails line t (bare l) e r (NoColon n) b h =
     let z = line_once t l e r h.0 h.1 h.2 (bare_line t l e r b) h.4 in
-    true_not_false (is_bare l) b.piece.1 (ap is_bare z.0 ∙ h.5)
+    contrary (is_bare l) b.piece.1 (ap is_bare z.0 ∙ h.5)
 begins_fails line t (one_line c a) e r (NoColon n) b h =
     let z = line_once t (c ++ (58 ∷ a)) e r h.0 h.1 h.2 (one_line_line t c a e r b) h.4 in
     let zero = h.6 c a b.piece.0.no_colon (sym z.0) in

@@ -18,10 +18,8 @@ use Rattle.std.proofs.lemmas.Str.Pattern.{split_text_parts}
 use denote.Ref.{Bor}
 use Rattle.desk_base.proofs.LinesOnce.{cut_once}
 use Rattle.desk_fields.specs.Pieces.{IsFirstEnd, is_bare}
+use Rattle.desk_fields.proofs.Founds.{drop_next}
 use Rattle.desk_base.specs.Bytes.{is_blank}
-
-drop_next : (n b : ℕ) (xs : List ℕ) → drop (1 + n) (b ∷ xs) ≡ drop n xs
-drop_next n b xs = let e : 1 + n ≡ suc n = omega arith in ap (λ k. drop k (b ∷ xs)) e
 
 -- if a front has more than blanks, only its own blanks are skipped
 pub skip-append : (xs ys : List ℕ) → 0 < length (skip_blanks xs)

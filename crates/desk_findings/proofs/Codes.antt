@@ -1,7 +1,7 @@
 -- Digests have a verification code.
 use Rattle.std.proofs.Common.{ℕ, List, map, refl}
-use Rattle.std.specs.Cmp.{IsTotalOrder, nat_cmp_total}
-use Rattle.std.specs.Cmp.Lexicographic.{slice_cmp, lists_total}
+use Rattle.std.proofs.lemmas.Cmp.{nat_list_cmp_total}
+use Rattle.std.specs.Cmp.Lexicographic.{slice_cmp}
 use Rattle.std.specs.List.{concat}
 use Rattle.std.specs.Ordering.{nat_cmp}
 use Rattle.sha1.specs.Sha1.{sha1}
@@ -9,12 +9,9 @@ use Rattle.hex.specs.Hex.{encode_lower}
 use Rattle.desk_bom.specs.Codes.{IsCode}
 use Rattle.desk_findings.proofs.Ordered.{sorted_list}
 
-text_total : IsTotalOrder (slice_cmp nat_cmp)
-text_total = lists_total nat_cmp_total
-
 pub code_exists : (digests : List (List ℕ)) → (code : List ℕ) × IsCode digests code
 code_exists digests =
-    let found = sorted_list (slice_cmp nat_cmp) text_total (map encode_lower digests) in (
+    let found = sorted_list (slice_cmp nat_cmp) nat_list_cmp_total (map encode_lower digests) in (
       encode_lower (sha1 (concat found.0)),
       record { texts = found.0; same = found.1; sorted = found.2; is = refl },
     )

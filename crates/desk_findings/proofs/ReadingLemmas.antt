@@ -1,9 +1,10 @@
 -- Readings of values.
-use Rattle.std.proofs.Common.{◌≡◌, ℕ, Bool, true, false, List, ap, sym, refl}
+use Rattle.std.proofs.Common.{◌≡◌, ℕ, Bool, true, List, ap, refl}
 use Rattle.std.specs.Prelude.{◌↔◌, Option, Some, None, Contains}
 use Rattle.std.specs.List.{list_any}
 use Rattle.std.proofs.lemmas.List.Folds.{Any-from_list_any, list_any-from_Any}
 use Rattle.desk_base.specs.declared.profile.Profile.{Profile}
+use Rattle.desk_base.proofs.Bools.{same_answer}
 use Rattle.desk_expr.specs.Tree.{Tree}
 use Rattle.desk_expr.specs.Spelling.{SpellsBy, SpellsWithinBy}
 use Rattle.desk_findings.specs.Fields.{IsRead}
@@ -21,13 +22,6 @@ pub read_as_none : (profile : Profile) (text : List ℕ) (o : Option Tree)
 read_as_none profile text None never is = refl
 read_as_none profile text (Some e) never is = absurd (never e is)
 
--- lists with the same members pass or fail a test together
-same_test : (a b : Bool) → (a ≡ true → b ≡ true) → (b ≡ true → a ≡ true) → a ≡ b
-same_test true true f g = refl
-same_test false false f g = refl
-same_test true false f g = sym (f refl)
-same_test false true f g = g refl
-
 any_goes : {X : Type 0} (p : X → Bool) (xs ys : List X) → ((x : X) → Contains xs x → Contains ys x)
     → list_any p xs ≡ true → list_any p ys ≡ true
 any_goes p xs ys goes h =
@@ -37,5 +31,5 @@ any_goes p xs ys goes h =
 
 pub any_same : {X : Type 0} (p : X → Bool) (xs ys : List X)
     → ((x : X) → Contains xs x ↔ Contains ys x) → list_any p xs ≡ list_any p ys
-any_same p xs ys same = same_test (list_any p xs) (list_any p ys)
+any_same p xs ys same = same_answer (list_any p xs) (list_any p ys)
     (any_goes p xs ys (λ x. (same x).0)) (any_goes p ys xs (λ x. (same x).1))

@@ -2,7 +2,7 @@
 -- each package, and one list of ids.
 use Rattle.std.proofs.Common.{◌≡◌, ◌∙◌, ◌⊎◌, inl, inr, ℕ, zero, suc, ◌+◌, Bool, true, false, cond}
 use Rattle.std.proofs.Common.{List, [], ◌∷◌, length, map, filter, sym, subst, refl, arith}
-use Rattle.std.proofs.lemmas.Bool.{cases_Bool}
+use Rattle.std.proofs.lemmas.Bool.{cases_Bool, or_left, or_right, or_cases}
 use Rattle.std.proofs.lemmas.Cmp.{nat_list_cmp_total, on_total}
 use Rattle.std.proofs.lemmas.List.{get_or-map, length-map}
 use Rattle.std.proofs.lemmas.List.Sorted.{sum_by-IsPermutation}
@@ -13,7 +13,9 @@ use Rattle.std.specs.Cmp.Lexicographic.{slice_cmp}
 use Rattle.std.specs.Prelude.{◌==◌, ◌||◌, Contains}
 use Rattle.std.specs.List.{range_with_len, sum_by}
 use Rattle.std.proofs.lemmas.List.Sums.{sum_by-cons}
-use Rattle.std.proofs.lemmas.Bool.Decides.{eqb_tells}
+use Rattle.desk_base.proofs.SortedOnce.{is_head, is_later}
+use Rattle.desk_base.proofs.Numbers.{same_number, numbers_equal}
+use Rattle.desk_base.proofs.Bools.{same_answer}
 use Rattle.desk_bom.proofs.OneState.{one_sorted}
 use Rattle.desk_bom.specs.declared.arrows.Arrow.{Arrow}
 use Rattle.desk_bom.specs.Marks.{IsClosedFrom, IsLeastFrom}
@@ -29,40 +31,15 @@ contains_cases : (x : Arrow) (xs : List Arrow) (q : Arrow) → Contains (x ∷ x
 contains_cases x xs q (zero, within, is) = inl is
 contains_cases x xs q (suc k, within, is) = inr (k, omega arith, is)
 
-contains_here : (x : Arrow) (xs : List Arrow) → Contains (x ∷ xs) x
-contains_here x xs = (zero, omega arith, refl)
-
-contains_there : (x : Arrow) (xs : List Arrow) (q : Arrow) → Contains xs q → Contains (x ∷ xs) q
-contains_there x xs q at = (suc at.0, omega (arith, at.1), at.2)
-
 -- the starts, and the place to which an arrow leads
 abbrev and_to : (ℕ → Bool) → ℕ → ℕ → Bool
 and_to start to a = start a || (a == to)
-
-or_left : (a b : Bool) → a ≡ true → (a || b) ≡ true
-or_left true b is = refl
-or_left false b is = cc
-
-or_right : (a b : Bool) → b ≡ true → (a || b) ≡ true
-or_right true b is = refl
-or_right false b is = is
-
-or_cases : (a b : Bool) → (a || b) ≡ true → (a ≡ true) ⊎ (b ≡ true)
-or_cases true b is = inl refl
-or_cases false b is = inr is
-
-same_number : (n : ℕ) → (n == n) ≡ true
-same_number n = elim (eqb_tells n n) [ inl e ↦ e.0 | inr e ↦ absurd (e.1 refl) ]
-
-number_same : (a b : ℕ) → (a == b) ≡ true → a ≡ b
-number_same a b is = elim (eqb_tells a b)
-    [ inl e ↦ e.1 | inr e ↦ let both = sym is ∙ e.0 in absurd (cc) ]
 
 fewer : (start : ℕ → Bool) (x : Arrow) (xs : List Arrow) (set : ℕ → Bool)
     → IsClosedFrom start (x ∷ xs) set → IsClosedFrom start xs set
 fewer start x xs set closed = record {
   starts = closed.starts;
-  arrows_within = λ y at. closed.arrows_within y (contains_there x xs y at);
+  arrows_within = λ y at. closed.arrows_within y (is_later x xs y at);
 }
 
 -- the arrow leads on
@@ -81,11 +58,11 @@ led start x xs set on first from next = record {
   least = λ other closed. next.least other (record {
     starts = λ a is. elim (or_cases (start a) (a == x.to) is) [
       | inl starts ↦ closed.starts a starts
-      | inr to ↦ subst (λ n. other n ≡ true) (sym (number_same a x.to to))
-          (closed.arrows_within x (contains_here x xs)
+      | inr to ↦ subst (λ n. other n ≡ true) (sym (numbers_equal a x.to to))
+          (closed.arrows_within x (is_head x xs)
           (first.least other (fewer start x xs other closed) x.from from))
     ];
-    arrows_within = λ y at. closed.arrows_within y (contains_there x xs y at);
+    arrows_within = λ y at. closed.arrows_within y (is_later x xs y at);
   });
 }
 
@@ -121,15 +98,9 @@ least_set start (x ∷ xs) =
       | inr outside ↦ (first.0, left start x xs first.0 first.1 outside)
     ]
 
--- two bits that imply each other are the same
-same_bit : (a b : Bool) → (a ≡ true → b ≡ true) → (b ≡ true → a ≡ true) → a ≡ b
-same_bit true b to from = sym (to refl)
-same_bit false true to from = from refl
-same_bit false false to from = refl
-
 pub one_least : (start : ℕ → Bool) (arrows : List Arrow) (set other : ℕ → Bool)
     → IsLeastFrom start arrows set → IsLeastFrom start arrows other → (a : ℕ) → set a ≡ other a
-one_least start arrows set other h k a = same_bit (set a) (other a) (h.least other k.closed a)
+one_least start arrows set other h k a = same_answer (set a) (other a) (h.least other k.closed a)
     (k.least set h.closed a)
 
 map_same : (f g : ℕ → Bool) (ks : List ℕ) → ((k : ℕ) → f k ≡ g k) → map f ks ≡ map g ks

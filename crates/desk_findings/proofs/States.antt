@@ -1,5 +1,5 @@
 -- The code of each package has exactly one state: the files of a package are one list.
-use Rattle.std.proofs.Common.{◌≡◌, ◌≢◌, ◌⊎◌, inl, inr, ℕ, zero, suc, ◌<◌, true, false, List, []}
+use Rattle.std.proofs.Common.{◌≡◌, ◌≢◌, ◌⊎◌, inl, inr, ℕ, zero, ◌<◌, true, false, List, []}
 use Rattle.std.proofs.Common.{◌∷◌, length, Option, Some, None, sym, subst, ap, refl, arith}
 use Rattle.std.specs.Prelude.{◌==◌, nat_eq, if◌then◌else◌, Contains, slice_get}
 use Rattle.std.specs.Ordering.{nat_cmp}
@@ -13,6 +13,8 @@ use Rattle.std.proofs.lemmas.List.Kept.{Contains-dedup_nat, Contains-from_dedup}
 use Rattle.std.proofs.lemmas.List.Sorted.{Contains-permutation, IsPermutation-sym}
 use Rattle.std.proofs.lemmas.Map.Keys.{IsStrictlyIncreasing-dedup}
 use Rattle.desk_base.specs.Folded.{folded}
+use Rattle.desk_base.proofs.SortedOnce.{is_later}
+use Rattle.desk_base.proofs.Lists.{contains_cases, item_at}
 use Rattle.desk_bom.specs.declared.arrows.Arrow.{Arrow}
 use Rattle.desk_bom.specs.declared.state.CodeState.{CodeState}
 use Rattle.desk_bom.specs.declared.state.CodeState.TheVariants as states
@@ -28,13 +30,6 @@ abbrev targets : ℕ → List Arrow → List ℕ
 targets k [] = []
 targets k (x ∷ xs) = if x.from == k then x.to ∷ targets k xs else targets k xs
 
-later : {A : Type 0} (x : A) (xs : List A) (q : A) → Contains xs q → Contains (x ∷ xs) q
-later x xs q at = (suc at.0, omega (arith, at.1), at.2)
-
-cases : {A : Type 0} (x : A) (xs : List A) (q : A) → Contains (x ∷ xs) q → (x ≡ q) ⊎ Contains xs q
-cases x xs q (zero, within, is) = inl is
-cases x xs q (suc k, within, is) = inr (k, omega arith, is)
-
 abbrev arrow : ℕ → ℕ → Arrow
 arrow k j = record { from = k; to = j }
 
@@ -42,12 +37,12 @@ in_targets : (k : ℕ) (xs : List Arrow) (j : ℕ) → Contains xs (arrow k j) �
 in_targets k [] j at = absurd (omega (arith, at.1))
 in_targets k (x ∷ xs) j at = elim (eqb_tells x.from k) [
   | inl same ↦ subst (λ b. Contains (if b then x.to ∷ targets k xs else targets k xs) j)
-      (sym same.0) (elim (cases x xs (arrow k j) at) [
+      (sym same.0) (elim (contains_cases x xs (arrow k j) at) [
         | inl is ↦ (zero, omega arith, ap (λ a. a.to) is)
-        | inr rest ↦ later x.to (targets k xs) j (in_targets k xs j rest)
+        | inr rest ↦ is_later x.to (targets k xs) j (in_targets k xs j rest)
       ])
   | inr other ↦ subst (λ b. Contains (if b then x.to ∷ targets k xs else targets k xs) j)
-      (sym other.0) (elim (cases x xs (arrow k j) at) [
+      (sym other.0) (elim (contains_cases x xs (arrow k j) at) [
         | inl is ↦ absurd (other.1 (ap (λ a. a.from) is))
         | inr rest ↦ in_targets k xs j rest
       ])
@@ -57,12 +52,12 @@ from_targets : (k : ℕ) (xs : List Arrow) (j : ℕ) → Contains (targets k xs)
     → Contains xs (arrow k j)
 from_targets k [] j at = absurd (omega (arith, at.1))
 from_targets k (x ∷ xs) j at = elim (eqb_tells x.from k) [
-  | inl same ↦ elim (cases x.to (targets k xs) j
+  | inl same ↦ elim (contains_cases x.to (targets k xs) j
       (subst (λ b. Contains (if b then x.to ∷ targets k xs else targets k xs) j) same.0 at)) [
         | inl is ↦ (zero, omega arith, λ i. record { from = same.1 i; to = is i })
-        | inr rest ↦ later x xs (arrow k j) (from_targets k xs j rest)
+        | inr rest ↦ is_later x xs (arrow k j) (from_targets k xs j rest)
       ]
-  | inr other ↦ later x xs (arrow k j)
+  | inr other ↦ is_later x xs (arrow k j)
       (from_targets k xs j (subst (λ b. Contains (if b then x.to ∷ targets k xs else targets k xs)
       j) other.0 at))
 ]
@@ -89,7 +84,7 @@ files_exist d k =
 
 -- ---- the state of a code
 
-same_text : (xs ys : List ℕ) → (xs ≡ ys) ⊎ (xs ≢ ys)
+pub same_text : (xs ys : List ℕ) → (xs ≡ ys) ⊎ (xs ≢ ys)
 same_text xs ys = elim (bytes_eq xs ys) as (λ b. Decides b (xs ≡ ys) → (xs ≡ ys) ⊎ (xs ≢ ys)) [
   | true ↦ λ told. inl (told.0 refl)
   | false ↦ λ told. inr (λ same. let both = told.1 same in cc)
@@ -126,14 +121,9 @@ state_at d k p (Some value) is =
     let state = state_of p files.0 value is (checked_digests p.files_analyzed value files.0) refl in
     (state.0, with_files d k p files.0 files.1 state.0 state.1 state.2)
 
-found_at : {A : Type 0} (xs : List A) (k : ℕ) → k < length xs → (x : A) × (slice_get xs k ≡ Some x)
-found_at [] k within = absurd (omega (arith, within))
-found_at (x ∷ xs) zero within = (x, refl)
-found_at (x ∷ xs) (suc k) within = found_at xs k (omega (arith, within))
-
 pub state_exists : (d : DocumentText) (k : ℕ) → k < length d.packages
     → (s : CodeState) × IsState d k s
 state_exists d k within =
-    let owner = found_at d.packages k within in
+    let owner = item_at d.packages k within in
     let state = state_at d k owner.0 owner.0.verification_code refl in
     (state.0, record { owner = owner.0; at = owner.1; is = state.1 })

@@ -12,6 +12,7 @@ use Rattle.std.proofs.lemmas.Cmp.{nat_list_cmp_total, nat_cmp_total, tied_itself
 use Rattle.std.proofs.lemmas.Map.Text.{is_eq-slice_cmp}
 use Rattle.std.proofs.lemmas.List.Elements.{filter-append}
 use Rattle.std.proofs.Math.Path.{fun_ext}
+use Rattle.std.proofs.lemmas.Bool.{and_from}
 use Rattle.desk_model.specs.Lists.{latest, or_else, in_order}
 use Rattle.desk_model.specs.Texts.{text_below, put_new, sorted_set}
 use Rattle.desk_model.specs.Readings.{Readings}
@@ -26,7 +27,7 @@ use Rattle.desk_model.specs.declared.row.ChoiceRow.{ChoiceRow}
 use Rattle.desk_model.specs.declared.command.Command.{Command}
 use Rattle.desk_model.specs.declared.command.Command.TheVariants.{Choose, Unchoose, Withdraw}
 use Rattle.desk_model.proofs.Orders.{IsOrder, order_of}
-use Rattle.desk_base.proofs.Bools.{both, and_left, and_right}
+use Rattle.desk_base.proofs.Bools.{and_left, and_right}
 use Rattle.desk_base.proofs.Texts.{texts_equal, same_text}
 use Rattle.desk_base.proofs.Numbers.{numbers_equal, same_number}
 
@@ -40,7 +41,7 @@ rises (x ∷ xs) = under text_below x xs && rises xs
 text_order : IsOrder (below_by (slice_cmp nat_cmp))
 text_order = order_of nat_list_cmp_total
 
-turns : (x y : List ℕ) (o : Ordering) → slice_cmp nat_cmp x y ≡ o → is_lt o ≡ false
+pub turns : (x y : List ℕ) (o : Ordering) → slice_cmp nat_cmp x y ≡ o → is_lt o ≡ false
     → bytes_eq x y ≡ false → text_below y x ≡ true
 turns x y Less e f g = cc
 turns x y Equal e f g = let same : is_eq (slice_cmp nat_cmp x y) ≡ bytes_eq x y =
@@ -51,22 +52,22 @@ under_chain : (x y : List ℕ) (zs : List (List ℕ)) → text_below x y ≡ tru
     → under text_below y zs ≡ true → under text_below x zs ≡ true
 under_chain x y [] e all = refl
 under_chain x y (z ∷ zs) e all =
-    both (text_below x z) (under text_below x zs)
+    and_from (text_below x z) (under text_below x zs)
     (text_order.between x y z e (text_order.asym y z
     (and_left (text_below y z) (under text_below y zs) all)))
     (under_chain x y zs e (and_right (text_below y z) (under text_below y zs) all))
 
 under-put_new : (x y : List ℕ) (zs : List (List ℕ)) → text_below y x ≡ true
     → under text_below y zs ≡ true → under text_below y (put_new x zs) ≡ true
-under-put_new x y [] e all = both (text_below y x) true e refl
+under-put_new x y [] e all = and_from (text_below y x) true e refl
 under-put_new x y (z ∷ zs) e all =
     elim (text_below x z) as (λ b. under text_below y
     (if b then x ∷ z ∷ zs else (if bytes_eq x z then z ∷ zs else z ∷ put_new x zs)) ≡ true) [
-      | true ↦ both (text_below y x) (under text_below y (z ∷ zs)) e all
+      | true ↦ and_from (text_below y x) (under text_below y (z ∷ zs)) e all
       | false ↦ elim (bytes_eq x z) as
           (λ b. under text_below y (if b then z ∷ zs else z ∷ put_new x zs) ≡ true) [
             | true ↦ all
-            | false ↦ both (text_below y z) (under text_below y (put_new x zs))
+            | false ↦ and_from (text_below y z) (under text_below y (put_new x zs))
                 (and_left (text_below y z) (under text_below y zs) all)
                 (under-put_new x y zs e (and_right (text_below y z) (under text_below y zs) all))
           ]
@@ -76,12 +77,12 @@ rises_step : (x y : List ℕ) (ys : List (List ℕ)) (b c : Bool) → text_below
     → bytes_eq x y ≡ c → rises (y ∷ ys) ≡ true → rises (put_new x ys) ≡ true
     → rises (if b then x ∷ y ∷ ys else (if c then y ∷ ys else y ∷ put_new x ys)) ≡ true
 rises_step x y ys true c e f up rest =
-    both (under text_below x (y ∷ ys)) (rises (y ∷ ys))
-    (both (text_below x y) (under text_below x ys) e
+    and_from (under text_below x (y ∷ ys)) (rises (y ∷ ys))
+    (and_from (text_below x y) (under text_below x ys) e
     (under_chain x y ys e (and_left (under text_below y ys) (rises ys) up))) up
 rises_step x y ys false true e f up rest = up
 rises_step x y ys false false e f up rest =
-    both (under text_below y (put_new x ys)) (rises (put_new x ys))
+    and_from (under text_below y (put_new x ys)) (rises (put_new x ys))
     (under-put_new x y ys (turns x y (slice_cmp nat_cmp x y) refl e f)
     (and_left (under text_below y ys) (rises ys) up)) rest
 
@@ -130,7 +131,7 @@ under-rows : (r p a : List ℕ) (d : ℕ) (terms : List (List ℕ)) → under te
     → under (below_by choice_order) (choice_row r d p a) (map (choice_row r d p) terms) ≡ true
 under-rows r p a d [] all = refl
 under-rows r p a d (t ∷ ts) all =
-    both (below_by choice_order (choice_row r d p a) (choice_row r d p t))
+    and_from (below_by choice_order (choice_row r d p a) (choice_row r d p t))
     (under (below_by choice_order) (choice_row r d p a) (map (choice_row r d p) ts))
     (row_order r p a t d ∙ and_left (text_below a t) (under text_below a ts) all)
     (under-rows r p a d ts (and_right (text_below a t) (under text_below a ts) all))

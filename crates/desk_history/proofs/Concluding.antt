@@ -6,7 +6,7 @@ use Rattle.std.specs.List.{list_any}
 use Rattle.std.specs.Option.{option_map}
 use Rattle.std.specs.Str.{bytes_eq}
 use Rattle.std.proofs.lemmas.Cmp.{on_total, then_total, nat_list_cmp_total, nat_cmp_total}
-use Rattle.desk_model.specs.Lists.{latest, or_else, put, replaced, ascends, over}
+use Rattle.desk_model.specs.Lists.{latest, or_else, put, replaced, ascends}
 use Rattle.desk_model.specs.Readings.{Readings}
 use Rattle.desk_model.specs.Keys.{below_by, conclusion_order, adoption_order, is_conclusion, is_adoption}
 use Rattle.desk_model.specs.Conclusions.{conclusions, conclusion_row, office_text, text_given}
@@ -16,7 +16,8 @@ use Rattle.desk_model.specs.declared.row.ConclusionRow.{ConclusionRow}
 use Rattle.desk_model.specs.declared.command.Command.{Command}
 use Rattle.desk_model.specs.declared.command.Command.TheVariants.{Conclude, Adopt}
 use Rattle.desk_model.proofs.Orders.{IsOrder, order_of, ascends-put}
-use Rattle.desk_base.proofs.Bools.{and_left, and_right, both}
+use Rattle.desk_model.proofs.Lists.{ascends-filter}
+use Rattle.desk_base.proofs.Bools.{and_left, and_right}
 use Rattle.desk_base.proofs.Texts.{texts_equal, same_text}
 use Rattle.desk_base.proofs.Numbers.{numbers_equal, same_number}
 
@@ -41,7 +42,7 @@ found_put below test x (y ∷ ys) e none =
     rest : (test y || list_any test ys) ≡ false → list_any test ys ≡ false
     rest n = (or_none (test y) (list_any test ys) n).1
 
-passed_by : {A : Type 0} (below : A → A → Bool) (test : A → Bool) (x : A) (xs : List A)
+pub passed_by : {A : Type 0} (below : A → A → Bool) (test : A → Bool) (x : A) (xs : List A)
     → test x ≡ false → find test (put below x xs) ≡ find test xs
 passed_by below test x [] e = rw e refl
 passed_by below test x (y ∷ ys) e =
@@ -89,7 +90,7 @@ replaced_elsewhere below test at x xs apart e = passed_by below test x (filter (
 
 -- Keys of a document's number and a text
 
-own_key : (d : ℕ) (p : List ℕ) → ((d == d) && bytes_eq p p) ≡ true
+pub own_key : (d : ℕ) (p : List ℕ) → ((d == d) && bytes_eq p p) ≡ true
 own_key d p = rw (same_number d, same_text p) refl
 
 pub key_number : (d d' : ℕ) (p p' : List ℕ) → ((d' == d) && bytes_eq p' p) ≡ true → d' ≡ d
@@ -188,33 +189,11 @@ last_adoption w (c ∷ h) d reference = adopted_after w c h d reference
 
 -- Both tables are sorted
 
-over_kept : {A : Type 0} (below : A → A → Bool) (test : A → Bool) (x : A) (ys : List A)
-    → over below x ys ≡ true → over below x (filter test ys) ≡ true
-over_kept below test x [] all = refl
-over_kept below test x (y ∷ ys) all =
-    elim (test y) as (λ b. over below x (cond b (y ∷ filter test ys) (filter test ys)) ≡ true) [
-      | true ↦ both (not (below y x)) (over below x (filter test ys))
-          (and_left (not (below y x)) (over below x ys) all)
-          (over_kept below test x ys (and_right (not (below y x)) (over below x ys) all))
-      | false ↦ over_kept below test x ys (and_right (not (below y x)) (over below x ys) all)
-    ]
-
-ascends_kept : {A : Type 0} (below : A → A → Bool) (test : A → Bool) (ys : List A)
-    → ascends below ys ≡ true → ascends below (filter test ys) ≡ true
-ascends_kept below test [] up = refl
-ascends_kept below test (y ∷ ys) up =
-    elim (test y) as (λ b. ascends below (cond b (y ∷ filter test ys) (filter test ys)) ≡ true) [
-      | true ↦ both (over below y (filter test ys)) (ascends below (filter test ys))
-          (over_kept below test y ys (and_left (over below y ys) (ascends below ys) up))
-          (ascends_kept below test ys (and_right (over below y ys) (ascends below ys) up))
-      | false ↦ ascends_kept below test ys (and_right (over below y ys) (ascends below ys) up)
-    ]
-
 ascends_replaced : {A : Type 0} (below : A → A → Bool) → IsOrder below
     → (at : A → Bool) (x : A) (xs : List A) → ascends below xs ≡ true
     → ascends below (replaced below at x xs) ≡ true
 ascends_replaced below o at x xs up = ascends-put below o x (filter (λ y. not (at y)) xs)
-    (ascends_kept below (λ y. not (at y)) xs up)
+    (ascends-filter below (λ y. not (at y)) xs up)
 
 pub conclusion_is_order : IsOrder (below_by conclusion_order)
 conclusion_is_order = order_of

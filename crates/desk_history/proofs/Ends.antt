@@ -1,6 +1,7 @@
 -- What a withdrawal and a CloseDay do to a duty.
 use Rattle.std.proofs.Common.{◌≡◌, ◌⊎◌, ℕ, Bool, true, false, List, [], ◌∷◌, Option, Some, None}
 use Rattle.std.proofs.Common.{refl, ap, ◌∙◌, inl, inr}
+use Rattle.std.proofs.Math.Bool.{and-false}
 use Rattle.std.specs.Prelude.{◌&&◌, not, if◌then◌else◌, unwrap_or}
 use Rattle.std.specs.Option.{option_map_or}
 use Rattle.desk_model.specs.Lists.{latest, or_else}
@@ -23,16 +24,12 @@ use Rattle.desk_base.proofs.Bools.{and_left, and_right}
 abbrev withdrawal : List ℕ → List ℕ → Move
 withdrawal day text = record { day = day; word = word.Withdrawn; body = text; last_day = None }
 
-not_both : (a : Bool) → (a && false) ≡ false
-not_both true = refl
-not_both false = refl
-
 pub met_stays : (w : Readings) (h : List Command) (r day text : List ℕ) (q : ℕ)
     → place w h q ≡ stands.Met → moves w (Withdraw r day text ∷ h) q ≡ moves w h q
 met_stays w h r day text q e =
     let none : (is_raised_for w h q r && not (is_met (place w h q))) ≡ false =
     ap (λ (s : DutyState). is_raised_for w h q r && not (is_met s)) e
-    ∙ not_both (is_raised_for w h q r) in
+    ∙ and-false (is_raised_for w h q r) in
     ap (λ (b : Bool). with_move (move_if b (withdrawal day text)) (moves w h q)) none
 
 pub other_withdrawn : (w : Readings) (h : List Command) (r day text : List ℕ) (q : ℕ)

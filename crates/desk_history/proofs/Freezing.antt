@@ -1,7 +1,7 @@
 -- What a freeze leaves.
 use Rattle.std.proofs.Common.{Option, Some, None, ◌≡◌, ℕ, ◌+◌, ◌<◌, ◌≤◌, true, false, List, [], ◌∷◌}
 use Rattle.std.proofs.Common.{◌++◌, length, map, sym, refl, ap, ◌∙◌, arith, length-append, add-zero}
-use Rattle.std.proofs.Common.{suc, inl, inr}
+use Rattle.std.proofs.Common.{inl, inr}
 use Rattle.std.specs.Prelude.{is_some, ◌&&◌, nat_lt, nat_le, ◌==◌, unwrap_or}
 use Rattle.std.specs.List.{flat_map, enumerate_from}
 use Rattle.std.specs.Option.{option_map_or}
@@ -9,6 +9,8 @@ use Rattle.std.specs.Str.{bytes_eq}
 use Rattle.std.proofs.lemmas.List.{length-map, map-append}
 use Rattle.std.proofs.lemmas.List.Concat.{flat_map-append, flat_map_single}
 use Rattle.std.proofs.lemmas.Bool.Decides.{nat_tests}
+use Rattle.std.proofs.lemmas.List.FromFn.{length-enumerate_from}
+use Rattle.std.proofs.lemmas.Simd.{map-map}
 use Rattle.desk_model.specs.Lists.{put_all, in_order, updated}
 use Rattle.desk_model.specs.Readings.{Readings}
 use Rattle.desk_model.specs.Keys.{is_release, below_by, frozen_order}
@@ -27,7 +29,7 @@ use Rattle.desk_model.specs.Answers.{Freezing, freezing, walk, conclusion}
 use Rattle.desk_history.specs.FromTables.{freezing_found, rules_found, form_found, choice_found}
 use Rattle.desk_history.specs.FromTables.{owed_found, frozen_found, new_duty, raised_row}
 use Rattle.desk_history.specs.FromTables.{new_duties}
-use Rattle.desk_history.proofs.Rows.{updated-map, texts_turned, in_order-append, map-map}
+use Rattle.desk_history.proofs.Rows.{updated-map, in_order-append}
 use Rattle.desk_history.proofs.Lookups.{state-found, form-found, rules-found}
 use Rattle.desk_history.proofs.Chosen.{choice-found}
 use Rattle.desk_model.specs.declared.row.DutyRow.{DutyRow}
@@ -37,7 +39,7 @@ use Rattle.desk_model.specs.declared.state.ReleaseState.{ReleaseState}
 use Rattle.desk_model.specs.declared.state.ReleaseState.TheVariants.{Frozen}
 use Rattle.desk_model.specs.declared.command.Command.{Command}
 use Rattle.desk_model.specs.declared.command.Command.TheVariants.{Freeze, Meet, Waive, Reopen, Withdraw}
-use Rattle.desk_base.proofs.Texts.{text_tells}
+use Rattle.desk_base.proofs.Texts.{text_tells, texts_turned}
 
 -- What is looked up
 
@@ -74,13 +76,9 @@ walk-found w h r =
     ∙ ap (λ chosen. walk w (adoptions w h) (rules_in (in_force w h)) (unwrap_or (form_of h r) [])
     (conclusion w h) chosen (shipped w h r)) (choice-found w h r))
 
-length-numbered : {A : Type 0} (n : ℕ) (xs : List A) → length (enumerate_from n xs) ≡ length xs
-length-numbered n [] = refl
-length-numbered n (x ∷ xs) = ap suc (length-numbered (n + 1) xs)
-
 pub length-duties : (w : Readings) (h : List Command) → length (duties w h) ≡ length (raised w h)
 length-duties w h = length-map (numbered w h) (λ d. duty_row (place w h d.0) d)
-    ∙ length-numbered 1 (raised w h)
+    ∙ length-enumerate_from 1 (raised w h)
 
 frozen_by : (a b : Freezing) → a.state ≡ b.state → a.attached ≡ b.attached → a.fault ≡ b.fault
     → a.raised ≡ b.raised → a.owed ≡ b.owed → a ≡ b
@@ -107,10 +105,10 @@ pub raised_fewer : (w : Readings) (c : Command) (h : List Command)
 raised_fewer w (Freeze r day) h = omega (arith, length-append (raised w h) (owed_at w h r))
 raised_fewer w c h = omega arith
 
-beyond : (a b q : ℕ) → a + b < q → (nat_lt a q && nat_le q (a + b)) ≡ false
+pub beyond : (a b q : ℕ) → a + b < q → (nat_lt a q && nat_le q (a + b)) ≡ false
 beyond a b q lt = grind (arith, nat_tests)
 
-not_known : (q' q l : ℕ) → l < q → ((q' == q) && nat_le q l) ≡ false
+pub not_known : (q' q l : ℕ) → l < q → ((q' == q) && nat_le q l) ≡ false
 not_known q' q l lt = grind (arith, nat_tests)
 
 out_of_range : (q l : ℕ) → l < q → in_range 1 q l ≡ false

@@ -29,18 +29,9 @@ use Rattle.desk_history.proofs.Lookups.{names-form}
 use Rattle.desk_history.proofs.Opening.{is_some-map}
 use Rattle.desk_history.proofs.Rows.{list_any-in_order}
 use Rattle.desk_base.proofs.Texts.{text_tells}
+use Rattle.desk_base.proofs.Lists.{filter_none, found_passes}
 
 -- What is held is in the table of choices
-
-not_any : {A : Type 0} (test : A → Bool) (xs : List A) → list_any test xs ≡ false
-    → filter test xs ≡ []
-not_any test [] e = refl
-not_any test (x ∷ xs) e = step (not_any test xs) (test x) refl e
-  where
-    step : (list_any test xs ≡ false → filter test xs ≡ []) → (b : Bool) → test x ≡ b
-        → (b || list_any test xs) ≡ false → cond b (x ∷ filter test xs) (filter test xs) ≡ []
-    step rest true f n = cc
-    step rest false f n = rest n
 
 held_row : (w : Readings) (h : List Command) (r : List ℕ) (d : ℕ) (p t : List ℕ)
     (ts : List (List ℕ)) → choice w h r d p ≡ t ∷ ts
@@ -55,12 +46,12 @@ held_row w h r d p t ts e =
     step : (b : Bool) → list_any (is_choice_of r d p) (standing w h) ≡ b → b ≡ true
     step true f = refl
     step false f = let none : filter (is_choice_of r d p) (standing w h) ≡ [] =
-        not_any (is_choice_of r d p) (standing w h) f in
+        filter_none (is_choice_of r d p) (standing w h) f in
         let bare : choice_row r d p t ∷ map (choice_row r d p) ts ≡ [] = sym rows ∙ none in cc
 
 -- A release that holds a choice was opened
 
-opened_stays : (c : Command) (h : List Command) (r : List ℕ) → is_some (form_of h r) ≡ true
+pub opened_stays : (c : Command) (h : List Command) (r : List ℕ) → is_some (form_of h r) ≡ true
     → is_some (form_of (c ∷ h) r) ≡ true
 opened_stays (OpenRelease r' form) h r e = step (bytes_eq r' r)
   where
@@ -167,19 +158,6 @@ unheld w h d p text r t ts ok recorded e =
     cc
 
 -- The conclusion in force stays if a command doesn't conclude for the package
-
-inner : {A : Type 0} (a b : A) → Some a ≡ Some b → a ≡ b
-inner a b e = cc
-
-found_passes : {A : Type 0} (test : A → Bool) (xs : List A) (x : A) → find test xs ≡ Some x
-    → test x ≡ true
-found_passes test [] x e = cc
-found_passes test (y ∷ ys) x e = step (found_passes test ys x) (test y) refl e
-  where
-    step : (find test ys ≡ Some x → test x ≡ true) → (b : Bool) → test y ≡ b
-        → cond b (Some y) (find test ys) ≡ Some x → test x ≡ true
-    step rest true f g = subst (λ z. test z ≡ true) (inner y x g) f
-    step rest false f g = rest g
 
 none_of : (o : Option (List ℕ)) → is_some o ≡ false → o ≡ None
 none_of None e = refl

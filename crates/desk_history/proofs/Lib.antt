@@ -2,15 +2,15 @@ pub mod Rows
 pub mod Orders
 mod Same
 pub mod Lookups
-mod Chosen
+pub mod Chosen
 mod Obstacles
 pub mod Concluding
 pub mod Recorded
 mod Opening
-mod Holding
+pub mod Holding
 pub mod Moving
 mod Withdrawing
-mod Freezing
+pub mod Freezing
 pub mod Steps
 pub mod Queries
 pub mod Running
@@ -18,7 +18,7 @@ pub mod Members
 mod Freezes
 mod RaisedLaw
 mod Counting
-mod Minimal
+pub mod Minimal
 pub mod Told
 pub mod Distinct
 pub mod OwnKeys
@@ -26,6 +26,6 @@ mod Held
 mod Numbers
 pub mod Sorting
 mod Ends
-mod Rising
-mod Listed
+pub mod Rising
+pub mod Listed
 mod Raising

@@ -58,12 +58,12 @@ rising_next number rest row n xs ys own old up more =
 
 -- Rules
 
-next_revision : (h : List Command) (text : List ℕ)
+pub next_revision : (h : List Command) (text : List ℕ)
     → length (revisions (LoadCatalogue text ∷ h)) ≡ length (revisions h) + 1
 next_revision h text = length-append (revisions h)
     (record { revision = length (revisions h) + 1; body = text } ∷ [])
 
-of_revision : (w : Readings) (h : List Command) (row : RuleRow) → IsIn row (rule_rows w h)
+pub of_revision : (w : Readings) (h : List Command) (row : RuleRow) → IsIn row (rule_rows w h)
     → row.revision ≤ length (revisions h)
 of_revision w [] row m = absurd m
 of_revision w (LoadCatalogue text ∷ h) row m =
@@ -97,7 +97,7 @@ next_document w h bytes profile = length-append (documents w h)
       profile = profile;
     } ∷ [])
 
-of_document : (w : Readings) (h : List Command) (row : PackageRow) → IsIn row (packages w h)
+pub of_document : (w : Readings) (h : List Command) (row : PackageRow) → IsIn row (packages w h)
     → row.document ≤ length (documents w h)
 of_document w [] row m = absurd m
 of_document w (Import bytes profile ∷ h) row m =
@@ -118,7 +118,7 @@ rising_packages w in_order (Import bytes profile ∷ h) =
     (rises_read package_below packages_in (w.document bytes) tt (in_order.packages bytes))
 rising_packages w in_order (c ∷ h) = rising_packages w in_order h
 
-defined_by : (w : Readings) (h : List Command) (row : ExtractedRow) → IsIn row (references w h)
+pub defined_by : (w : Readings) (h : List Command) (row : ExtractedRow) → IsIn row (references w h)
     → row.document ≤ length (documents w h)
 defined_by w [] row m = absurd m
 defined_by w (Import bytes profile ∷ h) row m =

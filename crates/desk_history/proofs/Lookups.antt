@@ -1,13 +1,13 @@
 -- What is looked up in the tables of a history is what the history says.
 use Rattle.std.proofs.Common.{◌≡◌, ℕ, ◌+◌, ◌<◌, Bool, true, false, List, [], ◌∷◌, ◌++◌, length, map}
-use Rattle.std.proofs.Common.{Option, Some, None, refl, ap, ◌∙◌, subst, arith, length-append, inl}
+use Rattle.std.proofs.Common.{Option, Some, None, refl, ap, ◌∙◌, subst, arith, inl}
 use Rattle.std.proofs.Common.{inr}
 use Rattle.std.specs.Prelude.{if◌then◌else◌, filter, ◌==◌, is_some, unwrap_or}
 use Rattle.std.specs.List.{list_any}
 use Rattle.std.specs.Option.{option_map}
 use Rattle.std.specs.Result.{result_ok}
 use Rattle.std.specs.Str.{bytes_eq}
-use Rattle.std.proofs.lemmas.List.{length-map}
+use Rattle.std.proofs.lemmas.List.{length-map, length_push}
 use Rattle.std.proofs.lemmas.List.Elements.{filter-append}
 use Rattle.std.proofs.lemmas.Bool.Decides.{nat_tests}
 use Rattle.desk_model.specs.Texts.{text_below}
@@ -101,9 +101,6 @@ all_of n [] = refl
 all_of n (r ∷ rs) = let e : (n == n) ≡ true = grind (arith, nat_tests) in
     rw e (ap (λ xs. r ∷ xs) (all_of n rs))
 
-pub length-push : {A : Type 0} (xs : List A) (x : A) → length (xs ++ x ∷ []) ≡ length xs + 1
-length-push xs x = omega (arith, length-append xs (x ∷ []))
-
 later_revision : (w : Readings) (h : List Command) (m : ℕ) → length (revisions h) < m
     → filter (is_rule_of m) (rule_rows w h) ≡ []
 later_revision w [] m lt = refl
@@ -111,7 +108,7 @@ later_revision w (LoadCatalogue text ∷ h) m lt =
     let fewer : length (revisions h) + 1 < m =
     omega (
       arith,
-      length-push (revisions h) (record { revision = length (revisions h) + 1; body = text }),
+      length_push (revisions h) (record { revision = length (revisions h) + 1; body = text }),
     ) in
     let differ : (length (revisions h) + 1 == m) ≡ false = grind (arith, nat_tests) in
     let before : length (revisions h) < m = omega arith in
@@ -142,7 +139,7 @@ pub rules-found : (w : Readings) (h : List Command)
 rules-found w [] = refl
 rules-found w (LoadCatalogue text ∷ h) = rules_loaded w h text
     (length (revisions h ++ record { revision = length (revisions h) + 1; body = text } ∷ []))
-    (length-push (revisions h) (record { revision = length (revisions h) + 1; body = text }))
+    (length_push (revisions h) (record { revision = length (revisions h) + 1; body = text }))
 rules-found w (_ ∷ h) = rules-found w h
 
 -- Choices

@@ -3,6 +3,7 @@ use Rattle.std.proofs.Common.{◌≡◌, ℕ, true, List, [], ◌∷◌, ◌++�
 use Rattle.std.specs.Prelude.{find, is_some, IsTrue}
 use Rattle.std.specs.List.{filter_map}
 use Rattle.std.specs.Option.{option_and_then}
+use Rattle.desk_base.proofs.Lists.{is_there}
 use Rattle.desk_model.specs.Readings.{Readings}
 use Rattle.desk_model.specs.Keys.{is_document}
 use Rattle.desk_model.specs.History.{documents}
@@ -13,7 +14,6 @@ use Rattle.desk_history.proofs.Recorded.{chooses}
 use Rattle.desk_model.specs.declared.reading.Conclusion.{Conclusion}
 use Rattle.desk_model.specs.declared.reading.Verdict.{Verdict}
 use Rattle.desk_model.specs.declared.reading.Verdict.TheVariants.{NotEnough, Superfluous, Minimal}
-use Rattle.desk_model.specs.declared.row.DocumentRow.{DocumentRow}
 use Rattle.desk_model.specs.declared.row.PackageRow.{PackageRow}
 use Rattle.desk_model.specs.declared.command.Command.{Command}
 use Rattle.desk_model.specs.declared.command.Command.TheVariants.{Choose}
@@ -51,17 +51,13 @@ chosen_by w conclusion terms (Some row) (Some c) is known concluded enough minim
       minimal = minimal_by terms (w.verdict c.profile c.text terms) enough minimal;
     }
 
-there : (o : Option DocumentRow) → is_some o ≡ true → (row : DocumentRow) × (o ≡ Some row)
-there None e = absurd (cc)
-there (Some row) e = (row, refl)
-
 pub recorded_is_minimal : (w : Readings) (before : List Command) (r : List ℕ) (d : ℕ) (p : List ℕ)
     (texts : List (List ℕ)) → IsTrue (is_recorded (answer w before (Choose r d p texts)))
     → IsMinimalChoice w before d p texts
 recorded_is_minimal w before r d p texts e =
     let found : Choosing = choosing w before r d p in
     let is = chooses w texts found e in
-    let document = there (find (is_document d) (documents w before)) is.has_document in
+    let document = is_there (find (is_document d) (documents w before)) is.has_document in
     let c = chosen_by w (conclusion w before) (filter_map w.term texts) found.row found.conclusion
     refl is.has_package is.concluded is.enough is.minimal in
     record {

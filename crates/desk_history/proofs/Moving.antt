@@ -9,6 +9,7 @@ use Rattle.std.specs.Option.{option_map, option_map_or}
 use Rattle.std.proofs.lemmas.List.Elements.{filter-append}
 use Rattle.std.proofs.lemmas.List.Folds.{list_any-append, list_all-append}
 use Rattle.std.proofs.lemmas.Bool.Decides.{nat_tests, eqb_tells}
+use Rattle.std.proofs.lemmas.Bool.{and_from}
 use Rattle.desk_base.specs.Day.{is_day}
 use Rattle.desk_model.specs.Lists.{put, put_all, updated}
 use Rattle.desk_model.specs.Texts.{is_note}
@@ -24,7 +25,7 @@ use Rattle.desk_model.specs.Tables.{tables, with_duty_state, moved_by}
 use Rattle.desk_model.specs.Answers.{is_recorded, is_over, unless, release_state_of, Moving, move_answer, moving}
 use Rattle.desk_history.proofs.Recorded.{past, is_so}
 use Rattle.desk_history.specs.FromTables.{duty_found, steps_found, release_state_found, moved_found}
-use Rattle.desk_history.proofs.Rows.{find-map, put-past}
+use Rattle.desk_history.proofs.Rows.{find-map}
 use Rattle.desk_history.proofs.Lookups.{state-found}
 use Rattle.desk_history.proofs.Orders.{put_first}
 use Rattle.desk_model.specs.declared.row.ChangeRow.{ChangeRow}
@@ -35,6 +36,7 @@ use Rattle.desk_model.specs.declared.state.DutyState.{DutyState}
 use Rattle.desk_model.specs.declared.state.Word.{Word}
 use Rattle.desk_model.specs.declared.refusal.Refusal.TheVariants as why
 use Rattle.desk_model.specs.declared.command.Command.{Command}
+use Rattle.desk_model.proofs.Lists.{put-past}
 use Rattle.desk_base.proofs.Numbers.{same_number}
 use Rattle.desk_base.proofs.Bools.{and_left, and_right}
 
@@ -44,7 +46,7 @@ in_range n q k = nat_le n q && nat_lt q (n + k)
 range_none : (n q : ℕ) → in_range n q 0 ≡ false
 range_none n q = grind (arith, nat_tests)
 
-range_here : (n q k : ℕ) → n ≡ q → in_range n q (k + 1) ≡ true
+pub range_here : (n q k : ℕ) → n ≡ q → in_range n q (k + 1) ≡ true
 range_here n q k e = grind (arith, nat_tests)
 
 range_next : (n q k : ℕ) → n ≢ q → in_range n q (k + 1) ≡ in_range (n + 1) q k
@@ -210,16 +212,11 @@ after before move q = with_move (move q) (before q)
 abbrev beyond : ℕ → List ChangeRow → Bool
 beyond n rows = list_all (λ row. nat_lt n row.duty) rows
 
-all_both : (a b : Bool) → a ≡ true → b ≡ true → (a && b) ≡ true
-all_both true true e f = refl
-all_both true false e f = f
-all_both false b e f = e
-
 beyond_new : (k n : ℕ) (ms : List Move) (o : Option Move) (rows : List ChangeRow) → k < n
     → beyond k rows ≡ true → beyond k (new_row n ms o ++ rows) ≡ true
 beyond_new k n ms None rows lt all = all
 beyond_new k n ms (Some m) rows lt all = let here : nat_lt k n ≡ true = grind (arith, nat_tests) in
-    all_both (nat_lt k n) (beyond k rows) here all
+    and_from (nat_lt k n) (beyond k rows) here all
 
 beyond_rows : (before : ℕ → List Move) (move : ℕ → Option Move) (k n : ℕ) (xs : List Owed) → k < n
     → beyond k (new_rows before move (enumerate_from n xs)) ≡ true
@@ -316,7 +313,7 @@ later_change q n a step lt = grind (arith, nat_tests)
 next_change : (n a step : ℕ) → step ≤ a → (nat_lt n n || ((n == n) && nat_lt (a + 1) step)) ≡ false
 next_change n a step le = grind (arith, nat_tests)
 
-less_by : (n q : ℕ) → nat_lt n q ≡ true → n < q
+pub less_by : (n q : ℕ) → nat_lt n q ≡ true → n < q
 less_by n q e = grind (arith, nat_tests)
 
 put_past : (n : ℕ) (ms : List Move) (rows zs : List ChangeRow) → beyond n rows ≡ true

@@ -1,6 +1,7 @@
 -- The tables after the opening of a release and after an attachment.
-use Rattle.std.proofs.Common.{◌≡◌, ℕ, ◌+◌, Bool, true, false, List, [], ◌∷◌, length, map, Option}
+use Rattle.std.proofs.Common.{◌≡◌, ℕ, ◌+◌, true, false, List, [], ◌∷◌, length, map, Option}
 use Rattle.std.proofs.Common.{Some, None, sym, refl, ap, ◌∙◌, inl, inr}
+use Rattle.std.proofs.lemmas.Bool.{not-true}
 use Rattle.std.specs.Prelude.{if◌then◌else◌, is_some, IsTrue, not}
 use Rattle.std.specs.List.{list_any}
 use Rattle.std.specs.Option.{option_map, option_and_then}
@@ -16,13 +17,13 @@ use Rattle.desk_model.specs.Answers.{IsHistory, is_recorded, release_state, Open
 use Rattle.desk_model.specs.Answers.{Freezing, freeze_answer, freezing, unready, unless}
 use Rattle.desk_model.specs.Answers.{Withdrawing, withdrawing, withdraw_answer}
 use Rattle.desk_history.proofs.Recorded.{past, is_so, is_ready}
-use Rattle.desk_history.proofs.Rows.{map-put, map_others, texts_turned}
+use Rattle.desk_history.proofs.Rows.{map-put, map_others}
 use Rattle.desk_history.proofs.Lookups.{names-form, length-releases}
 use Rattle.desk_model.specs.declared.state.ReleaseState.TheVariants.{IsOpen}
 use Rattle.desk_model.specs.declared.refusal.Refusal.TheVariants as why
 use Rattle.desk_model.specs.declared.command.Command.{Command}
 use Rattle.desk_model.specs.declared.command.Command.TheVariants.{OpenRelease, Freeze, Withdraw}
-use Rattle.desk_base.proofs.Texts.{text_tells, same_text}
+use Rattle.desk_base.proofs.Texts.{text_tells, same_text, texts_turned}
 
 -- a release that is not opened yet has no state and no revision
 pub record IsUntouched (h : List Command) (r : List ℕ) : Type 0 where
@@ -89,10 +90,6 @@ untouched w (Withdraw r' day text ∷ h) r ok none =
 untouched w (_ ∷ h) r ok none = let u = untouched w h r ok.1 none in
     record { state = u.state; revision = u.revision }
 
-pub not_so : (b : Bool) → not b ≡ true → b ≡ false
-not_so false e = refl
-not_so true e = cc
-
 -- a release is opened only if its name is free
 pub open_free : (name form : List ℕ) (found : Opening)
     → IsTrue (is_recorded (open_answer name form found)) → found.is_taken ≡ false
@@ -100,7 +97,7 @@ open_free name form found e =
     let one = past (unless (is_release_name name) why.BadName) _ e in
     let two = past (unless (list_any (bytes_eq form) found.forms) why.UnknownForm) _ one.1 in
     let three = past (unless (not found.is_taken) why.NameTaken) _ two.1 in
-    not_so found.is_taken (is_so (not found.is_taken) why.NameTaken three.0)
+    not-true found.is_taken (is_so (not found.is_taken) why.NameTaken three.0)
 
 other_row : (h : List Command) (r f n : List ℕ) → bytes_eq n r ≡ false
     → release_row h n ≡ release_row (OpenRelease r f ∷ h) n

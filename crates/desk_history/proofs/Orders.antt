@@ -3,9 +3,10 @@ use Rattle.std.proofs.Common.{◌≡◌, Bool, true, false, cond, List, [], ◌�
 use Rattle.std.specs.Prelude.{if◌then◌else◌, filter, not}
 use Rattle.std.specs.List.{list_all}
 use Rattle.std.proofs.lemmas.Cmp.{on_total, then_total, nat_list_cmp_total, nat_cmp_total}
+use Rattle.std.proofs.lemmas.Bool.{and_from, not-true}
 use Rattle.desk_model.specs.Lists.{put, in_order, over, ascends}
 use Rattle.desk_model.specs.Keys.{below_by, attached_order, choice_order}
-use Rattle.desk_base.proofs.Bools.{and_left, and_right, both, not_true}
+use Rattle.desk_base.proofs.Bools.{and_left, and_right}
 use Rattle.desk_model.proofs.Orders.{IsOrder, order_of, ascends-put}
 
 pub ascends-in_order : {A : Type 0} (below : A → A → Bool) → IsOrder below → (xs : List A)
@@ -29,11 +30,11 @@ under_over : {A : Type 0} (below : A → A → Bool) → IsOrder below
 under_over below o test x y [] e all = refl
 under_over below o test x y (z ∷ zs) e all =
     let here : below x z ≡ true =
-    o.between x y z e (not_true (below z y) (and_left (not (below z y)) (over below y zs) all)) in
+    o.between x y z e (not-true (below z y) (and_left (not (below z y)) (over below y zs) all)) in
     let rest = under_over below o test x y zs e
     (and_right (not (below z y)) (over below y zs) all) in
     elim (test z) as (λ b. under below x (cond b (z ∷ filter test zs) (filter test zs)) ≡ true) [
-      | true ↦ both (below x z) (under below x (filter test zs)) here rest
+      | true ↦ and_from (below x z) (under below x (filter test zs)) here rest
       | false ↦ rest
     ]
 
@@ -47,7 +48,7 @@ filter_here : {A : Type 0} (below : A → A → Bool) → IsOrder below
 filter_here below o test x y ys e all =
     let rest : under below x (filter test (y ∷ ys)) ≡ true =
     elim (test y) as (λ b. under below x (cond b (y ∷ filter test ys) (filter test ys)) ≡ true) [
-      | true ↦ both (below x y) (under below x (filter test ys)) e
+      | true ↦ and_from (below x y) (under below x (filter test ys)) e
           (under_over below o test x y ys e all)
       | false ↦ under_over below o test x y ys e all
     ] in

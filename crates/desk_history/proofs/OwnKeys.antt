@@ -1,6 +1,6 @@
 -- No two duties have the same key.
-use Rattle.std.proofs.Common.{◌≡◌, ◌≢◌, ℕ, ◌+◌, ◌≤◌, Bool, true, false, List, [], ◌∷◌, length, map}
-use Rattle.std.proofs.Common.{Option, Some, None, sym, refl, ap, ◌∙◌, subst, arith, length-append}
+use Rattle.std.proofs.Common.{◌≡◌, ◌≢◌, ℕ, ◌+◌, Bool, true, false, List, [], ◌∷◌, length, map}
+use Rattle.std.proofs.Common.{Option, Some, None, sym, refl, ap, ◌∙◌, subst, arith}
 use Rattle.std.proofs.Common.{inl, inr}
 use Rattle.std.specs.Prelude.{if◌then◌else◌, filter, find, not, ◌||◌, ◌==◌, unwrap_or, Result, Ok}
 use Rattle.std.specs.Prelude.{Err, IsTrue, cond, is_some}
@@ -12,11 +12,13 @@ use Rattle.std.specs.Ordering.{is_lt}
 use Rattle.std.proofs.lemmas.Cmp.{nat_list_cmp_total, tied_itself}
 use Rattle.std.proofs.lemmas.List.{map-append}
 use Rattle.std.proofs.lemmas.Bool.Decides.{nat_tests}
+use Rattle.std.proofs.lemmas.Bool.{not-true}
+use Rattle.std.proofs.lemmas.Simd.{map-map}
 use Rattle.desk_model.specs.Lists.{IsIn, latest, or_else}
 use Rattle.desk_model.specs.Texts.{text_below}
 use Rattle.desk_model.specs.Readings.{Readings}
 use Rattle.desk_model.specs.Keys.{is_shipped_by, is_attached_to, is_attachment, below_by, attached_order, is_rule}
-use Rattle.desk_model.specs.History.{loaded, namespace_in, in_force, rules_in, rule_for, documents}
+use Rattle.desk_model.specs.History.{loaded, in_force, rules_in, rule_for, documents}
 use Rattle.desk_model.specs.History.{packages, packages_in, package_row, form_of, state_of}
 use Rattle.desk_model.specs.History.{state_given, attached, attached_to}
 use Rattle.desk_model.specs.Conclusions.{adopted, adoptions}
@@ -26,14 +28,14 @@ use Rattle.desk_model.specs.Moves.{duties, duty_row, place}
 use Rattle.desk_model.specs.Answers.{answer, is_recorded, IsHistory, Attaching, attach_answer}
 use Rattle.desk_model.specs.Answers.{attaching, freezing, unless, unready}
 use Rattle.desk_history.proofs.Recorded.{past, is_so}
-use Rattle.desk_history.proofs.Opening.{frozen_open, not_so}
+use Rattle.desk_history.proofs.Opening.{frozen_open}
 use Rattle.desk_history.specs.Laws.{AreDistinct, ListsOnce, key_of}
-use Rattle.desk_history.proofs.Rows.{map-map}
 use Rattle.desk_history.proofs.Orders.{under}
 use Rattle.desk_history.proofs.Chosen.{rises, rises-choice}
 use Rattle.desk_history.proofs.Members.{in_cases, in_map, from_map, from_flat_map}
 use Rattle.desk_history.proofs.Distinct.{distinct-append, distinct-map, from_filter}
 use Rattle.desk_history.proofs.Distinct.{distinct-filter, distinct-flat_map, distinct-put}
+use Rattle.desk_history.proofs.Listed.{of_document}
 use Rattle.desk_model.specs.declared.reading.Catalogue.{Catalogue}
 use Rattle.desk_model.specs.declared.reading.Document.{Document}
 use Rattle.desk_model.specs.declared.reading.Package.{Package}
@@ -59,7 +61,7 @@ owed_key d = (d.release, d.document, d.package_id, d.term, d.code)
 
 -- Terms: those of a choice are sorted
 
-not_below_itself : (x : List ℕ) → text_below x x ≡ false
+pub not_below_itself : (x : List ℕ) → text_below x x ≡ false
 not_below_itself x = ap is_lt (tied_itself nat_list_cmp_total x)
 
 pub under_all : (x y : List ℕ) (ys : List (List ℕ)) → under text_below x ys ≡ true → IsIn y ys
@@ -177,29 +179,6 @@ distinct-terms w once h r form p =
     (λ term m. distinct-under w once h r p term form
     (rule_adopted w (adoptions w h) rules form p.document term) refl)
 
--- a package belongs to a document that was imported
-belongs : (w : Readings) (h : List Command) (p : PackageRow) → IsIn p (packages w h)
-    → p.document ≤ length (documents w h)
-belongs w [] p m = absurd m
-belongs w (Import bytes profile ∷ h) p m =
-    let n = length (documents w h) + 1 in
-    let all : length (documents w (Import bytes profile ∷ h)) ≡ n =
-    length-append (documents w h)
-    (record {
-      number = n;
-      namespace = namespace_in (result_ok (w.document bytes));
-      bytes = bytes;
-      profile = profile;
-    } ∷ []) in
-    elim (in_cases p (packages w h)
-    (map (package_row n) (packages_in (result_ok (w.document bytes)))) m) [
-      | inl l ↦ omega (arith, all, belongs w h p l)
-      | inr new ↦ (let found = from_map (package_row n) p
-          (packages_in (result_ok (w.document bytes))) new in
-          omega (arith, all, ap (λ (q : PackageRow). q.document) found.2))
-    ]
-belongs w (c ∷ h) p m = belongs w h p m
-
 -- a reading by which no document has two packages with the same id
 abbrev pub HasOwnIds : Readings → Type 0
 HasOwnIds w = (bytes : List ℕ) (document : Document) → w.document bytes ≡ Ok document
@@ -242,7 +221,7 @@ distinct-packages w own (Import bytes profile ∷ h) =
     let found = from_map (package_row n) row.0 (packages_in (result_ok (w.document bytes))) row.1 in
     let here : n ≡ old.0.document = ap (λ (p : PackageRow). p.document) found.2
     ∙ ap (λ (k : ℕ × List ℕ). k.0) (row.2 ∙ sym old.2) in
-    omega (arith, here, belongs w h old.0 old.1)) in
+    omega (arith, here, of_document w h old.0 old.1)) in
     subst AreDistinct (sym (map-append place_of (packages w h) new))
     (distinct-append (map place_of (packages w h)) (map place_of new) (distinct-packages w own h)
     (distinct-pairs n (packages_in (result_ok (w.document bytes)))
@@ -258,7 +237,7 @@ attached_new found e =
     let two = past (unless found.has_document why.UnknownDocument) _ one.1 in
     let three = past (option_and_then unready found.state) _ two.1 in
     let four = past (unless (not found.is_attached) why.AlreadyAttached) _ three.1 in
-    not_so found.is_attached (is_so (not found.is_attached) why.AlreadyAttached four.0)
+    not-true found.is_attached (is_so (not found.is_attached) why.AlreadyAttached four.0)
 
 attachment_found : (row : AttachedRow) (rows : List AttachedRow) → IsIn row rows
     → list_any (is_attachment row.release row.document) rows ≡ true

@@ -1,9 +1,9 @@
 -- The answers to queries, from tables.
-use Rattle.std.proofs.Common.{◌≡◌, ℕ, ◌+◌, ◌≤◌, Bool, true, false, List, [], ◌∷◌, Option, Some}
+use Rattle.std.proofs.Common.{◌≡◌, ℕ, ◌+◌, ◌≤◌, Bool, true, false, List, [], ◌∷◌, Some}
 use Rattle.std.proofs.Common.{None, length, map, refl, sym, ap, ◌∙◌, arith}
 use Rattle.std.specs.Prelude.{if◌then◌else◌, filter, is_some, cond}
 use Rattle.std.specs.List.{enumerate_from, flat_map}
-use Rattle.std.specs.Option.{option_map, option_map_or}
+use Rattle.std.specs.Option.{option_map_or}
 use Rattle.std.proofs.lemmas.Bool.Decides.{nat_tests}
 use Rattle.desk_model.specs.Readings.{Readings}
 use Rattle.std.specs.List.{list_any}
@@ -26,6 +26,7 @@ use Rattle.desk_history.proofs.Lookups.{is_found, release_found-tables, rules-fo
 use Rattle.desk_history.proofs.Chosen.{choice-found}
 use Rattle.desk_history.proofs.Obstacles.{wanting_told}
 use Rattle.desk_history.proofs.Moving.{changes-numbered, in_range, duty-found, known_at}
+use Rattle.desk_history.proofs.Opening.{is_some-map}
 use Rattle.desk_model.specs.declared.row.DutyRow.{DutyRow}
 use Rattle.desk_model.specs.declared.row.PackageRow.{PackageRow}
 use Rattle.desk_model.specs.declared.row.ReleaseRow.{ReleaseRow}
@@ -83,15 +84,10 @@ open-found : (w : Readings) (h : List Command) (row : ReleaseRow)
 open-found w h row = told_from (λ rows duty. open_duty (λ q. rows) duty) (is_open_of row.name) w h 1
     (raised w h) (omega arith) refl
 
--- the changes of a duty are listed if and only if it is known
-is_mapped : {A B : Type 0} (f : A → B) (o : Option A) → is_some (option_map f o) ≡ is_some o
-is_mapped f None = refl
-is_mapped f (Some x) = refl
-
 duty_known : (w : Readings) (h : List Command) (q : ℕ)
     → is_some (duty_found (tables w h) q) ≡ is_some (duty_at w h q)
 duty_known w h q = ap is_some (duty-found w h q)
-    ∙ is_mapped (λ d. duty_row (place w h d.0) d) (duty_at w h q)
+    ∙ is_some-map (λ d. duty_row (place w h d.0) d) (duty_at w h q)
 
 where_known : (known : Bool) (rows told : List ChangeRow) → (known ≡ true → rows ≡ told)
     → (if known then answered.Changes rows else answered.Refused why.UnknownDuty)

@@ -12,6 +12,7 @@ use Rattle.std.specs.declared.cmp.Ordering.{Ordering}
 use Rattle.std.specs.declared.cmp.Ordering.TheVariants.{Less, Equal, Greater}
 use Rattle.std.proofs.lemmas.Cmp.{nat_cmp_total, nat_list_cmp_total, on_total, then_total, tied_itself}
 use Rattle.std.proofs.lemmas.Bool.Decides.{nat_tests}
+use Rattle.std.proofs.lemmas.Bool.{or_right}
 use Rattle.desk_model.specs.Lists.{IsIn, latest}
 use Rattle.desk_model.specs.Texts.{text_below}
 use Rattle.desk_model.specs.Readings.{Readings}
@@ -217,10 +218,6 @@ rising_owed w h r lists ok =
 abbrev apart_or_before : Owed → Owed → Bool
 apart_or_before a b = not (bytes_eq a.release b.release) || below_by owed_order a b
 
-before_or : (b c : Bool) → c ≡ true → (b || c) ≡ true
-before_or true c e = refl
-before_or false c e = e
-
 apart_by : (a b : Owed) (c : Bool) → bytes_eq a.release b.release ≡ c → a.release ≢ b.release
     → (not c || below_by owed_order a b) ≡ true
 apart_by a b true e n = absurd (n (texts_equal a.release b.release e))
@@ -233,7 +230,7 @@ rising_raised w lists (Freeze r day ∷ h) ok =
     let here = open_at w h r day ok.0 in
     rises-append apart_or_before (raised w h) (owed_at w h r) (rising_raised w lists h ok.1)
     (rises-by (below_by owed_order) apart_or_before (owed_at w h r)
-    (λ x y m n e. before_or (not (bytes_eq x.release y.release)) (below_by owed_order x y) e)
+    (λ x y m n e. or_right (not (bytes_eq x.release y.release)) (below_by owed_order x y) e)
     (rising_owed w h r lists ok.1))
     (λ x y old new. apart_by x y (bytes_eq x.release y.release) refl
     (λ same. raised_closed w h x old (ap (state_of h) (same ∙ owed_release w h r y new) ∙ here)))

@@ -7,6 +7,7 @@ use Rattle.std.specs.Option.{option_map}
 use Rattle.std.specs.Str.{bytes_eq}
 use Rattle.std.proofs.lemmas.Slice.Eq.{bytes_eq-Decides}
 use Rattle.desk_model.specs.Lists.{put, put_all, in_order, updated}
+use Rattle.desk_model.proofs.Lists.{length-put}
 use Rattle.desk_base.proofs.Bools.{or_left, or_right}
 use Rattle.desk_base.proofs.Texts.{text_tells, texts_equal}
 
@@ -17,9 +18,6 @@ texts_turned_by a b true false e f = let back : bytes_eq b a ≡ true =
     (bytes_eq-Decides b a).1 (sym (texts_equal a b e)) in cc
 texts_turned_by a b false true e f = let back : bytes_eq a b ≡ true =
     (bytes_eq-Decides a b).1 (sym (texts_equal b a f)) in cc
-
-pub texts_turned : (a b : List ℕ) → bytes_eq a b ≡ bytes_eq b a
-texts_turned a b = texts_turned_by a b (bytes_eq a b) (bytes_eq b a) refl refl
 
 -- a key in its place, and its row in its place
 pub map-put : {A B : Type 0} (below : A → A → Bool) (below' : B → B → Bool) (f : A → B)
@@ -34,7 +32,7 @@ map-put below below' f same x (y ∷ ys) =
       | false ↦ ap (λ zs. f y ∷ zs) (map-put below below' f same x ys)
     ])
 
-swap_or : (a b c : Bool) → (a || (b || c)) ≡ (b || (a || c))
+pub swap_or : (a b c : Bool) → (a || (b || c)) ≡ (b || (a || c))
 swap_or true true c = refl
 swap_or true false c = refl
 swap_or false true c = refl
@@ -56,16 +54,6 @@ pub list_any-in_order : {A : Type 0} (below : A → A → Bool) (test : A → Bo
 list_any-in_order below test [] = refl
 list_any-in_order below test (x ∷ xs) = list_any-put below test x (in_order below xs)
     ∙ ap (λ b. test x || b) (list_any-in_order below test xs)
-
-pub length-put : {A : Type 0} (below : A → A → Bool) (x : A) (xs : List A)
-    → length (put below x xs) ≡ length xs + 1
-length-put below x [] = omega arith
-length-put below x (y ∷ ys) =
-    elim (below x y) as (λ b. length (if b then x ∷ y ∷ ys else y ∷ put below x ys)
-    ≡ length (y ∷ ys) + 1) [
-      | true ↦ omega arith
-      | false ↦ omega (arith, length-put below x ys)
-    ]
 
 pub length-in_order : {A : Type 0} (below : A → A → Bool) (xs : List A)
     → length (in_order below xs) ≡ length xs
@@ -126,21 +114,6 @@ pub map_same : {A B : Type 0} (f g : A → B) → ((x : A) → f x ≡ g x) → 
     → map f xs ≡ map g xs
 map_same f g same [] = refl
 map_same f g same (x ∷ xs) = rw (same x, map_same f g same xs) refl
-
-pub map-map : {A B C : Type 0} (f : B → C) (g : A → B) (xs : List A)
-    → map f (map g xs) ≡ map (λ x. f (g x)) xs
-map-map f g [] = refl
-map-map f g (x ∷ xs) = ap (λ ys. f (g x) ∷ ys) (map-map f g xs)
-
--- a row that comes after some rows, and before the rest
-pub put-past : {A : Type 0} (below : A → A → Bool) (x : A) (ys zs : List A)
-    → list_any (below x) ys ≡ false → put below x (ys ++ zs) ≡ ys ++ put below x zs
-put-past below x [] zs none = refl
-put-past below x (y ∷ ys) zs none =
-    rw (
-      or_left (below x y) (list_any (below x) ys) none,
-      put-past below x ys zs (or_right (below x y) (list_any (below x) ys) none),
-    ) refl
 
 -- some more rows
 pub in_order-append : {A : Type 0} (below : A → A → Bool) (xs ys : List A)

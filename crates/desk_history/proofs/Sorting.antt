@@ -6,6 +6,7 @@ use Rattle.std.specs.List.{enumerate_from, flat_map, filter_map}
 use Rattle.std.specs.Result.{result_ok}
 use Rattle.std.proofs.lemmas.Bool.Decides.{nat_tests}
 use Rattle.std.proofs.lemmas.Cmp.{on_total, then_total, nat_list_cmp_total, nat_cmp_total}
+use Rattle.std.proofs.lemmas.Bool.{not-true}
 use Rattle.desk_model.specs.Lists.{IsIn, in_order, over, ascends}
 use Rattle.desk_model.specs.Readings.{Readings}
 use Rattle.desk_model.specs.Texts.{text_below}
@@ -29,7 +30,7 @@ use Rattle.desk_model.specs.declared.row.Owed.{Owed}
 use Rattle.desk_model.specs.declared.command.Command.{Command}
 use Rattle.desk_model.specs.declared.command.Command.TheVariants.{LoadCatalogue, Import}
 use Rattle.desk_model.proofs.Orders.{IsOrder, order_of}
-use Rattle.desk_base.proofs.Bools.{and_left, and_right, not_true}
+use Rattle.desk_base.proofs.Bools.{and_left, and_right}
 use Rattle.desk_base.proofs.Numbers.{not_less}
 
 -- rows that were put in order
@@ -40,7 +41,7 @@ each_over below x y [] all m = absurd m
 each_over below x y (z ∷ ys) all m =
     elim m [
       | inl e ↦ subst (λ u. below u x ≡ false) e
-          (not_true (below z x) (and_left (not (below z x)) (over below x ys) all))
+          (not-true (below z x) (and_left (not (below z x)) (over below x ys) all))
       | inr n ↦ each_over below x y ys (and_right (not (below z x)) (over below x ys) all) n
     ]
 
@@ -75,7 +76,8 @@ ascends_map f below under same (x ∷ xs) up = (
 
 -- rows that were added at the end
 
-joined : {A : Type 0} (below : A → A → Bool) (xs ys : List A) → Ascends below xs → Ascends below ys
+pub joined : {A : Type 0} (below : A → A → Bool) (xs ys : List A) → Ascends below xs
+    → Ascends below ys
     → ((x y : A) → IsIn x xs → IsIn y ys → below y x ≡ false) → Ascends below (xs ++ ys)
 joined below [] ys up more after = more
 joined below (x ∷ xs) ys up more after = (
@@ -94,7 +96,7 @@ last_row below xs y up after =
 
 -- the numbers of revisions and documents
 
-within_revisions : (h : List Command) (row : CatalogueRow) → IsIn row (revisions h)
+pub within_revisions : (h : List Command) (row : CatalogueRow) → IsIn row (revisions h)
     → row.revision ≤ length (revisions h)
 within_revisions [] row m = absurd m
 within_revisions (LoadCatalogue text ∷ h) row m =
@@ -122,7 +124,8 @@ sorted_revisions (LoadCatalogue text ∷ h) =
     (omega (arith, within_revisions h row m)))
 sorted_revisions (c ∷ h) = sorted_revisions h
 
-within_documents : (w : Readings) (h : List Command) (row : DocumentRow) → IsIn row (documents w h)
+pub within_documents : (w : Readings) (h : List Command) (row : DocumentRow)
+    → IsIn row (documents w h)
     → row.number ≤ length (documents w h)
 within_documents w [] row m = absurd m
 within_documents w (Import bytes profile ∷ h) row m =

@@ -16,13 +16,14 @@ use Rattle.desk_model.specs.Moves.{place_after, raises, with_move, all_changes}
 use Rattle.desk_model.specs.States.{state_after}
 use Rattle.desk_history.specs.Laws.{IsToldBy}
 use Rattle.desk_history.proofs.Members.{from_map}
-use Rattle.desk_history.proofs.Moving.{in_range}
+use Rattle.desk_history.proofs.Moving.{in_range, range_here}
 use Rattle.desk_history.proofs.Queries.{changes-found}
 use Rattle.desk_model.specs.declared.row.DutyRow.{DutyRow}
 use Rattle.desk_model.specs.declared.command.Command.{Command}
 use Rattle.desk_model.specs.declared.command.Command.TheVariants.{Freeze}
 
-last_or-end : {A : Type 0} (o : Option A) (xs : List A) (x : A) → last_or o (xs ++ x ∷ []) ≡ Some x
+pub last_or-end : {A : Type 0} (o : Option A) (xs : List A) (x : A)
+    → last_or o (xs ++ x ∷ []) ≡ Some x
 last_or-end o [] x = refl
 last_or-end o (y ∷ ys) x = last_or-end (Some y) ys x
 
@@ -71,10 +72,6 @@ raised_moved w (Freeze r day ∷ h) q e =
     (ap (in_range 1 q) (sym (length-append (raised w h) (owed_at w h r))) ∙ e) (raised_moved w h q)
 raised_moved w (c ∷ h) q e = still_moved w h q c (raised_moved w h q e)
 
--- the numbers of a list's items
-first_in : (n q k : ℕ) → n ≡ q → in_range n q (k + 1) ≡ true
-first_in n q k e = grind (arith, nat_tests)
-
 later_in : (n q k : ℕ) → in_range (n + 1) q k ≡ true → in_range n q (k + 1) ≡ true
 later_in n q k e = grind (arith, nat_tests)
 
@@ -84,7 +81,7 @@ numbers_in n d [] is = absurd is
 numbers_in n d (x ∷ xs) is =
     rw (← add-one (length xs))
     (elim is [
-      | inl e ↦ first_in n d.0 (length xs) (ap (λ p. p.0) e)
+      | inl e ↦ range_here n d.0 (length xs) (ap (λ p. p.0) e)
       | inr m ↦ later_in n d.0 (length xs) (numbers_in (n + 1) d xs m)
     ])
 

@@ -27,11 +27,13 @@ use Rattle.desk_history.specs.FromTables.{steps_found, end_found, standing_found
 use Rattle.desk_history.specs.FromTables.{ended_found, is_unmet, ends, next_row, withdrawn_rows}
 use Rattle.desk_history.specs.FromTables.{ended_rows}
 use Rattle.std.proofs.lemmas.List.{length-map}
-use Rattle.desk_history.proofs.Rows.{updated-map, texts_turned, filter-map, map-map}
+use Rattle.std.proofs.lemmas.Simd.{map-map}
+use Rattle.desk_history.proofs.Rows.{updated-map, filter-map}
 use Rattle.desk_history.proofs.Moving.{in_range, known_at, changes-numbered, steps-numbered}
 use Rattle.desk_history.proofs.Moving.{new_row, new_rows, rows_of, changes_of, after, moved-duties}
 use Rattle.desk_history.proofs.Moving.{moved-changes}
-use Rattle.desk_base.proofs.Texts.{text_tells}
+use Rattle.desk_history.proofs.Told.{last_or-end}
+use Rattle.desk_base.proofs.Texts.{text_tells, texts_turned}
 use Rattle.desk_base.proofs.Numbers.{same_number}
 
 -- Lists of duties with their numbers
@@ -107,10 +109,6 @@ found_range : (w : Readings) (h : List Command) (d : ℕ × Owed) → Found 1 (r
     → in_range 1 d.0 (length (raised w h)) ≡ true
 found_range w h d e = sym (known_at w h d.0)
     ∙ ap (λ (o : Option (ℕ × Owed)). elim o [ Some x ↦ true | None ↦ false ]) e
-
-last_or-end : {A : Type 0} (o : Option A) (xs : List A) (x : A) → last_or o (xs ++ x ∷ []) ≡ Some x
-last_or-end o [] x = refl
-last_or-end o (y ∷ ys) x = last_or-end (Some y) ys x
 
 rows_end : (q : ℕ) (ms : List Move)
     → option_and_then (λ (change : ChangeRow). change.last_day) (last_or None (change_rows q ms))

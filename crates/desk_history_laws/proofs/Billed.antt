@@ -47,6 +47,7 @@ use Rattle.desk_history.proofs.Members.{from_flat_map, in_map}
 use Rattle.desk_history.proofs.Orders.{filter-in_order}
 use Rattle.desk_history.proofs.OwnKeys.{distinct-shipped, open_at, place_of}
 use Rattle.desk_history.proofs.Sorting.{frozen_is_order}
+use Rattle.desk_history.proofs.Minimal.{history_before}
 use Rattle.desk_history_laws.specs.Billed.{bill_for, line_for, ListsPackagesOnce, spelled_for, texts_for}
 use Rattle.desk_history_laws.specs.Filters.{last_given}
 use Rattle.desk_history_laws.proofs.Bills.{bill_at, bill_stands, find_kept, flat_map_within}
@@ -55,7 +56,6 @@ use Rattle.desk_history_laws.proofs.Bills.{none_frozen, none_made, rows_texts, t
 use Rattle.desk_history_laws.proofs.FrozenChoices.{ruled}
 use Rattle.desk_history_laws.proofs.Given.{latest-last}
 use Rattle.desk_history_laws.proofs.Sets.{set_rises}
-use Rattle.desk_history_laws.proofs.Later.{history_before}
 
 -- ---- the catalogue in force is the last revision
 
@@ -108,7 +108,7 @@ put_first : {A : Type 0} (below : A → A → Bool) (x : A) (ys : List A)
 put_first below x [] all = refl
 put_first below x (y ∷ ys) all = rw (all y (inl refl)) refl
 
-in_order-rises : {A : Type 0} (below : A → A → Bool) (xs : List A) → Rises below xs
+pub in_order-rises : {A : Type 0} (below : A → A → Bool) (xs : List A) → Rises below xs
     → in_order below xs ≡ xs
 in_order-rises below [] up = refl
 in_order-rises below (x ∷ xs) up = rw (in_order-rises below xs up.1) (put_first below x xs up.0)

@@ -10,7 +10,8 @@ use Rattle.std.specs.Str.{bytes_eq}
 use Rattle.std.proofs.Math.Path.{fun_ext}
 use Rattle.std.proofs.lemmas.Bool.Decides.{nat_tests}
 use Rattle.std.proofs.lemmas.List.Elements.{filter-append}
-use Rattle.desk_base.proofs.Bools.{and_left, and_right, not_true}
+use Rattle.std.proofs.lemmas.Bool.{not-true}
+use Rattle.desk_base.proofs.Bools.{and_left, and_right}
 use Rattle.desk_base.proofs.Numbers.{numbers_equal}
 use Rattle.desk_base.proofs.Texts.{text_tells}
 use Rattle.desk_model.specs.Lists.{IsIn, in_order, latest, or_else}
@@ -136,7 +137,7 @@ next_document w bytes profile h = record {
   profile = profile;
 }
 
-document_within : (w : Readings) (h : List Command) (d : ℕ) → has_document w h d ≡ true
+pub document_within : (w : Readings) (h : List Command) (d : ℕ) → has_document w h d ≡ true
     → d ≤ length (documents w h)
 document_within w [] d e = cc
 document_within w (Import bytes profile ∷ h) d e =
@@ -164,7 +165,7 @@ attached_open w h r d e =
           (is_ready found.state (is_so (is_some found.state) why.UnknownRelease one.0) three.0),
     )
 
-documents_grow : (w : Readings) (c : Command) (h : List Command)
+pub documents_grow : (w : Readings) (c : Command) (h : List Command)
     → length (documents w h) ≤ length (documents w (c ∷ h))
 documents_grow w (Import bytes profile) h =
     let new = next_document w bytes profile h in
@@ -201,7 +202,7 @@ rows_within w h row ok m =
     (subst (λ (c : Command). IsIn c h) (attaches entry.0 row entry.2) entry.1)
 
 -- a release that is frozen was opened
-is_mapped : {A B : Type 0} (f : A → B) (o : Option A) → is_some (option_map f o) ≡ true
+pub is_mapped : {A B : Type 0} (f : A → B) (o : Option A) → is_some (option_map f o) ≡ true
     → is_some o ≡ true
 is_mapped f None e = e
 is_mapped f (Some x) e = refl
@@ -216,7 +217,7 @@ freeze_known w h r day e =
     is_mapped (λ (form : List ℕ). state_of h r) (form_of h r)
     (is_so (is_some found.state) why.UnknownRelease two.0)
 
-known_too : (b : Bool) (form : List ℕ) (o : Option (List ℕ)) → is_some o ≡ true
+pub known_too : (b : Bool) (form : List ℕ) (o : Option (List ℕ)) → is_some o ≡ true
     → is_some (or_else (if b then Some form else None) o) ≡ true
 known_too true form o e = refl
 known_too false form o e = e
@@ -253,7 +254,7 @@ open_free w h r form e =
     let one = past (unless (is_release_name r) why.BadName) _ e in
     let two = past (unless (list_any (bytes_eq form) found.forms) why.UnknownForm) _ one.1 in
     let three = past (unless (not found.is_taken) why.NameTaken) _ two.1 in
-    not_true found.is_taken (is_so (not found.is_taken) why.NameTaken three.0)
+    not-true found.is_taken (is_so (not found.is_taken) why.NameTaken three.0)
 
 untouched : (w : Readings) (c : Command) (h : List Command) (r : List ℕ) → IsHistory w h
     → IsTrue (is_recorded (answer w h c))
@@ -280,7 +281,7 @@ form_stays c h r other = refl
 
 -- the text of the catalogue
 
-revision_within : (h : List Command) (r : List ℕ) → revision_of h r ≤ length (revisions h)
+pub revision_within : (h : List Command) (r : List ℕ) → revision_of h r ≤ length (revisions h)
 revision_within [] r = omega arith
 revision_within (LoadCatalogue text ∷ h) r =
     let new : CatalogueRow = record { revision = length (revisions h) + 1; body = text } in

@@ -1,15 +1,15 @@
 -- The rows of a recorded history are within the limits.
 use Rattle.std.proofs.Common.{◌≡◌, ℕ, ◌+◌, ◌≤◌, true, List, [], ◌∷◌, ◌++◌, length, map, Option}
-use Rattle.std.proofs.Common.{Some, None, sym, refl, ap, ◌∙◌, subst, arith, length-append, inl, inr}
-use Rattle.std.specs.Prelude.{IfSome, IsTrue, not, nat_le, ◌&&◌}
+use Rattle.std.proofs.Common.{Some, None, sym, refl, ap, subst, arith, inl, inr}
+use Rattle.std.specs.Prelude.{IfSome, IsTrue, not, ◌&&◌}
 use Rattle.std.specs.List.{enumerate_from}
 use Rattle.std.specs.Option.{option_map_or}
 use Rattle.std.specs.Str.{bytes_eq}
-use Rattle.std.proofs.lemmas.Bool.Decides.{nat_tests}
 use Rattle.std.proofs.lemmas.List.{length-map}
 use Rattle.desk_base.specs.Day.{is_day}
 use Rattle.desk_base.specs.Limits as most
 use Rattle.desk_base.proofs.Bools.{and_left, and_right}
+use Rattle.desk_base.proofs.Numbers.{le_is}
 use Rattle.desk_model.specs.Lists.{IsIn}
 use Rattle.desk_model.specs.Keys.{below_by, frozen_order}
 use Rattle.desk_model.specs.Names.{word_name}
@@ -33,24 +33,27 @@ use Rattle.desk_model.specs.declared.row.ReleaseRow.{ReleaseRow}
 use Rattle.desk_model.specs.declared.state.Word.TheVariants.{Waived}
 use Rattle.desk_history.proofs.Lookups.{length-releases}
 use Rattle.desk_history.proofs.Members.{from_flat_map, from_map, in_cases}
-use Rattle.desk_history.proofs.Sorting.{change_within}
+use Rattle.desk_history.proofs.Sorting.{change_within, within_revisions, within_documents}
+use Rattle.desk_history.proofs.Freezing.{length-duties}
+use Rattle.desk_history.proofs.Moving.{length-change_rows}
+use Rattle.desk_history.proofs.Listed.{of_revision, of_document, defined_by}
 use Rattle.desk_snapshot.specs.Changes.{is_waiver_of}
 use Rattle.desk_snapshot.specs.Conditions.{AreNumbered}
 use Rattle.desk_snapshot.specs.Tables.{change_stored, duty_stored, snapshot_of}
 use Rattle.desk_snapshot.specs.declared.rows.StoredChange.{StoredChange}
 use Rattle.desk_history_laws.specs.Within.{AreWithin}
 use Rattle.desk_history_laws.proofs.Bounds.{adoptions_within, attached_within, attachment_within}
-use Rattle.desk_history_laws.proofs.Bounds.{conclusions_within, documents_within, few_documents}
-use Rattle.desk_history_laws.proofs.Bounds.{few_opened, few_revisions, frozen_within}
-use Rattle.desk_history_laws.proofs.Bounds.{later_documents, packages_within, references_within}
-use Rattle.desk_history_laws.proofs.Bounds.{revisions_within, rules_within}
+use Rattle.desk_history_laws.proofs.Bounds.{conclusions_within, few_documents}
+use Rattle.desk_history_laws.proofs.Bounds.{few_opened, few_revisions}
+use Rattle.desk_history_laws.proofs.Bounds.{later_documents}
 use Rattle.desk_history_laws.proofs.Distinct.{place_within}
 use Rattle.desk_history_laws.proofs.HeldRows.{FromSet, held_for}
 use Rattle.desk_history_laws.proofs.Kept.{ChosenRows, WereHeld}
 use Rattle.desk_history_laws.proofs.Lists.{each_in, in_numbers}
-use Rattle.desk_history_laws.proofs.Orders.{from_order}
 use Rattle.desk_history_laws.proofs.Releases.{from_shipped}
 use Rattle.desk_history_laws.proofs.Runs.{IsRun, runs}
+use Rattle.desk_history_laws.proofs.Bills.{revision_within}
+use Rattle.desk_history_laws.proofs.Members.{from_sorted}
 
 -- the laws on which these rest
 pub record Laws : Type 0 where
@@ -70,7 +73,7 @@ shipped_within : (w : Readings) (h later before : List Command) (r day : List �
     → h ≡ later ++ Freeze r day ∷ before → IsIn p (packages w before)
     → p.document ≤ length (documents w h)
 shipped_within w h later before r day p split m =
-    let stood = packages_within w before p m in
+    let stood = of_document w before p m in
     let after = later_documents w later (Freeze r day ∷ before) in
     subst (λ (h : List Command). p.document ≤ length (documents w h)) (sym split)
     (omega (arith, stood, after))
@@ -104,30 +107,15 @@ length-numbered : (n : ℕ) (xs : List Owed) → length (enumerate_from n xs) �
 length-numbered n [] = refl
 length-numbered n (x ∷ xs) = omega (arith, length-numbered (n + 1) xs)
 
-length-duties : (w : Readings) (h : List Command) → length (duties w h) ≡ length (raised w h)
-length-duties w h = length-map (numbered w h) (λ (d : ℕ × Owed). duty_row (place w h d.0) d)
-    ∙ length-numbered 1 (raised w h)
-
-le : (a b : ℕ) → nat_le a b ≡ true → a ≤ b
-le a b e = grind (arith, nat_tests)
-
 few_duties : (w : Readings) (h : List Command) → AreNumbered (snapshot_of (tables w h))
     → length (duties w h) ≤ most.duties
 few_duties w h are = omega (
   arith,
-  le (length (map duty_stored (duties w h))) 100000 are.few,
+  le_is (length (map duty_stored (duties w h))) 100000 are.few,
   length-map (duties w h) duty_stored,
 )
 
 -- ---- changes
-
-length-changes : (q : ℕ) (ms : List Move) → length (change_rows q ms) ≡ length ms
-length-changes q [] = refl
-length-changes q (m ∷ ms) = omega (
-  arith,
-  length-changes q ms,
-  length-append (change_rows q ms) (change_row q (length ms + 1) m ∷ []),
-)
 
 abbrev Dated : ChangeRow → Type 0
 Dated row = IsTrue (is_day row.day) × IfSome row.last_day (λ day. IsTrue (is_day day))
@@ -171,7 +159,7 @@ change_is w h ok few row m =
     let days = dated d.0 (moves w h d.0) (runs w h ok d.0) row at.2 in
     record {
       duty = omega (arith, own.0, number.1, length-duties w h);
-      step = omega (arith, own.1, few d.0, length-changes d.0 (moves w h d.0));
+      step = omega (arith, own.1, few d.0, length-change_rows d.0 (moves w h d.0));
       day = days.0;
       last_day = days.1;
     }
@@ -190,11 +178,11 @@ within laws w h ok =
       documents = few_documents w h ok;
       releases = omega (arith, few_opened w h ok, length-releases h);
       duties = few_duties w h (laws.numbered w h ok);
-      catalogue = each_in _ (revisions h) (revisions_within h);
-      rule = each_in _ (rule_rows w h) (rules_within w h);
-      document = each_in _ (documents w h) (documents_within w h);
-      packages = each_in _ (packages w h) (packages_within w h);
-      extracted = each_in _ (references w h) (references_within w h);
+      catalogue = each_in _ (revisions h) (within_revisions h);
+      rule = each_in _ (rule_rows w h) (of_revision w h);
+      document = each_in _ (documents w h) (within_documents w h);
+      packages = each_in _ (packages w h) (of_document w h);
+      extracted = each_in _ (references w h) (defined_by w h);
       conclusion = each_in _ (conclusions h) (conclusions_within w h ok);
       adoption = each_in _ (adoptions w h) (adoptions_within w h ok);
       places = each_in _ (release_rows h)
@@ -207,14 +195,14 @@ within laws w h ok =
           ));
       frozen_by = each_in _ (release_rows h)
           (λ row m. let at = named row m in
-          omega (arith, frozen_within h at.0, ap (λ (row : ReleaseRow). row.revision) at.2));
+          omega (arith, revision_within h at.0, ap (λ (row : ReleaseRow). row.revision) at.2));
       attached = each_in _ (attached h) (attached_within w h ok);
       choice = each_in _ (choices w h) (λ row m.
           let held = held_for laws.from_set w h row.release row.document row.package_id row.term ok
           (laws.chosen w h row m) in
           attachment_within w h ok row.release row.document held.attached);
       frozen = each_in _ _ (λ row m. frozen_documents laws.were w h row
-          (from_order (below_by frozen_order) row (frozen w h) m));
+          (from_sorted (below_by frozen_order) row (frozen w h) m));
       duty = each_in _ (duties w h) (λ row m.
           let at = raised_as row m in
           omega (

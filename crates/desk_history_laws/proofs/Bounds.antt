@@ -1,13 +1,13 @@
 -- Rows name what exists, and there is no more of it than may be.
-use Rattle.std.proofs.Common.{◌≡◌, ℕ, ◌+◌, ◌≤◌, ◌<◌, Bool, true, false, List, [], ◌∷◌, ◌++◌, length}
-use Rattle.std.proofs.Common.{map, Option, Some, None, refl, ap, subst, arith, length-append, inl}
+use Rattle.std.proofs.Common.{◌≡◌, ℕ, ◌+◌, ◌≤◌, ◌<◌, Bool, true, List, [], ◌∷◌, ◌++◌, length}
+use Rattle.std.proofs.Common.{map, Option, Some, None, ap, subst, arith, inl}
 use Rattle.std.proofs.Common.{inr}
-use Rattle.std.specs.Prelude.{IsTrue, is_some, Result, Ok, Err, find, nat_lt, not, ◌||◌, ◌==◌, if◌then◌else◌}
+use Rattle.std.proofs.lemmas.List.{length_push}
+use Rattle.std.specs.Prelude.{IsTrue, is_some, Result, Ok, Err, find, nat_lt, not, ◌||◌, ◌==◌}
 use Rattle.std.specs.List.{list_any}
 use Rattle.std.specs.Option.{option_and_then, option_map}
-use Rattle.std.specs.Result.{result_err, result_ok}
+use Rattle.std.specs.Result.{result_err}
 use Rattle.std.specs.Str.{bytes_eq}
-use Rattle.std.proofs.lemmas.Bool.Decides.{nat_tests}
 use Rattle.desk_base.specs.Limits as most
 use Rattle.desk_base.specs.declared.profile.Profile.{Profile}
 use Rattle.desk_base.proofs.Bools.{and_right}
@@ -17,16 +17,14 @@ use Rattle.desk_model.specs.Readings.{Readings}
 use Rattle.desk_model.specs.Texts.{is_release_name}
 use Rattle.desk_model.specs.Keys.{adoption_order, attached_order, below_by, conclusion_order}
 use Rattle.desk_model.specs.Keys.{has_namespace, is_adoption, is_attachment, is_conclusion}
-use Rattle.desk_model.specs.Keys.{is_document}
-use Rattle.desk_model.specs.History.{attached, documents, extracted_row, opened, package_row}
-use Rattle.desk_model.specs.History.{packages, packages_in, references, references_in, revision_of}
-use Rattle.desk_model.specs.History.{revisions, rule_row, rule_rows, rules_in}
+use Rattle.desk_model.specs.History.{attached, documents, opened}
+use Rattle.desk_model.specs.History.{revisions}
 use Rattle.desk_model.specs.Conclusions.{adoption_row, adoptions, conclusion_row, conclusions, is_plain, is_reference}
 use Rattle.desk_model.specs.Answers.{adopting, answer, attaching, concluding, has_document}
 use Rattle.desk_model.specs.Answers.{import_answer, importing, is_recorded, IsHistory, loading}
 use Rattle.desk_model.specs.Answers.{opening, taken, unless}
 use Rattle.desk_model.specs.declared.command.Command.{Command}
-use Rattle.desk_model.specs.declared.command.Command.TheVariants.{Adopt, Attach, Conclude, Freeze}
+use Rattle.desk_model.specs.declared.command.Command.TheVariants.{Adopt, Attach, Conclude}
 use Rattle.desk_model.specs.declared.command.Command.TheVariants.{Import, LoadCatalogue}
 use Rattle.desk_model.specs.declared.command.Command.TheVariants.{OpenRelease}
 use Rattle.desk_model.specs.declared.reading.Document.{Document}
@@ -37,24 +35,16 @@ use Rattle.desk_model.specs.declared.refusal.Limit.TheVariants as limit
 use Rattle.desk_model.specs.declared.refusal.Refusal.TheVariants as why
 use Rattle.desk_model.specs.declared.row.AdoptionRow.{AdoptionRow}
 use Rattle.desk_model.specs.declared.row.AttachedRow.{AttachedRow}
-use Rattle.desk_model.specs.declared.row.CatalogueRow.{CatalogueRow}
 use Rattle.desk_model.specs.declared.row.ConclusionRow.{ConclusionRow}
 use Rattle.desk_model.specs.declared.row.DocumentRow.{DocumentRow}
-use Rattle.desk_model.specs.declared.row.ExtractedRow.{ExtractedRow}
-use Rattle.desk_model.specs.declared.row.PackageRow.{PackageRow}
-use Rattle.desk_model.specs.declared.row.RuleRow.{RuleRow}
+use Rattle.desk_model.proofs.Lists.{one_passes, from_put}
 use Rattle.desk_history.proofs.Members.{from_map, in_cases}
 use Rattle.desk_history.proofs.Recorded.{is_so, past}
+use Rattle.desk_history.proofs.Moving.{less_by}
+use Rattle.desk_history.proofs.Listed.{next_revision}
 use Rattle.desk_history_laws.proofs.Concluded.{from_replaced}
 use Rattle.desk_history_laws.proofs.Distinct.{is_new, row_of}
-use Rattle.desk_history_laws.proofs.Lists.{found_in}
-use Rattle.desk_history_laws.proofs.Orders.{from_put}
-
-less : (a b : ℕ) → nat_lt a b ≡ true → a < b
-less a b e = grind (arith, nat_tests)
-
-one_more : {A : Type 0} (xs : List A) (x : A) → length (xs ++ x ∷ []) ≡ length xs + 1
-one_more xs x = length-append xs (x ∷ [])
+use Rattle.desk_history_laws.proofs.Bills.{documents_grow, document_within}
 
 -- ---- how many there are
 
@@ -67,12 +57,12 @@ few_revisions w (LoadCatalogue text ∷ h) ok =
     (result_err (w.catalogue text))) _ ok.0 in
     let two = past (unless (nat_lt found.revisions most.revisions) (why.Full limit.Revisions)) _
     one.1 in
-    let room = less found.revisions most.revisions
+    let room = less_by found.revisions most.revisions
     (is_so (nat_lt found.revisions most.revisions) (why.Full limit.Revisions) two.0) in
     omega (
       arith,
       room,
-      one_more (revisions h) (record { revision = length (revisions h) + 1; body = text }),
+      length_push (revisions h) (record { revision = length (revisions h) + 1; body = text }),
     )
 few_revisions w (c ∷ h) ok = few_revisions w h ok.1
 
@@ -84,7 +74,12 @@ pub few_documents : (w : Readings) (h : List Command) → IsHistory w h
     → length (documents w h) ≤ most.documents
 few_documents w [] ok = omega arith
 few_documents w (Import bytes profile ∷ h) ok =
-    omega (arith, room (w.document bytes) ok.0, one_more (documents w h) (row_of w h bytes profile))
+    omega (
+      arith,
+      room (w.document bytes) ok.0,
+      length_push (documents w h)
+          (row_of w h bytes profile),
+    )
   where
     room : (read : Result Document DocumentFault)
         → IsTrue (is_recorded (import_answer read bytes (importing w h)))
@@ -97,7 +92,7 @@ few_documents w (Import bytes profile ∷ h) ok =
         let two = past (option_and_then (taken bytes) old) _ one.1 in
         let three = past (unless (is_some old || nat_lt (length (documents w h)) most.documents)
         (why.Full limit.Documents)) _ two.1 in
-        less (length (documents w h)) most.documents
+        less_by (length (documents w h)) most.documents
         (no_other old (nat_lt (length (documents w h)) most.documents)
         (is_new bytes (importing w h) (Ok d) e)
         (is_so (is_some old || nat_lt (length (documents w h)) most.documents)
@@ -114,7 +109,7 @@ few_opened w (OpenRelease r form ∷ h) ok =
     let three = past (unless (not found.is_taken) why.NameTaken) _ two.1 in
     let four = past (unless (nat_lt found.releases most.releases) (why.Full limit.Releases)) _
     three.1 in
-    let room = less found.releases most.releases
+    let room = less_by found.releases most.releases
     (is_so (nat_lt found.releases most.releases) (why.Full limit.Releases) four.0) in
     omega (arith, room)
 few_opened w (c ∷ h) ok = few_opened w h ok.1
@@ -128,61 +123,9 @@ behind : {A : Type 0} (number : A → ℕ) (n m : ℕ) (old new : List A) → n 
 behind number n m old new le was is x m' = elim (in_cases x old new m')
     [ inl l ↦ omega (arith, was x l) | inr r ↦ is x r ]
 
-next_revision : (h : List Command) (text : List ℕ)
-    → length (revisions (LoadCatalogue text ∷ h)) ≡ length (revisions h) + 1
-next_revision h text = one_more (revisions h)
-    (record { revision = length (revisions h) + 1; body = text })
-
-pub revisions_within : (h : List Command) (row : CatalogueRow) → IsIn row (revisions h)
-    → row.revision ≤ length (revisions h)
-revisions_within [] row m = absurd m
-revisions_within (LoadCatalogue text ∷ h) row m =
-    let new : CatalogueRow = record { revision = length (revisions h) + 1; body = text } in
-    behind (λ (row : CatalogueRow). row.revision) (length (revisions h))
-    (length (revisions (LoadCatalogue text ∷ h))) (revisions h) (new ∷ [])
-    (omega (arith, next_revision h text)) (revisions_within h)
-    (λ x here. elim here [
-      | inl same ↦
-          omega (arith, next_revision h text, ap (λ (row : CatalogueRow). row.revision) same)
-      | inr none ↦ absurd none
-    ]) row m
-revisions_within (c ∷ h) row m = revisions_within h row m
-
-pub rules_within : (w : Readings) (h : List Command) (row : RuleRow) → IsIn row (rule_rows w h)
-    → row.revision ≤ length (revisions h)
-rules_within w [] row m = absurd m
-rules_within w (LoadCatalogue text ∷ h) row m =
-    let rules = rules_in (result_ok (w.catalogue text)) in
-    behind (λ (row : RuleRow). row.revision) (length (revisions h))
-    (length (revisions (LoadCatalogue text ∷ h))) (rule_rows w h)
-    (map (rule_row (length (revisions h) + 1)) rules)
-    (omega (arith, next_revision h text)) (rules_within w h)
-    (λ x here. let at = from_map (rule_row (length (revisions h) + 1)) x rules here in
-    omega (arith, next_revision h text, ap (λ (row : RuleRow). row.revision) at.2)) row m
-rules_within w (c ∷ h) row m = rules_within w h row m
-
 next_document : (w : Readings) (h : List Command) (bytes : List ℕ) (profile : Profile)
     → length (documents w (Import bytes profile ∷ h)) ≡ length (documents w h) + 1
-next_document w h bytes profile = one_more (documents w h) (row_of w h bytes profile)
-
-pub documents_within : (w : Readings) (h : List Command) (row : DocumentRow)
-    → IsIn row (documents w h) → row.number ≤ length (documents w h)
-documents_within w [] row m = absurd m
-documents_within w (Import bytes profile ∷ h) row m =
-    behind (λ (row : DocumentRow). row.number) (length (documents w h))
-    (length (documents w (Import bytes profile ∷ h))) (documents w h)
-    (row_of w h bytes profile ∷ [])
-    (omega (arith, next_document w h bytes profile)) (documents_within w h)
-    (λ x here. elim here [
-      | inl same ↦
-          omega (
-            arith,
-            next_document w h bytes profile,
-            ap (λ (row : DocumentRow). row.number) same,
-          )
-      | inr none ↦ absurd none
-    ]) row m
-documents_within w (c ∷ h) row m = documents_within w h row m
+next_document w h bytes profile = length_push (documents w h) (row_of w h bytes profile)
 
 -- the parts of one more document have its number
 parts_within : (w : Readings) (h : List Command) (bytes : List ℕ)
@@ -200,36 +143,13 @@ parts_within w h bytes profile number of numbered old new so_far =
     let at = from_map of x new here in
     omega (arith, next_document w h bytes profile, ap number at.2, numbered at.0))
 
-pub packages_within : (w : Readings) (h : List Command) (row : PackageRow) → IsIn row (packages w h)
-    → row.document ≤ length (documents w h)
-packages_within w [] row m = absurd m
-packages_within w (Import bytes profile ∷ h) row m =
-    parts_within w h bytes profile (λ (row : PackageRow). row.document)
-    (package_row (length (documents w h) + 1)) (λ x. refl)
-    (packages w h) (packages_in (result_ok (w.document bytes))) (packages_within w h) row m
-packages_within w (c ∷ h) row m = packages_within w h row m
-
-pub references_within : (w : Readings) (h : List Command) (row : ExtractedRow)
-    → IsIn row (references w h) → row.document ≤ length (documents w h)
-references_within w [] row m = absurd m
-references_within w (Import bytes profile ∷ h) row m =
-    parts_within w h bytes profile (λ (row : ExtractedRow). row.document)
-    (extracted_row (length (documents w h) + 1)) (λ x. refl)
-    (references w h) (references_in (result_ok (w.document bytes))) (references_within w h) row m
-references_within w (c ∷ h) row m = references_within w h row m
-
 -- ---- what later commands leave
-
-pub more_documents : (w : Readings) (c : Command) (h : List Command)
-    → length (documents w h) ≤ length (documents w (c ∷ h))
-more_documents w (Import bytes profile) h = omega (arith, next_document w h bytes profile)
-more_documents w c h = omega arith
 
 pub later_documents : (w : Readings) (later h : List Command)
     → length (documents w h) ≤ length (documents w (later ++ h))
 later_documents w [] h = omega arith
 later_documents w (c ∷ later) h = omega
-    (arith, later_documents w later h, more_documents w c (later ++ h))
+    (arith, later_documents w later h, documents_grow w c (later ++ h))
 
 more_revisions : (c : Command) (h : List Command)
     → length (revisions h) ≤ length (revisions (c ∷ h))
@@ -238,24 +158,13 @@ more_revisions c h = omega arith
 
 -- ---- documents that commands name
 
-found_there : {A : Type 0} (o : Option A) → is_some o ≡ true → (x : A) × (o ≡ Some x)
-found_there None e = cc
-found_there (Some x) e = (x, refl)
-
-known_document : (w : Readings) (h : List Command) (d : ℕ) → has_document w h d ≡ true
-    → d ≤ length (documents w h)
-known_document w h d e =
-    let at = found_there (find (is_document d) (documents w h)) e in
-    let is = found_in (is_document d) (documents w h) at.0 at.1 in
-    omega (arith, documents_within w h at.0 is.0, numbers_equal at.0.number d is.1)
-
 attach_knows : (w : Readings) (h : List Command) (r : List ℕ) (d : ℕ)
     → IsTrue (is_recorded (answer w h (Attach r d))) → d ≤ length (documents w h)
 attach_knows w h r d e =
     let found = attaching w h r d in
     let one = past (unless (is_some found.state) why.UnknownRelease) _ e in
     let two = past (unless found.has_document why.UnknownDocument) _ one.1 in
-    known_document w h d (is_so found.has_document why.UnknownDocument two.0)
+    document_within w h d (is_so found.has_document why.UnknownDocument two.0)
 
 conclude_knows : (w : Readings) (h : List Command) (d : ℕ) (p text : List ℕ)
     → IsTrue (is_recorded (answer w h (Conclude d p text))) → d ≤ length (documents w h)
@@ -264,7 +173,7 @@ conclude_knows w h d p text e =
     let one = past (option_map (λ (fault : ExpressionFault). why.BadExpression fault) found.fault) _
     e in
     let two = past (unless found.has_document why.UnknownDocument) _ one.1 in
-    known_document w h d (is_so found.has_document why.UnknownDocument two.0)
+    document_within w h d (is_so found.has_document why.UnknownDocument two.0)
 
 adopt_knows : (w : Readings) (h : List Command) (d : ℕ) (reference licence : List ℕ)
     → IsTrue (is_recorded (answer w h (Adopt d reference licence))) → d ≤ length (documents w h)
@@ -273,11 +182,11 @@ adopt_knows w h d reference licence e =
     let one = past (unless (is_reference w reference) (why.BadTerm 0)) _ e in
     let two = past (unless (is_plain w licence) (why.BadTerm 1)) _ one.1 in
     let three = past (unless found.has_document why.UnknownDocument) _ two.1 in
-    known_document w h d (is_so found.has_document why.UnknownDocument three.0)
+    document_within w h d (is_so found.has_document why.UnknownDocument three.0)
 
 kept_documents : (w : Readings) (c : Command) (h : List Command) (n : ℕ)
     → n ≤ length (documents w h) → n ≤ length (documents w (c ∷ h))
-kept_documents w c h n le = omega (arith, le, more_documents w c h)
+kept_documents w c h n le = omega (arith, le, documents_grow w c h)
 
 pub conclusions_within : (w : Readings) (h : List Command) → IsHistory w h → (row : ConclusionRow)
     → IsIn row (conclusions h) → row.document ≤ length (documents w h)
@@ -313,34 +222,13 @@ attached_within w (Attach r d ∷ h) ok row m =
 attached_within w (c ∷ h) ok row m = kept_documents w c h row.document
     (attached_within w h ok.1 row m)
 
-some_has : {A : Type 0} (test : A → Bool) (xs : List A) → list_any test xs ≡ true
-    → (x : A) × IsIn x xs × (test x ≡ true)
-some_has test [] e = cc
-some_has {A} test (x ∷ xs) e = go (test x) refl e (some_has test xs)
-  where
-    go : (b : Bool) → test x ≡ b → (b || list_any test xs) ≡ true
-        → (list_any test xs ≡ true → (y : A) × IsIn y xs × (test y ≡ true))
-        → (y : A) × IsIn y (x ∷ xs) × (test y ≡ true)
-    go true is any later = (x, inl refl, is)
-    go false is any later = let at = later any in (at.0, inr at.1, at.2)
-
 -- a document that is attached exists
 pub attachment_within : (w : Readings) (h : List Command) → IsHistory w h → (r : List ℕ) (d : ℕ)
     → list_any (is_attachment r d) (attached h) ≡ true → d ≤ length (documents w h)
 attachment_within w h ok r d e =
-    let at = some_has (is_attachment r d) (attached h) e in
+    let at = one_passes (is_attachment r d) (attached h) e in
     let same = numbers_equal at.0.document d
     (and_right (bytes_eq at.0.release r) (at.0.document == d) at.2) in
     omega (arith, attached_within w h ok at.0 at.1, same)
 
 -- ---- releases
-
-pub frozen_within : (h : List Command) (r : List ℕ) → revision_of h r ≤ length (revisions h)
-frozen_within [] r = omega arith
-frozen_within (Freeze r' day ∷ h) r = go (bytes_eq r' r) (frozen_within h r)
-  where
-    go : (b : Bool) → revision_of h r ≤ length (revisions h)
-        → (if b then length (revisions h) else revision_of h r) ≤ length (revisions h)
-    go true le = omega arith
-    go false le = le
-frozen_within (c ∷ h) r = omega (arith, frozen_within h r, more_revisions c h)

@@ -9,7 +9,10 @@ use Rattle.std.specs.Ordering.{int_eq}
 use Rattle.std.proofs.lemmas.Bool.Decides.{nat_tests}
 use Rattle.std.proofs.lemmas.List.{map-append}
 use Rattle.std.proofs.lemmas.List.Folds.{find-append, list_all-append}
-use Rattle.desk_base.proofs.Bools.{and_left, and_right, both}
+use Rattle.std.proofs.lemmas.Bool.{and_from}
+use Rattle.std.proofs.lemmas.Simd.{map-map}
+use Rattle.std.proofs.lemmas.List.Elements.{filter_agree}
+use Rattle.desk_base.proofs.Bools.{and_left, and_right}
 use Rattle.desk_base.proofs.Texts.{same_text}
 use Rattle.desk_model.specs.Lists.{IsIn}
 use Rattle.desk_model.specs.Keys as key
@@ -27,10 +30,11 @@ use Rattle.desk_model.specs.declared.row.Owed.{Owed}
 use Rattle.desk_model.specs.declared.state.Word.{Word}
 use Rattle.desk_model.specs.declared.state.Word.TheVariants as word
 use Rattle.desk_model.specs.declared.command.Command.{Command}
+use Rattle.desk_model.proofs.Lists.{all_pass}
 use Rattle.desk_history.proofs.Members.{from_flat_map, from_map, in_cases}
 use Rattle.desk_history.proofs.Queries.{changes-found}
 use Rattle.desk_history.proofs.Distinct.{from_filter}
-use Rattle.desk_history.proofs.Rows.{filter-map, find-map, map-map}
+use Rattle.desk_history.proofs.Rows.{filter-map, find-map}
 use Rattle.desk_history.proofs.Moving.{length-change_rows}
 use Rattle.desk_history.proofs.Told.{is_moved}
 use Rattle.desk_snapshot.specs.Changes.{are_moves, AreChangesOf, go_on, goes_on, is_formed}
@@ -43,7 +47,7 @@ use Rattle.desk_snapshot.specs.declared.rows.StoredChange.{StoredChange}
 use Rattle.desk_snapshot.specs.declared.rows.StoredDuty.{StoredDuty}
 use Rattle.desk_snapshot.specs.declared.rows.StoredWaiver.{StoredWaiver}
 use Rattle.desk_snapshot.specs.declared.snapshot.Snapshot.{Snapshot}
-use Rattle.desk_history_laws.proofs.Lists.{all_in, each_in, filter_same, find-filter, find_same, in_numbers, pos_eq}
+use Rattle.desk_history_laws.proofs.Lists.{each_in, find-filter, find_same, in_numbers, pos_eq}
 use Rattle.desk_history_laws.proofs.Numbered.{rows_push}
 use Rattle.desk_history_laws.proofs.Duties.{length-duties, row_of}
 use Rattle.desk_history_laws.proofs.Runs.{ends_well, IsRun, runs, started}
@@ -73,7 +77,7 @@ stored_of : (w : Readings) (h : List Command) (d : ℕ × Owed) → IsIn d (numb
     ≡ stored_moves d.0 (moves w h d.0)
 stored_of w h d m =
     filter-map (is_change_of (pos d.0)) change_stored (all_changes w h)
-    ∙ (ap (map change_stored) (filter_same (λ (row : ChangeRow). int_eq (pos row.duty) (pos d.0))
+    ∙ (ap (map change_stored) (filter_agree (λ (row : ChangeRow). int_eq (pos row.duty) (pos d.0))
     (key.is_change_of d.0) (λ row. pos_eq row.duty d.0) (all_changes w h))
     ∙ ap (map change_stored) (of_duty w h d m))
 
@@ -215,7 +219,7 @@ go_on_push : (s : Snapshot) (row next : StoredChange) (rows : List StoredChange)
     → go_on s row (rows ++ next ∷ []) ≡ true
 go_on_push s row next [] e f = rw f refl
 go_on_push s row next (r ∷ rows) e f =
-    both (goes_on s row r) (go_on s r (rows ++ next ∷ []))
+    and_from (goes_on s row r) (go_on s r (rows ++ next ∷ []))
     (and_left (goes_on s row r) (go_on s r rows) e)
     (go_on_push s r next rows (and_right (goes_on s row r) (go_on s r rows) e) f)
 
@@ -280,8 +284,8 @@ moved_so : (s : Snapshot) (state : List ℕ) (last : StoredChange) (rows : List 
     → AreGoing s rows → ends_at last rows → leaves state last ≡ true → are_moves s state rows ≡ true
 moved_so s state last [] going ends e = absurd going
 moved_so s state last (row ∷ rows) going ends e =
-    both (is_raising row) (go_on s row rows && leaves state (last_change row rows)) going.0
-    (both (go_on s row rows) (leaves state (last_change row rows)) going.1
+    and_from (is_raising row) (go_on s row rows && leaves state (last_change row rows)) going.0
+    (and_from (go_on s row rows) (leaves state (last_change row rows)) going.1
     (ap (leaves state) ends ∙ e))
 
 are_moved : (w : Readings) (h : List Command) (d : ℕ × Owed) (ms : List Move)
@@ -423,8 +427,9 @@ are_changes w h ok =
     let s = snapshot_of (tables w h) in
     record {
       of_each = each_in (AreChangesOf s) (map duty_stored (duties w h)) (of_each w h ok);
-      of_duties = all_in (λ (row : StoredChange). is_within (length (map duty_stored (duties w h)))
+      of_duties = all_pass (λ (row : StoredChange). is_within
+          (length (map duty_stored (duties w h)))
           row.duty) (map change_stored (all_changes w h)) (within w h);
-      waivers = all_in (is_waived s) (map waiver_stored (filter is_waiver (all_changes w h)))
+      waivers = all_pass (is_waived s) (map waiver_stored (filter is_waiver (all_changes w h)))
           (waived w h ok);
     }

@@ -6,13 +6,14 @@ use Rattle.desk_model.specs.History.{choice}
 use Rattle.desk_model.specs.Answers.{IsHistory}
 use Rattle.desk_model.specs.Tables.{choices, release_rows, tables}
 use Rattle.desk_model.specs.declared.command.Command.{Command}
+use Rattle.desk_model.proofs.Lists.{all_pass}
 use Rattle.desk_history.specs.Laws.{IsHeldMinimal}
 use Rattle.desk_history.proofs.Members.{from_map}
 use Rattle.desk_snapshot.specs.Conditions.{AreChoices, is_choice, IsKept}
 use Rattle.desk_snapshot.specs.Tables.{choice_stored, release_stored, snapshot_of}
 use Rattle.desk_snapshot.specs.declared.rows.StoredChoice.{StoredChoice}
 use Rattle.desk_history_laws.specs.ChoicePremises.{ReadsChoices}
-use Rattle.desk_history_laws.proofs.Lists.{all_in, each_in}
+use Rattle.desk_history_laws.proofs.Lists.{each_in}
 use Rattle.desk_history_laws.proofs.Concluded.{expressions, licences, places}
 use Rattle.desk_history_laws.proofs.HeldRows.{choice_held, FromSet, held_for, SetsRise, Stands}
 use Rattle.desk_history_laws.proofs.Kept.{ChosenRows, FrozenHeld, HeldFrozen, kept_terms, RowsOfChosen, WereHeld}
@@ -38,7 +39,7 @@ are_choices laws w h reads ok =
       conclusions = expressions w reads h ok;
       adoptions = licences w reads h ok;
       places = places w h ok;
-      held = all_in (is_choice w s) (map choice_stored (choices w h)) (λ row m.
+      held = all_pass (is_choice w s) (map choice_stored (choices w h)) (λ row m.
           let at = from_map choice_stored row (choices w h) m in
           let c = at.0 in
           let there = laws.chosen w h c at.1 in

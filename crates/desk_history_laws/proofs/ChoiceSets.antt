@@ -3,13 +3,14 @@ use Rattle.std.proofs.Common.{◌≡◌, ◌↔◌, ◌∙◌, ℕ, Bool, true, 
 use Rattle.std.specs.Prelude.{if◌then◌else◌, Contains}
 use Rattle.std.specs.Str.{bytes_eq}
 use Rattle.desk_base.proofs.Texts.{texts_equal}
+use Rattle.desk_base.proofs.SortedOnce.{is_later}
 use Rattle.desk_base.specs.declared.profile.Profile.TheVariants.{Capitals}
 use Rattle.desk_expr.specs.declared.term.Term.{Term}
 use Rattle.desk_expr.specs.Tree.{Tree}
 use Rattle.desk_expr.specs.Spelling.{SpellsTermWithin}
 use Rattle.desk_expr.specs.Meaning.{IsMinimal}
 use Rattle.desk_alts.proofs.Minimal.{holds_more}
-use Rattle.desk_alts.proofs.SameTerms.{contains_cases, contains_here, contains_there}
+use Rattle.desk_alts.proofs.SameTerms.{contains_cases, contains_here}
 use Rattle.desk_expr.proofs.TermLemmas.{spells_term_once}
 use Rattle.desk_model.specs.Texts.{text_below, put_new, sorted_set}
 use Rattle.desk_texts.specs.Terms.{AreTerms}
@@ -21,9 +22,9 @@ AreSame ts us = (t : Term) → Contains ts t ↔ Contains us t
 with_first : (t : Term) (ts us : List Term) → AreSame ts us → AreSame (t ∷ ts) (t ∷ us)
 with_first t ts us same u = (
   (λ at. elim (contains_cases t ts u at)
-      [ inl e ↦ contains_here t us u e | inr m ↦ contains_there t us u ((same u).0 m) ]),
+      [ inl e ↦ contains_here t us u e | inr m ↦ is_later t us u ((same u).0 m) ]),
   (λ at. elim (contains_cases t us u at)
-      [ inl e ↦ contains_here t ts u e | inr m ↦ contains_there t ts u ((same u).1 m) ]),
+      [ inl e ↦ contains_here t ts u e | inr m ↦ is_later t ts u ((same u).1 m) ]),
 )
 
 turned : (t u : Term) (ts : List Term) → AreSame (u ∷ t ∷ ts) (t ∷ u ∷ ts)
@@ -31,16 +32,16 @@ turned t u ts v = (swap t u, swap u t)
   where
     swap : (a b : Term) → Contains (b ∷ a ∷ ts) v → Contains (a ∷ b ∷ ts) v
     swap a b at = elim (contains_cases b (a ∷ ts) v at) [
-      | inl e ↦ contains_there a (b ∷ ts) v (contains_here b ts v e)
+      | inl e ↦ is_later a (b ∷ ts) v (contains_here b ts v e)
       | inr m ↦ elim (contains_cases a ts v m) [
         | inl e ↦ contains_here a (b ∷ ts) v e
-        | inr n ↦ contains_there a (b ∷ ts) v (contains_there b ts v n)
+        | inr n ↦ is_later a (b ∷ ts) v (is_later b ts v n)
       ]
     ]
 
 once : (t u : Term) (ts : List Term) → t ≡ u → AreSame (u ∷ ts) (t ∷ u ∷ ts)
 once t u ts e v = (
-  contains_there t (u ∷ ts) v,
+  is_later t (u ∷ ts) v,
   (λ at. elim (contains_cases t (u ∷ ts) v at)
       [ inl f ↦ contains_here u ts v (sym e ∙ f) | inr m ↦ m ]),
 )

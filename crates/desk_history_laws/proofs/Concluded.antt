@@ -13,8 +13,9 @@ use Rattle.std.proofs.lemmas.List.FromFn.{map-range_with_len_more}
 use Rattle.std.proofs.lemmas.List.Sorted.{IsPermutation-append_comm, IsPermutation-cons}
 use Rattle.std.proofs.lemmas.List.Sorted.{IsPermutation-refl, IsPermutation-sym}
 use Rattle.std.proofs.lemmas.List.Sorted.{IsPermutation-trans}
+use Rattle.std.proofs.lemmas.Bool.{and_from}
+use Rattle.std.proofs.lemmas.Simd.{map-map}
 use Rattle.desk_base.specs.declared.profile.Profile.TheVariants.{Capitals}
-use Rattle.desk_base.proofs.Bools.{both}
 use Rattle.desk_base.proofs.Texts.{same_text, text_tells}
 use Rattle.desk_model.specs.Lists.{IsIn, in_order, latest, replaced}
 use Rattle.desk_model.specs.Keys.{below_by, adoption_order, conclusion_order, is_adoption, is_conclusion}
@@ -31,11 +32,11 @@ use Rattle.desk_model.specs.declared.row.ConclusionRow.{ConclusionRow}
 use Rattle.desk_model.specs.declared.row.ReleaseRow.{ReleaseRow}
 use Rattle.desk_model.specs.declared.command.Command.{Command}
 use Rattle.desk_model.specs.declared.command.Command.TheVariants.{Adopt, Conclude, OpenRelease}
+use Rattle.desk_model.proofs.Lists.{all_pass, from_put}
 use Rattle.desk_history.proofs.Lookups.{length-releases}
 use Rattle.desk_history.proofs.Members.{from_map}
 use Rattle.desk_history.proofs.Distinct.{from_filter}
 use Rattle.desk_history.proofs.Recorded.{is_so, past}
-use Rattle.desk_history.proofs.Rows.{map-map}
 use Rattle.desk_snapshot.specs.Conditions as audit
 use Rattle.desk_snapshot.specs.Conditions.{is_printed, is_that, numbers_to}
 use Rattle.desk_snapshot.specs.Tables.{adoption_stored, conclusion_stored, release_stored}
@@ -43,11 +44,9 @@ use Rattle.desk_snapshot.specs.declared.rows.StoredAdoption.{StoredAdoption}
 use Rattle.desk_snapshot.specs.declared.rows.StoredConclusion.{StoredConclusion}
 use Rattle.desk_snapshot.specs.declared.rows.StoredRelease.{StoredRelease}
 use Rattle.desk_history_laws.specs.ChoicePremises.{ReadsChoices}
-use Rattle.desk_history_laws.proofs.Lists.{all_in}
-use Rattle.desk_history_laws.proofs.Orders.{from_put}
 use Rattle.desk_history_laws.proofs.Parts.{ordered_parts}
 use Rattle.desk_history_laws.proofs.Recorded.{opened_form}
-use Rattle.desk_history_laws.proofs.Duties.{still_opened}
+use Rattle.desk_history_laws.proofs.Bills.{map_within, known_too}
 
 -- a row in place of what had its key, or one that was there before
 pub from_replaced : {A : Type 0} (below : A → A → Bool) (at : A → Bool) (x z : A) (xs : List A)
@@ -86,7 +85,7 @@ pub expressions : (w : Readings) → ReadsChoices w → (h : List Command) → I
     → list_all (λ (row : StoredConclusion). w.is_expression Capitals row.expression)
     (map conclusion_stored (conclusions h)) ≡ true
 expressions w reads h ok =
-    all_in (λ (row : StoredConclusion). w.is_expression Capitals row.expression)
+    all_pass (λ (row : StoredConclusion). w.is_expression Capitals row.expression)
     (map conclusion_stored (conclusions h)) (λ row m.
     let at = from_map conclusion_stored row (conclusions h) m in
     subst (λ (row : StoredConclusion). w.is_expression Capitals row.expression ≡ true) at.2
@@ -115,7 +114,7 @@ adopted w reads h d reference licence e =
     let row = adoption_row w d reference licence in
     let one = past (unless (is_reference w reference) (why.BadTerm 0)) _ e in
     let two = past (unless (is_plain w licence) (why.BadTerm 1)) _ one.1 in
-    both (is_printed w row.reference && is_that row.reference (w.reference row.reference))
+    and_from (is_printed w row.reference && is_that row.reference (w.reference row.reference))
     (is_printed w row.licence && w.is_licence row.licence)
     (printed_reference w reads reference (w.term reference) refl
     (is_so (is_reference w reference) (why.BadTerm 0) one.0))
@@ -136,7 +135,7 @@ are_adoptions w reads (c ∷ h) ok row m = are_adoptions w reads h ok.1 row m
 pub licences : (w : Readings) → ReadsChoices w → (h : List Command) → IsHistory w h
     → list_all (audit.is_adoption w) (map adoption_stored (adoptions w h)) ≡ true
 licences w reads h ok =
-    all_in (audit.is_adoption w) (map adoption_stored (adoptions w h)) (λ row m.
+    all_pass (audit.is_adoption w) (map adoption_stored (adoptions w h)) (λ row m.
     let at = from_map adoption_stored row (adoptions w h) m in
     subst (λ (row : StoredAdoption). audit.is_adoption w row ≡ true) at.2
     (are_adoptions w reads h ok at.0 at.1))
@@ -147,15 +146,9 @@ pub has_form : (h : List Command) (r : List ℕ) → IsIn r (opened h) → is_so
 has_form [] r m = absurd m
 has_form (OpenRelease n form ∷ h) r (inl same) = let own : bytes_eq n r ≡ true =
     ap (λ k. bytes_eq k r) same ∙ same_text r in rw own refl
-has_form (OpenRelease n form ∷ h) r (inr m) = still_opened (bytes_eq n r) form
+has_form (OpenRelease n form ∷ h) r (inr m) = known_too (bytes_eq n r) form
     (latest (form_given r) h) (has_form h r m)
 has_form (c ∷ h) r m = has_form h r m
-
-map_in : {A B : Type 0} (f g : A → B) (xs : List A) → ((x : A) → IsIn x xs → f x ≡ g x)
-    → map f xs ≡ map g xs
-map_in f g [] same = refl
-map_in f g (x ∷ xs) same = ap (λ y. y ∷ map f xs) (same x (inl refl))
-    ∙ ap (λ ys. g x ∷ ys) (map_in f g xs (λ y m. same y (inr m)))
 
 abbrev places_of : List (List ℕ) → List ℤ
 places_of ns = map (λ (r : List ℕ). pos (place_in ns r)) ns
@@ -168,7 +161,7 @@ open_places w (OpenRelease r form ∷ h) ok =
     let n = length ns in
     let rest : IsPermutation (numbers_to n) (places_of ns) = open_places w h ok.1 in
     let others : map (λ (k : List ℕ). pos (place_in (r ∷ ns) k)) ns ≡ places_of ns =
-    map_in (λ (k : List ℕ). pos (place_in (r ∷ ns) k)) (λ (k : List ℕ). pos (place_in ns k)) ns
+    map_within (λ (k : List ℕ). pos (place_in (r ∷ ns) k)) (λ (k : List ℕ). pos (place_in ns k)) ns
     (λ k m.
     elim (text_tells r k) [
       | inl same ↦ (let none : is_some (form_of h r) ≡ false = (opened_form w h r form ok.0).1 in

@@ -1,7 +1,9 @@
 -- The rows of conclusions and adoptions are the last ones of each.
 use Rattle.std.proofs.Common.{◌≡◌, ◌⊎◌, ℕ, Bool, true, false, List, [], ◌∷◌, Option, Some, None}
 use Rattle.std.proofs.Common.{sym, refl, ap, ◌∙◌, subst, inl, inr}
-use Rattle.std.specs.Prelude.{◌&&◌, ◌==◌, unwrap_or, if◌then◌else◌}
+use Rattle.std.proofs.lemmas.Bool.{and_from}
+use Rattle.std.proofs.lemmas.Option.{same_Some}
+use Rattle.std.specs.Prelude.{◌&&◌, ◌==◌, if◌then◌else◌}
 use Rattle.std.specs.Str.{bytes_eq}
 use Rattle.desk_model.specs.Lists.{IsIn, latest, or_else}
 use Rattle.desk_model.specs.Readings.{Readings}
@@ -12,10 +14,10 @@ use Rattle.desk_model.specs.declared.row.AdoptionRow.{AdoptionRow}
 use Rattle.desk_model.specs.declared.row.ConclusionRow.{ConclusionRow}
 use Rattle.desk_model.specs.declared.command.Command.{Command}
 use Rattle.desk_model.specs.declared.command.Command.TheVariants.{Conclude, Adopt}
-use Rattle.desk_base.proofs.Bools.{both, contrary}
+use Rattle.desk_base.proofs.Bools.{contrary}
 use Rattle.desk_base.proofs.Numbers.{same_number}
 use Rattle.desk_base.proofs.Texts.{same_text}
-use Rattle.desk_history.proofs.Concluding.{key_number, key_text}
+use Rattle.desk_history.proofs.Concluding.{key_number, key_text, own_key}
 use Rattle.desk_history_laws.specs.Filters.{last_given}
 use Rattle.desk_history_laws.proofs.Given.{latest-last}
 use Rattle.desk_history_laws.proofs.Members.{in_replaced, from_replaced}
@@ -24,7 +26,7 @@ use Rattle.desk_history_laws.proofs.Members.{in_replaced, from_replaced}
 turned : (d d' : ℕ) (p p' : List ℕ) → ((d' == d) && bytes_eq p' p) ≡ true
     → ((d == d') && bytes_eq p p') ≡ true
 turned d d' p p' e =
-    both (d == d') (bytes_eq p p')
+    and_from (d == d') (bytes_eq p p')
     (subst (λ (k : ℕ). (d == k) ≡ true) (sym (key_number d d' p p' e)) (same_number d))
     (subst (λ (t : List ℕ). bytes_eq p t ≡ true) (sym (key_text d d' p p' e)) (same_text p))
 
@@ -32,12 +34,6 @@ apart : (d d' : ℕ) (p p' : List ℕ) (b : Bool) → ((d' == d) && bytes_eq p' 
     → ((d == d') && bytes_eq p p') ≡ false → b ≡ false
 apart d d' p p' true e f = absurd (contrary ((d == d') && bytes_eq p p') (turned d d' p p' e) f)
 apart d d' p p' false e f = refl
-
-own : (d : ℕ) (p : List ℕ) → ((d == d) && bytes_eq p p) ≡ true
-own d p = both (d == d) (bytes_eq p p) (same_number d) (same_text p)
-
-given_text : (a b : List ℕ) → Some a ≡ Some b → a ≡ b
-given_text a b e = ap (λ (o : Option (List ℕ)). unwrap_or o []) e
 
 -- Conclusions
 
@@ -57,7 +53,7 @@ in_step row d p text h true e is rest =
     in_replaced (below_by conclusion_order) (is_conclusion d p) (conclusion_row d p text) row
     (conclusions h)
     (inl (concluded_row row d p text (key_number row.document d row.package_id p e)
-    (key_text row.document d row.package_id p e) (given_text text row.expression is)))
+    (key_text row.document d row.package_id p e) (same_Some text row.expression is)))
 in_step row d p text h false e is rest =
     in_replaced (below_by conclusion_order) (is_conclusion d p) (conclusion_row d p text) row
     (conclusions h)
@@ -83,7 +79,7 @@ from_step row d p text h rest at =
     elim at [
       | inl same ↦
           ap told (subst (λ (u : ConclusionRow). is_conclusion row.document row.package_id u ≡ true)
-          (sym same) (own row.document row.package_id))
+          (sym same) (own_key row.document row.package_id))
           ∙ ap (λ (t : List ℕ). Some t) (ap (λ (u : ConclusionRow). u.expression) same)
       | inr other ↦ ap told (apart row.document d row.package_id p
           (is_conclusion row.document row.package_id (conclusion_row d p text)) refl other.0)
@@ -130,7 +126,7 @@ in_adopted : (w : Readings) (row at : AdoptionRow) (h : List Command) (b : Bool)
 in_adopted w row at h true e is rest =
     inl (adopted_row row at (key_number row.document at.document row.reference at.reference e)
     (key_text row.document at.document row.reference at.reference e)
-    (given_text at.licence row.licence is))
+    (same_Some at.licence row.licence is))
 in_adopted w row at h false e is rest = inr (
   apart at.document row.document at.reference row.reference
       (is_adoption at.document at.reference row) refl e,
@@ -160,7 +156,7 @@ from_adopted w row at h rest is =
     elim is [
       | inl same ↦
           ap told (subst (λ (u : AdoptionRow). is_adoption row.document row.reference u ≡ true)
-          (sym same) (own row.document row.reference))
+          (sym same) (own_key row.document row.reference))
           ∙ ap (λ (t : List ℕ). Some t) (ap (λ (u : AdoptionRow). u.licence) same)
       | inr other ↦ ap told (apart row.document at.document row.reference at.reference
           (is_adoption row.document row.reference at) refl other.0) ∙ rest other.1

@@ -9,6 +9,7 @@ use Rattle.std.specs.declared.cmp.Ordering.{Ordering}
 use Rattle.std.specs.declared.cmp.Ordering.TheVariants.{Less, Equal, Greater}
 use Rattle.std.specs.Cmp.Lexicographic.{slice_cmp}
 use Rattle.std.proofs.lemmas.Bool.Decides.{nat_tests}
+use Rattle.desk_history.proofs.Rising.{smaller}
 use Rattle.desk_base.proofs.Numbers.{three, numbers_equal}
 use Rattle.desk_base.proofs.Bools.{and_left, and_right}
 use Rattle.desk_base.specs.Day.{is_day, exists, number_from, writes_day}
@@ -28,9 +29,6 @@ then_equal Less = refl
 then_equal Equal = refl
 then_equal Greater = refl
 
-less : (a b : ℕ) → a < b → nat_cmp a b ≡ Less
-less a b lt = let e : nat_lt a b ≡ true = grind (arith, nat_tests) in rw e refl
-
 more : (a b : ℕ) → b < a → nat_cmp a b ≡ Greater
 more a b gt = let e : nat_lt a b ≡ false = grind (arith, nat_tests) in
     let f : (a == b) ≡ false = grind (arith, nat_tests) in rw (e, f) refl
@@ -44,8 +42,8 @@ digit_step : (n m x y : ℕ) → is_ascii_digit x ≡ true → is_ascii_digit y 
 digit_step n m x y dx dy =
     elim (three n m) [
       | inl lt ↦ rw (
-        less n m lt,
-        less (n * 10 + (x - 48)) (m * 10 + (y - 48)) (grind (arith, nat_tests)),
+        smaller n m lt,
+        smaller (n * 10 + (x - 48)) (m * 10 + (y - 48)) (grind (arith, nat_tests)),
       ) refl
       | inr ge ↦ elim ge [
         | inl gt ↦ rw (
@@ -54,8 +52,8 @@ digit_step n m x y dx dy =
         ) refl
         | inr is ↦ rw (same n m is) (elim (three x y) [
           | inl lt ↦ rw (
-            less x y lt,
-            less (n * 10 + (x - 48)) (m * 10 + (y - 48)) (grind (arith, nat_tests)),
+            smaller x y lt,
+            smaller (n * 10 + (x - 48)) (m * 10 + (y - 48)) (grind (arith, nat_tests)),
           ) refl
           | inr ge ↦ elim ge [
             | inl gt ↦ rw (

@@ -8,10 +8,11 @@ use Rattle.std.specs.Result.{result_err, result_ok}
 use Rattle.std.specs.Str.{bytes_eq}
 use Rattle.std.proofs.lemmas.Cmp.{nat_cmp_total, nat_list_cmp_total, tied_itself}
 use Rattle.std.proofs.lemmas.List.{map-append}
+use Rattle.std.proofs.lemmas.Bool.{not-true}
+use Rattle.std.proofs.lemmas.Simd.{map-map}
 use Rattle.std.specs.declared.cmp.Ordering.{Ordering}
 use Rattle.std.specs.Cmp.Lexicographic.{slice_cmp}
 use Rattle.std.specs.Ordering.{nat_cmp, on, then_cmp}
-use Rattle.desk_base.proofs.Bools.{not_true}
 use Rattle.desk_base.proofs.Numbers.{same_number}
 use Rattle.desk_base.proofs.Texts.{same_text, text_tells}
 use Rattle.desk_base.specs.Limits as most
@@ -47,33 +48,23 @@ use Rattle.desk_model.specs.declared.row.Move.{Move}
 use Rattle.desk_model.specs.declared.row.PackageRow.{PackageRow}
 use Rattle.desk_model.specs.declared.row.ReleaseRow.{ReleaseRow}
 use Rattle.desk_model.specs.declared.row.RuleRow.{RuleRow}
+use Rattle.desk_model.proofs.Lists.{from_put}
 use Rattle.desk_history.proofs.OwnKeys.{attached_new}
 use Rattle.desk_history.specs.Laws.{AreDistinct, extracted_order, Rises, rule_row_order}
 use Rattle.desk_history.proofs.Members.{from_map, in_map}
 use Rattle.desk_history.proofs.Distinct.{from_filter, distinct-append, distinct-flat_map}
+use Rattle.desk_history.proofs.Distinct.{distinct-map, distinct-filter}
 use Rattle.desk_history.proofs.Sorting.{change_within}
 use Rattle.desk_history.proofs.Recorded.{past}
-use Rattle.desk_history.proofs.Rows.{map-map}
 use Rattle.desk_history_laws.specs.OwnKeys.{adoption_key, attached_key, change_key, choice_key}
 use Rattle.desk_history_laws.specs.OwnKeys.{conclusion_key, extracted_key, frozen_key, package_key}
 use Rattle.desk_history_laws.specs.OwnKeys.{rule_key}
 use Rattle.desk_history_laws.proofs.Lists.{in_numbers}
-use Rattle.desk_history_laws.proofs.Orders.{from_order, from_put}
 use Rattle.desk_history_laws.proofs.Recorded.{opened_form}
 use Rattle.desk_history_laws.proofs.Concluded.{has_form}
+use Rattle.desk_history_laws.proofs.Members.{from_sorted}
 
 -- ---- lists whose keys are distinct
-
--- rows that their keys determine
-pub distinct_by : {A B : Type 0} (key : A → B) (xs : List A)
-    → ((x y : A) → IsIn x xs → IsIn y xs → key x ≡ key y → x ≡ y) → AreDistinct xs
-    → AreDistinct (map key xs)
-distinct_by key [] same a = tt
-distinct_by key (x ∷ xs) same a = (
-  λ m. (let at = from_map key (key x) xs m in
-      a.0 (subst (λ y. IsIn y xs) (same at.0 x (inr at.1) (inl refl) at.2) at.1)),
-  distinct_by key xs (λ y z m n. same y z (inr m) (inr n)) a.1,
-)
 
 distinct_put : {A B : Type 0} (key : A → B) (below : A → A → Bool) (x : A) (xs : List A)
     → (¬ IsIn (key x) (map key xs)) → AreDistinct (map key xs)
@@ -92,20 +83,6 @@ distinct_put key below x (y ∷ ys) new a =
       )
     ]
 
-pub distinct_kept : {A B : Type 0} (key : A → B) (test : A → Bool) (xs : List A)
-    → AreDistinct (map key xs) → AreDistinct (map key (filter test xs))
-distinct_kept key test [] a = tt
-distinct_kept key test (x ∷ xs) a =
-    elim (test x) as (λ b. AreDistinct (map key (cond b (x ∷ filter test xs) (filter test xs)))) [
-      | true ↦ (
-        λ m. (let at = from_map key (key x) (filter test xs) m in
-            a.0 (subst (λ k. IsIn k (map key xs)) at.2
-            (in_map key at.0 xs (from_filter test at.0 xs at.1).0))),
-        distinct_kept key test xs a.1,
-      )
-      | false ↦ distinct_kept key test xs a.1
-    ]
-
 -- a row in place of those with its key
 distinct_replaced : {A B : Type 0} (key : A → B) (below : A → A → Bool) (at : A → Bool) (x : A)
     (xs : List A) → ((y : A) → key y ≡ key x → at y ≡ true) → AreDistinct (map key xs)
@@ -115,8 +92,8 @@ distinct_replaced key below at x xs tells a =
     (λ m. let row = from_map key (key x) (filter (λ y. not (at y)) xs) m in
     let gone : not (at row.0) ≡ true = (from_filter (λ y. not (at y)) row.0 xs row.1).1 in
     let here : at row.0 ≡ true = tells row.0 row.2 in
-    let apart : at row.0 ≡ false = not_true (at row.0) gone in cc)
-    (distinct_kept key (λ y. not (at y)) xs a)
+    let apart : at row.0 ≡ false = not-true (at row.0) gone in cc)
+    (distinct-filter key (λ y. not (at y)) xs a)
 
 distinct_rises : {A B : Type 0} (key : A → B) (below : A → A → Bool) (xs : List A)
     → ((x y : A) → key x ≡ key y → below x y ≡ false) → Rises below xs → AreDistinct (map key xs)
@@ -369,7 +346,7 @@ distinct_names w h ok = unmapped (names h) (keyed h ok)
         (λ m. let at = from_map (λ (n : List ℕ). n) r (names h) m in
         let none : is_some (form_of h r) ≡ false = (opened_form w h r form ok.0).1 in
         let some : is_some (form_of h r) ≡ true =
-        has_form h r (from_order text_below r (opened h)
+        has_form h r (from_sorted text_below r (opened h)
         (subst (λ n. IsIn n (names h)) at.2 at.1)) in cc)
         (keyed h ok.1)
     keyed (c ∷ h) ok = keyed h ok.1
@@ -378,7 +355,7 @@ pub distinct_releases : (w : Readings) (h : List Command) → IsHistory w h
     → AreDistinct (map (λ (row : ReleaseRow). row.name) (release_rows h))
 distinct_releases w h ok =
     subst AreDistinct (sym (map-map (λ (row : ReleaseRow). row.name) (release_row h) (names h)))
-    (distinct_by (λ (r : List ℕ). r) (names h) (λ x y m n e. e) (distinct_names w h ok))
+    (distinct-map (λ (r : List ℕ). r) (names h) (λ x y m n e. e) (distinct_names w h ok))
 
 pub place_within : (ns : List (List ℕ)) (r : List ℕ) → place_in ns r ≤ length ns
 place_within [] r = omega arith
@@ -416,9 +393,9 @@ pub distinct_places : (w : Readings) (h : List Command) → IsHistory w h
     → AreDistinct (map (λ (row : ReleaseRow). row.place) (release_rows h))
 distinct_places w h ok =
     subst AreDistinct (sym (map-map (λ (row : ReleaseRow). row.place) (release_row h) (names h)))
-    (distinct_by (place_in (opened h)) (names h)
-    (λ x y m n e. one_place (opened h) x y (from_order text_below x (opened h) m)
-    (from_order text_below y (opened h) n) e) (distinct_names w h ok))
+    (distinct-map (place_in (opened h)) (names h)
+    (λ x y m n e. one_place (opened h) x y (from_sorted text_below x (opened h) m)
+    (from_sorted text_below y (opened h) n) e) (distinct_names w h ok))
 
 -- ---- changes: the steps of a duty are numbered
 

@@ -9,10 +9,12 @@ use Rattle.std.specs.Option.{option_map, option_map_or}
 use Rattle.std.specs.Ordering.{int_eq}
 use Rattle.std.specs.Str.{bytes_eq}
 use Rattle.std.proofs.lemmas.Bool.Decides.{nat_tests}
-use Rattle.std.proofs.lemmas.List.{length-map}
+use Rattle.std.proofs.lemmas.List.{length-map, length_push}
+use Rattle.std.proofs.lemmas.List.FromFn.{length-enumerate_from}
 use Rattle.desk_base.proofs.Bools.{and_left}
 use Rattle.desk_base.proofs.Numbers.{numbers_equal}
 use Rattle.desk_base.proofs.Texts.{text_tells, same_text}
+use Rattle.desk_base.proofs.Lists.{is_there}
 use Rattle.desk_model.specs.Lists.{IsIn, latest, or_else}
 use Rattle.desk_model.specs.Texts.{is_before}
 use Rattle.desk_model.specs.Readings.{Readings}
@@ -39,21 +41,24 @@ use Rattle.desk_model.specs.declared.command.Command.{Command}
 use Rattle.desk_model.specs.declared.command.Command.TheVariants.{LoadCatalogue, OpenRelease}
 use Rattle.desk_model.specs.declared.command.Command.TheVariants.{Freeze, Meet, Waive, Reopen}
 use Rattle.desk_model.specs.declared.command.Command.TheVariants.{Withdraw, CloseDay}
-use Rattle.desk_history.proofs.Lookups.{length-push, release_found-tables}
+use Rattle.desk_history.proofs.Lookups.{release_found-tables}
 use Rattle.desk_history.proofs.Members.{in_cases, from_map}
 use Rattle.desk_history.proofs.OwnKeys.{open_at, owed_release, raised_closed}
 use Rattle.desk_history.proofs.Rows.{find-map}
+use Rattle.desk_history.proofs.Freezing.{numbered-append}
 use Rattle.desk_model.specs.Names.{duty_state_name, release_state_name}
+use Rattle.desk_model.proofs.Lists.{all_pass}
 use Rattle.desk_snapshot.specs.Conditions.{AreNumbered, AreStates, stands_as, was_frozen}
 use Rattle.desk_snapshot.specs.Rows as stored
 use Rattle.desk_snapshot.specs.Rows.{AreFrom, release_state_named}
 use Rattle.desk_snapshot.specs.Tables.{duty_stored, release_stored, snapshot_of}
 use Rattle.desk_snapshot.specs.declared.rows.StoredDuty.{StoredDuty}
 use Rattle.desk_snapshot.specs.declared.rows.StoredRelease.{StoredRelease}
-use Rattle.desk_history_laws.proofs.Lists.{all_in, at_own, in_numbers, numbers-append, pos_eq}
-use Rattle.desk_history_laws.proofs.Recorded.{allows, freezes, opened_form, there}
+use Rattle.desk_history_laws.proofs.Lists.{at_own, in_numbers, pos_eq}
+use Rattle.desk_history_laws.proofs.Recorded.{allows, freezes, opened_form}
+use Rattle.desk_history_laws.proofs.Bills.{known_too}
 
--- ---- how many there are
+-- ---- how many is_there are
 
 numbers_from : (w : Readings) (h : List Command) (n : ℕ) (xs : List Owed)
     → AreFrom n (map (λ (row : StoredDuty). row.number)
@@ -61,16 +66,12 @@ numbers_from : (w : Readings) (h : List Command) (n : ℕ) (xs : List Owed)
 numbers_from w h n [] = tt
 numbers_from w h n (x ∷ xs) = (refl, numbers_from w h (n + 1) xs)
 
-length-numbers : {A : Type 0} (n : ℕ) (xs : List A) → length (enumerate_from n xs) ≡ length xs
-length-numbers n [] = refl
-length-numbers n (x ∷ xs) = omega (arith, length-numbers (n + 1) xs)
-
 pub length-duties : (w : Readings) (h : List Command)
     → length (map duty_stored (duties w h)) ≡ length (raised w h)
 length-duties w h =
     length-map (duties w h) duty_stored
     ∙ (length-map (numbered w h) (λ (d : ℕ × Owed). duty_row (place w h d.0) d)
-    ∙ length-numbers 1 (raised w h))
+    ∙ length-enumerate_from 1 (raised w h))
 
 few_raised : (w : Readings) (h : List Command) → IsHistory w h
     → nat_le (length (raised w h)) 100000 ≡ true
@@ -104,7 +105,7 @@ forms_loaded : (w : Readings) (h : List Command) (form : List ℕ)
     → list_any (bytes_eq form) (forms_in (in_force w h)) ≡ true → 1 ≤ length (revisions h)
 forms_loaded w [] form e = cc
 forms_loaded w (LoadCatalogue text ∷ h) form e = omega
-    (arith, length-push (revisions h) (record { revision = length (revisions h) + 1; body = text }))
+    (arith, length_push (revisions h) (record { revision = length (revisions h) + 1; body = text }))
 forms_loaded w (c ∷ h) form e = forms_loaded w h form e
 
 pub opened_loaded : (w : Readings) (h : List Command) (r : List ℕ) → IsHistory w h
@@ -113,17 +114,12 @@ opened_loaded w [] r ok e = cc
 opened_loaded w (OpenRelease r' form ∷ h) r ok e = forms_loaded w h form
     (opened_form w h r' form ok.0).0
 opened_loaded w (LoadCatalogue text ∷ h) r ok e = omega
-    (arith, length-push (revisions h) (record { revision = length (revisions h) + 1; body = text }))
+    (arith, length_push (revisions h) (record { revision = length (revisions h) + 1; body = text }))
 opened_loaded w (c ∷ h) r ok e = opened_loaded w h r ok.1 e
 
 pub record WasFrozen (h : List Command) (r : List ℕ) : Type 0 where
   pub opened : is_some (form_of h r) ≡ true
   pub revision : 1 ≤ revision_of h r
-
-pub still_opened : (b : Bool) (form : List ℕ) (o : Option (List ℕ)) → is_some o ≡ true
-    → is_some (or_else (if b then Some form else None) o) ≡ true
-still_opened true form o e = refl
-still_opened false form o e = e
 
 frozen_step : (h : List Command) (r r' day : List ℕ) → 1 ≤ length (revisions h) → WasFrozen h r
     → WasFrozen (Freeze r' day ∷ h) r
@@ -152,7 +148,7 @@ frozen_release w (Freeze r day ∷ h) d ok m =
 frozen_release w (OpenRelease r form ∷ h) d ok m =
     let was = frozen_release w h d ok.1 m in
     record {
-      opened = still_opened (bytes_eq r d.release) form (latest (form_given d.release) h)
+      opened = known_too (bytes_eq r d.release) form (latest (form_given d.release) h)
           was.opened;
       revision = was.revision;
     }
@@ -188,7 +184,7 @@ pub are_numbered : (w : Readings) (h : List Command) → IsHistory w h
 are_numbered w h ok = record {
   numbered = numbers_from w h 1 (raised w h);
   few = ap (λ n. nat_le n 100000) (length-duties w h) ∙ few_raised w h ok;
-  frozen = all_in (λ (row : StoredDuty). was_frozen (snapshot_of (tables w h)) row.release)
+  frozen = all_pass (λ (row : StoredDuty). was_frozen (snapshot_of (tables w h)) row.release)
       (map duty_stored (duties w h)) (λ row m.
       let at = row_of w h row m in
       let was = frozen_release w h at.duty.1 ok (in_numbers 1 (raised w h) at.duty at.listed).2 in
@@ -241,7 +237,7 @@ state_named : (h : List Command) (d : ℕ × Owed) (o : Option (ℕ × Owed)) �
     → is_some (form_of h d.1.release) ≡ true → gone (release_state_of h o) ≡ None
     → gone (state_of h d.1.release) ≡ None
 state_named h d o e opened none =
-    let at = there (form_of h d.1.release) opened in
+    let at = is_there (form_of h d.1.release) opened in
     let state : release_state h d.1.release ≡ Some (state_of h d.1.release) =
     ap (option_map (λ (form : List ℕ). state_of h d.1.release)) at.1 in
     ap gone (sym (ap (release_state_of h) e
@@ -294,7 +290,7 @@ pub raised_cases : (w : Readings) (h : List Command) (r : List ℕ) (d : ℕ × 
     → IsIn d (numbered w h) ⊎ IsIn d (enumerate_from (1 + length (raised w h)) (owed_at w h r))
 raised_cases w h r d m =
     in_cases d (numbered w h) (enumerate_from (1 + length (raised w h)) (owed_at w h r))
-    (subst (λ (ds : List (ℕ × Owed)). IsIn d ds) (numbers-append 1 (raised w h) (owed_at w h r)) m)
+    (subst (λ (ds : List (ℕ × Owed)). IsIn d ds) (numbered-append 1 (raised w h) (owed_at w h r)) m)
 
 kept_state : (r r' : List ℕ) (s : ReleaseState) (o : Option ReleaseState) → bytes_eq r' r ≡ false
     → unwrap_or (or_else (if bytes_eq r' r then Some s else None) o) release.IsOpen
@@ -447,7 +443,7 @@ are_states w h ok =
     (find (stored.is_release row.release) releases) true in
     record {
       releases = releases_named (release_rows h);
-      duties = all_in test (map duty_stored (duties w h)) (λ row m.
+      duties = all_pass test (map duty_stored (duties w h)) (λ row m.
           let at = row_of w h row m in
           let d = at.duty in
           let was = frozen_release w h d.1 ok (in_numbers 1 (raised w h) d at.listed).2 in

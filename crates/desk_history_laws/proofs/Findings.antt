@@ -7,13 +7,12 @@ use Rattle.std.specs.Cmp.{IsTotalOrder, nat_cmp_total, on_total, then_total}
 use Rattle.std.specs.FinMap.{IsAntisymmetric, nat_cmp-IsAntisymmetric}
 use Rattle.std.specs.List.Sorted.{IsPermutation}
 use Rattle.std.specs.Ordering.{nat_cmp, ordering_then}
-use Rattle.std.specs.declared.cmp.Ordering.{Ordering}
-use Rattle.std.specs.declared.cmp.Ordering.TheVariants.{Less, Equal, Greater}
 use Rattle.std.proofs.lemmas.List.Sorted.{sum_by-IsPermutation}
 use Rattle.desk_base.specs.declared.profile.Profile.{Profile}
+use Rattle.desk_base.proofs.Orders.{both_equal}
 use Rattle.desk_expr.specs.Tree.{Tree}
 use Rattle.desk_expr.specs.Spelling.{SpellsWithinBy}
-use Rattle.desk_expr.proofs.ParseLemmas.{spells_once}
+use Rattle.desk_expr.proofs.ParseLemmas.{one_within}
 use Rattle.desk_alts.proofs.Texts.{tree_of_text}
 use Rattle.desk_fields.specs.declared.fault.DocFault.{DocFault}
 use Rattle.desk_tagvalue.specs.Parts.{DocumentText}
@@ -48,17 +47,12 @@ reading_exists profile = (
   (λ text. (tree_in profile text (tree_of_text profile text)).1),
 )
 
-one_tree : (profile : Profile) (text : List ℕ) (e f : Tree) → SpellsWithinBy profile text e
-    → SpellsWithinBy profile text f → e ≡ f
-one_tree profile text e f (short, ts, are, h, keeps) (short', us, are', k, keeps') = spells_once
-    profile text e f (ts, are, h) (us, are', k)
-
 read_once : (profile : Profile) (text : List ℕ) (o p : Option Tree) → IsRead profile text o
     → IsRead profile text p → o ≡ p
 read_once profile text None None h k = refl
 read_once profile text None (Some f) h k = absurd (h f k)
 read_once profile text (Some e) None h k = absurd (k e h)
-read_once profile text (Some e) (Some f) h k = ap Some (one_tree profile text e f h k)
+read_once profile text (Some e) (Some f) h k = ap Some (one_within profile text e f h k)
 
 one_reading : (profile : Profile) (r s : List ℕ → Option Tree) → IsReading profile r
     → IsReading profile s → r ≡ s
@@ -138,11 +132,6 @@ kind_found kinds.UndefinedRef = refl
 one_kind : (a b : FindingKind) → kind_number a ≡ kind_number b → place_in_kind a ≡ place_in_kind b
     → a ≡ b
 one_kind a b number place = sym (kind_found a) ∙ ap₂ kind_at number place ∙ kind_found b
-
-both_equal : (r s : Ordering) → ordering_then r s ≡ Equal → (r ≡ Equal) × (s ≡ Equal)
-both_equal Less s e = absurd (cc)
-both_equal Equal s e = (refl, e)
-both_equal Greater s e = absurd (cc)
 
 order_tells : IsAntisymmetric finding_order
 order_tells a b e =

@@ -8,8 +8,9 @@ use Rattle.std.proofs.lemmas.List.{append-nil}
 use Rattle.std.proofs.lemmas.List.Sums.{list_all-from_AllPass}
 use Rattle.std.proofs.lemmas.Bool.Decides.{Decides-eqb}
 use Rattle.std.proofs.lemmas.Slice.Eq.{ends_is}
+use Rattle.std.proofs.lemmas.Bool.{not-true, false_from_ne_true}
 use Rattle.std.specs.Str.{bytes_eq}
-use Rattle.desk_base.proofs.Bools.{and_left, and_right, not_true}
+use Rattle.desk_base.proofs.Bools.{and_left, and_right}
 use Rattle.desk_base.specs.Bytes.{is_blank}
 use Rattle.desk_base.specs.Folded.{folded}
 use Rattle.desk_base.specs.Idstring.{is_idstring, is_idstring_byte}
@@ -24,6 +25,7 @@ use Rattle.desk_expr.specs.Spelling.{SpellsTermWithin}
 use Rattle.desk_expr.proofs.TermLemmas.{spells_term_once}
 use Rattle.desk_tokens.specs.Tokens.{is_parenthesis, is_run_byte}
 use Rattle.desk_expr.proofs.WordKinds.{licence_kind, or_later_kind, plain_word, plus_front, reference_kind}
+use Rattle.desk_expr.proofs.WordKinds.{plus_ends}
 use Rattle.desk_fields.specs.Text.{first_word, after_word, skip_blanks}
 use Rattle.desk_texts.specs.Terms.{adopted_as, behind_with, exception_in, is_licence, licence_id_in}
 use Rattle.desk_texts.specs.Terms.{reference_in}
@@ -65,7 +67,7 @@ word_ends (b ∷ bs) o all =
 no_front : (w : List ℕ) (o : Option (List ℕ)) → no_blanks w ≡ true → (b : ℕ) (bs : List ℕ)
     → w ≡ b ∷ bs → skip_blanks (w ++ printed_exception o) ≡ w ++ printed_exception o
 no_front [] o all b bs e = cc
-no_front (c ∷ cs) o all b bs e = rw (not_true (is_blank c)
+no_front (c ∷ cs) o all b bs e = rw (not-true (is_blank c)
     (and_left (not (is_blank c)) (no_blanks cs) all)) refl
 
 not_empty : (w : List ℕ) → suc 0 ≡ suc 0 → (w ≡ [] → ⊥) → (b : ℕ) × (bs : List ℕ) × (w ≡ b ∷ bs)
@@ -104,16 +106,12 @@ after-word t h = (λ i. drop (ends_at t h i) (no_gap t h i))
 
 -- ---- references
 
-never : (b : Bool) → (b ≡ true → ⊥) → b ≡ false
-never true h = absurd (h refl)
-never false h = refl
-
 id_is_no_reference : (k : List ℕ) → is_folded_id k ≡ true → is_reference k ≡ false
-id_is_no_reference k id = never (is_reference k)
+id_is_no_reference k id = false_from_ne_true (is_reference k)
     (λ e. let same : Reference ≡ Licence = sym (reference_kind k e) ∙ licence_kind k id in cc)
 
 plus_is_no_reference : (k : List ℕ) → is_folded_id k ≡ true → is_reference (k ++ codes "+") ≡ false
-plus_is_no_reference k id = never (is_reference (k ++ codes "+"))
+plus_is_no_reference k id = false_from_ne_true (is_reference (k ++ codes "+"))
     (λ e. let same : Reference ≡ LicenceOrLater = sym (reference_kind (k ++ codes "+") e)
     ∙ or_later_kind k id in cc)
 
@@ -154,7 +152,7 @@ no_id_byte (c ∷ v) w b bad = rw (no_id_byte v w b bad) (both_false (is_idstrin
     both_false false = refl
 
 no_id : (v w : List ℕ) (b : ℕ) → is_idstring_byte b ≡ false → is_idstring (v ++ b ∷ w) ≡ false
-no_id v w b bad = never (is_idstring (v ++ b ∷ w))
+no_id v w b bad = false_from_ne_true (is_idstring (v ++ b ∷ w))
     (λ e. let no = no_id_byte v w b bad in
     let yes = and_right (nat_lt 0 (length (v ++ b ∷ w))) (list_all is_idstring_byte (v ++ b ∷ w))
     e in cc)
@@ -218,12 +216,9 @@ adopted-printed licence t plain h =
 
 -- ---- ids of licences, and exceptions
 
-plus_ends : (k : List ℕ) → ends_with nat_eq (k ++ codes "+") (codes "+") ≡ true
-plus_ends k = (ends_is Decides-eqb (k ++ codes "+") (codes "+") _ refl).1 k refl
-
 no_plus_ends : (k : List ℕ) → is_idstring k ≡ true → ends_with nat_eq k (codes "+") ≡ false
 no_plus_ends k id =
-    never (ends_with nat_eq k (codes "+"))
+    false_from_ne_true (ends_with nat_eq k (codes "+"))
     (λ e.
     let cut = (ends_is Decides-eqb k (codes "+") _ refl).0 e in
     let no = no_id (take (length k - 1) k) [] 43 refl in

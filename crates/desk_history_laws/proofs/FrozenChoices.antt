@@ -1,7 +1,8 @@
 -- A frozen release holds for its packages the terms that it was frozen with.
 use Rattle.std.proofs.Common.{◌≡◌, ℕ, Bool, true, false, List, [], ◌∷◌, ◌++◌, map, Option}
 use Rattle.std.proofs.Common.{Some, None, sym, refl, ap, ◌∙◌, subst, inl, inr}
-use Rattle.std.specs.Prelude.{◌+◌, unwrap_or, IsTrue, is_some, find, ◌&&◌, ◌||◌, nat_lt, length, if◌then◌else◌, ◌==◌}
+use Rattle.std.specs.Prelude.{◌+◌, unwrap_or, IsTrue, is_some, find, ◌&&◌, nat_lt, length}
+use Rattle.std.specs.Prelude.{if◌then◌else◌, ◌==◌}
 use Rattle.std.specs.List.{list_any, filter_map}
 use Rattle.std.specs.Option.{option_map_or, option_and_then}
 use Rattle.std.specs.Str.{bytes_eq}
@@ -9,6 +10,7 @@ use Rattle.desk_base.specs.Day.{is_day}
 use Rattle.desk_base.proofs.Bools.{and_left, and_right}
 use Rattle.desk_base.proofs.Numbers.{numbers_equal}
 use Rattle.desk_base.proofs.Texts.{texts_equal, text_tells}
+use Rattle.desk_base.proofs.Lists.{is_there}
 use Rattle.desk_model.specs.Lists.{IsIn, latest, or_else}
 use Rattle.desk_model.specs.Readings.{Readings}
 use Rattle.desk_model.specs.Keys.{below_by, attached_order, is_attachment, is_package}
@@ -32,6 +34,7 @@ use Rattle.desk_model.specs.declared.state.ReleaseState.{ReleaseState}
 use Rattle.desk_model.specs.declared.state.ReleaseState.TheVariants.{IsOpen, Frozen, Withdrawn}
 use Rattle.desk_model.specs.declared.command.Command.{Command}
 use Rattle.desk_model.specs.declared.command.Command.TheVariants.{Import, Attach, Choose, Unchoose, Freeze, Withdraw}
+use Rattle.desk_model.proofs.Lists.{one_passes, found_in}
 use Rattle.std.specs.Result.{result_ok}
 use Rattle.desk_history.specs.Laws.{IsFrozenTerm}
 use Rattle.desk_history.proofs.Members.{in_left, in_map}
@@ -39,7 +42,6 @@ use Rattle.desk_history.proofs.Recorded.{chooses, is_ready, is_so, past}
 use Rattle.desk_history.proofs.OwnKeys.{open_by}
 use Rattle.desk_history_laws.specs.Shipping.{IsShipped}
 use Rattle.desk_history_laws.proofs.FrozenRows.{frozen_once}
-use Rattle.desk_history_laws.proofs.Lists.{found_in}
 use Rattle.desk_history_laws.proofs.Members.{from_filter_map, from_sorted}
 use Rattle.desk_history_laws.proofs.Releases.{attaches}
 
@@ -74,16 +76,6 @@ no_fault day found e =
 
 -- ---- a choice that is held is for a package that the release ships
 
-some_in : {A : Type 0} (test : A → Bool) (xs : List A) → list_any test xs ≡ true
-    → (x : A) × IsIn x xs × (test x ≡ true)
-some_in test [] e = cc
-some_in {A} test (x ∷ xs) e = by_head (some_in test xs) (test x) refl e
-  where
-    by_head : (list_any test xs ≡ true → (y : A) × IsIn y xs × (test y ≡ true)) → (b : Bool)
-        → test x ≡ b → (b || list_any test xs) ≡ true → (y : A) × IsIn y (x ∷ xs) × (test y ≡ true)
-    by_head rest true is e = (x, inl refl, is)
-    by_head rest false is e = let at = rest e in (at.0, inr at.1, at.2)
-
 -- a package that the release ships, with this document and id
 record Ships (w : Readings) (h : List Command) (r : List ℕ) (d : ℕ) (p : List ℕ) : Type 0 where
   row : PackageRow
@@ -94,7 +86,7 @@ record Ships (w : Readings) (h : List Command) (r : List ℕ) (d : ℕ) (p : Lis
 was_attached : (h : List Command) (r : List ℕ) (d : ℕ)
     → list_any (is_attachment r d) (attached h) ≡ true → IsIn (Attach r d) h
 was_attached h r d e =
-    let at = some_in (is_attachment r d) (attached h) e in
+    let at = one_passes (is_attachment r d) (attached h) e in
     let row : AttachedRow = at.0 in
     let entry = from_filter_map attachment row h
     (from_sorted (below_by attached_order) row (filter_map attachment h) at.1) in
@@ -210,10 +202,6 @@ none_first (None ∷ refusals) o e (inl same) = sym same
 none_first (None ∷ refusals) o e (inr m) = none_first refusals o e m
 none_first (Some refusal ∷ refusals) o e m = cc
 
-there : (o : Option Rule) → is_some o ≡ true → (rule : Rule) × (o ≡ Some rule)
-there None e = cc
-there (Some rule) e = (rule, refl)
-
 pub ruled : (w : Readings) (h : List Command) (r day : List ℕ) (p : PackageRow) (term : List ℕ)
     → IsTrue (is_recorded (answer w h (Freeze r day))) → IsIn p (shipped w h r)
     → IsIn term (choice w h r p.document p.id)
@@ -237,7 +225,7 @@ ruled w h r day p term recorded ships chosen =
     let of_term : unruled w licences rules form p term ≡ None =
     none_first (map (unruled w licences rules form p) terms) (unruled w licences rules form p term)
     of_terms (in_map (unruled w licences rules form p) term terms chosen) in
-    there (rule_adopted w licences rules form p.document term)
+    is_there (rule_adopted w licences rules form p.document term)
     (is_so (is_some (rule_adopted w licences rules form p.document term))
     (why.NoRule p.document p.id term) of_term)
 

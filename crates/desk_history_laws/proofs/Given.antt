@@ -1,10 +1,11 @@
 -- What commands give, in the order in which they were recorded.
 use Rattle.std.proofs.Common.{◌≡◌, ℕ, ◌+◌, List, [], ◌∷◌, ◌++◌, length, map, Option, Some, None}
-use Rattle.std.proofs.Common.{refl, ap, ◌∙◌, sym, arith, append-nil, add-zero}
+use Rattle.std.proofs.Common.{refl, ap, ◌∙◌, sym, arith, append-nil}
 use Rattle.std.specs.Prelude.{reverse, filter, cond, Bool, true, false, if◌then◌else◌}
 use Rattle.std.specs.List.{filter_map, cons_option, last_or, enumerate_from}
 use Rattle.std.proofs.lemmas.List.{reverse-append, map-append}
 use Rattle.std.proofs.lemmas.List.Elements.{filter_map-append, filter-append}
+use Rattle.desk_base.proofs.Lists.{numbered_push}
 use Rattle.desk_model.specs.Lists.{latest, or_else}
 use Rattle.desk_model.specs.declared.command.Command.{Command}
 use Rattle.desk_history_laws.specs.Filters.{given, last_given}
@@ -36,19 +37,12 @@ latest-last f (c ∷ h) =
     ∙ (sym (last_or-push None (given f h) (f c))
     ∙ ap (last_or None) (sym (given-cons f c h)))
 
--- one more number
-pub numbered-push : {A : Type 0} (n : ℕ) (xs : List A) (x : A)
-    → enumerate_from n (xs ++ x ∷ []) ≡ enumerate_from n xs ++ (n + length xs, x) ∷ []
-numbered-push n [] x = ap (λ k. (k, x) ∷ []) (sym (add-zero n))
-numbered-push n (y ∷ ys) x = ap (λ zs. (n, y) ∷ zs)
-    (numbered-push (n + 1) ys x ∙ ap (λ k. enumerate_from (n + 1) ys ++ (k, x) ∷ []) (omega arith))
-
 -- rows made of what is given, numbered from 1
 pub rows-push : {A B : Type 0} (row : ℕ × A → B) (xs : List A) (x : A)
     → map row (enumerate_from 1 (xs ++ x ∷ [])) ≡ map row (enumerate_from 1 xs)
     ++ row (length xs + 1, x) ∷ []
 rows-push row xs x =
-    ap (map row) (numbered-push 1 xs x)
+    ap (map row) (numbered_push 1 xs x)
     ∙ (map-append row (enumerate_from 1 xs) ((1 + length xs, x) ∷ [])
     ∙ ap (λ k. map row (enumerate_from 1 xs) ++ row (k, x) ∷ []) (omega arith))
 

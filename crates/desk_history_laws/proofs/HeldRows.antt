@@ -10,9 +10,12 @@ use Rattle.std.specs.Result.{result_ok}
 use Rattle.std.specs.Str.{bytes_eq}
 use Rattle.std.proofs.lemmas.Cmp.{nat_cmp_total, nat_list_cmp_total, tied_itself}
 use Rattle.std.proofs.lemmas.List.Folds.{find-append}
+use Rattle.std.proofs.lemmas.Bool.{and_from}
+use Rattle.std.proofs.lemmas.Simd.{map-map}
+use Rattle.std.proofs.lemmas.List.Elements.{filter_agree}
 use Rattle.desk_base.specs.declared.profile.Profile.{Profile}
 use Rattle.desk_base.specs.declared.profile.Profile.TheVariants.{Capitals, Either}
-use Rattle.desk_base.proofs.Bools.{and_left, and_right, both, together}
+use Rattle.desk_base.proofs.Bools.{and_left, and_right, together}
 use Rattle.desk_base.proofs.Numbers.{numbers_equal}
 use Rattle.desk_base.proofs.Texts.{texts_equal, same_text}
 use Rattle.desk_model.specs.Lists.{IsIn, in_order, latest, or_else, put}
@@ -22,7 +25,7 @@ use Rattle.desk_model.specs.Names.{release_state_name}
 use Rattle.desk_model.specs.Readings.{Readings}
 use Rattle.desk_model.specs.Texts.{sorted_set, text_below}
 use Rattle.desk_model.specs.History as history
-use Rattle.desk_model.specs.History.{attached, choice, documents, form_given, form_of}
+use Rattle.desk_model.specs.History.{attached, choice, documents, form_of}
 use Rattle.desk_model.specs.History.{is_package_of, package_row, packages, packages_in, state_given}
 use Rattle.desk_model.specs.History.{state_of, term_set, terms_given}
 use Rattle.desk_model.specs.Conclusions.{conclusion_by, conclusions, office_text, profile_in}
@@ -39,13 +42,16 @@ use Rattle.desk_model.specs.declared.state.ReleaseState.{ReleaseState}
 use Rattle.desk_model.specs.declared.state.ReleaseState.TheVariants.{IsOpen, Frozen, Withdrawn}
 use Rattle.desk_model.specs.declared.command.Command.{Command}
 use Rattle.desk_model.specs.declared.command.Command.TheVariants.{Attach, Choose, Freeze, Import}
-use Rattle.desk_model.specs.declared.command.Command.TheVariants.{OpenRelease, Unchoose, Withdraw}
+use Rattle.desk_model.specs.declared.command.Command.TheVariants.{Unchoose, Withdraw}
+use Rattle.desk_model.proofs.Lists.{all_pass}
 use Rattle.desk_history.specs.Laws.{IsHeldMinimal, Rises}
 use Rattle.desk_history.proofs.Orders.{choice_is_order, filter-in_order}
-use Rattle.desk_history.proofs.Rows.{filter-map, find-map, map-map}
+use Rattle.desk_history.proofs.Rows.{filter-map, find-map}
 use Rattle.desk_history.proofs.Members.{from_filter_map}
 use Rattle.desk_history.proofs.OwnKeys.{open_by}
 use Rattle.desk_history.proofs.Recorded.{chooses}
+use Rattle.desk_history.proofs.Holding.{opened_stays}
+use Rattle.desk_history.proofs.Rising.{rises-map}
 use Rattle.desk_snapshot.specs.Conditions as audit
 use Rattle.desk_snapshot.specs.Conditions.{are_minimal, conclusion_at, is_choice, is_printed}
 use Rattle.desk_snapshot.specs.Conditions.{is_withdrawn, profile_at, ships_under, terms_at}
@@ -58,10 +64,10 @@ use Rattle.desk_snapshot.specs.declared.rows.StoredPackage.{StoredPackage}
 use Rattle.desk_snapshot.specs.declared.rows.StoredReading.{StoredReading}
 use Rattle.desk_snapshot.specs.declared.rows.StoredRelease.{StoredRelease}
 use Rattle.desk_history_laws.specs.ChoicePremises.{ReadsChoices}
-use Rattle.desk_history_laws.proofs.Lists.{all_in, filter_same, find_same, pos_eq}
-use Rattle.desk_history_laws.proofs.Duties.{opened_release, still_opened}
-use Rattle.desk_history_laws.proofs.Orders.{map_rises, order_same}
-use Rattle.desk_history_laws.proofs.Recorded.{known_by}
+use Rattle.desk_history_laws.proofs.Lists.{find_same, pos_eq}
+use Rattle.desk_history_laws.proofs.Duties.{opened_release}
+use Rattle.desk_history_laws.proofs.Billed.{in_order-rises}
+use Rattle.desk_history_laws.proofs.Bills.{is_mapped}
 
 -- ---- what a recorded Choose saw, and what remains of it
 
@@ -77,12 +83,6 @@ pub record HeldFor (w : Readings) (h : List Command) (r : List ℕ) (d : ℕ) (p
 abbrev withdraws_it : List ℕ → Command → Bool
 withdraws_it r (Withdraw r' day text) = bytes_eq r' r
 withdraws_it r _ = false
-
-opened_more : (c : Command) (h : List Command) (r : List ℕ) → is_some (form_of h r) ≡ true
-    → is_some (form_of (c ∷ h) r) ≡ true
-opened_more (OpenRelease n form) h r e = still_opened (bytes_eq n r) form (latest (form_given r) h)
-    e
-opened_more c h r e = e
 
 frozen_stands : (b : Bool) (o : Option ReleaseState) → gone (unwrap_or o IsOpen) ≡ None
     → gone (unwrap_or (or_else (if b then Some Frozen else None) o) IsOpen) ≡ None
@@ -148,7 +148,7 @@ ships_more w c h d p e = e
 held_more : (w : Readings) (c : Command) (h : List Command) (r : List ℕ) (d : ℕ) (p term : List ℕ)
     → withdraws_it r c ≡ false → HeldFor w h r d p term → HeldFor w (c ∷ h) r d p term
 held_more w c h r d p term other held = record {
-  opened = opened_more c h r held.opened;
+  opened = opened_stays c h r held.opened;
   stands = stands_more c h r other held.stands;
   attached = attached_more c h r d held.attached;
   ships = ships_more w c h d p held.ships;
@@ -164,7 +164,7 @@ chosen w h r d p texts term text e spelled =
     let there = list_any (key.is_attachment r d) (attached h) in
     let ships = option_map_or (λ (row : PackageRow). row.shipped) (package_at w h d p) false in
     record {
-      opened = known_by (λ (form : List ℕ). state_of h r) (form_of h r) is.has_release;
+      opened = is_mapped (λ (form : List ℕ). state_of h r) (form_of h r) is.has_release;
       stands = ap gone (open_by (state_of h r) (form_of h r) is.opened);
       attached = and_left there ships is.ships;
       ships = and_right there ships is.ships;
@@ -270,8 +270,8 @@ rows_held : Stands → SetsRise → (w : Readings) (h : List Command) (r : List 
 rows_held stands sets w h r d p =
     filter-in_order (below_by choice_order) choice_is_order (key.is_choice_of r d p) (standing w h)
     ∙ (ap (in_order (below_by choice_order)) (stands w h r d p)
-    ∙ order_same (below_by choice_order) (map (choice_row r d p) (choice w h r d p))
-    (map_rises (choice_row r d p) text_below (below_by choice_order) (row_below r d p)
+    ∙ in_order-rises (below_by choice_order) (map (choice_row r d p) (choice w h r d p))
+    (rises-map (choice_row r d p) text_below (below_by choice_order) (row_below r d p)
     (choice w h r d p) (choice_rises sets w h r d p)))
 
 terms_held : Stands → SetsRise → (w : Readings) (h : List Command) (c : ChoiceRow)
@@ -282,7 +282,7 @@ terms_held stands sets w h c =
     ap (map (λ (other : StoredChoice). other.term))
     (filter-map test choice_stored (choices w h)
     ∙ ap (map choice_stored)
-    (filter_same (λ (row : ChoiceRow). test (choice_stored row))
+    (filter_agree (λ (row : ChoiceRow). test (choice_stored row))
     (key.is_choice_of c.release c.document c.package_id)
     (λ row. rw (pos_eq row.document c.document)
     (together (bytes_eq row.release c.release) (row.document == c.document)
@@ -378,7 +378,7 @@ all_printed : FromSet → (w : Readings) → ReadsChoices w
     → (h : List Command) (r : List ℕ) (d : ℕ) (p : List ℕ) → IsHistory w h
     → list_all (is_printed w) (choice w h r d p) ≡ true
 all_printed from_set w reads h r d p ok =
-    all_in (is_printed w) (choice w h r d p) (λ term m.
+    all_pass (is_printed w) (choice w h r d p) (λ term m.
     let held = held_for from_set w h r d p term ok m in
     rw (reads.printed held.text term held.spelled) (same_text term))
 
@@ -413,7 +413,7 @@ module _ (from_set : FromSet) (stands : Stands) (sets : SetsRise) (w : Readings)
       ∙ reads.sets is.concluded.profile is.concluded.text is.listed is.minimal in
       ap (λ (o : Option StoredPackage). option_map_or (ships_under w s terms) o false)
       (package_found w h c.document c.package_id ∙ ap (option_map package_stored) is.has)
-      ∙ both (int_eq (pos (if is.row.shipped then 1 else 0)) (pos 1))
+      ∙ and_from (int_eq (pos (if is.row.shipped then 1 else 0)) (pos 1))
       (option_map_or (are_minimal w terms) (conclusion_at w s (package_stored is.row)) false) ships
       (minimal_for c is terms (conclusion_at w s (package_stored is.row)) is.concluded
       (terms_held stands sets w h c) (conclusion_found w h is.row ∙ is.concludes) minimal)
@@ -428,11 +428,11 @@ module _ (from_set : FromSet) (stands : Stands) (sets : SetsRise) (w : Readings)
       false in
       let there = list_any (stored.is_attachment c.release (pos c.document))
       (map attached_stored (attached h)) in
-      both (option_map_or (λ (release : StoredRelease). not (is_withdrawn release))
+      and_from (option_map_or (λ (release : StoredRelease). not (is_withdrawn release))
       (find (stored.is_release c.release) (map release_stored (release_rows h))) false)
       (there && ships)
       (ap (λ (o : Option StoredRelease). option_map_or
       (λ (release : StoredRelease). not (is_withdrawn release)) o false)
       (opened_release w h c.release held.opened) ∙ not_withdrawn (state_of h c.release) held.stands)
-      (both there ships (attached_found h c.release c.document ∙ held.attached)
+      (and_from there ships (attached_found h c.release c.document ∙ held.attached)
       (ships_for c held is))

@@ -1,12 +1,13 @@
 -- By a right reading each code of a rule is an idstring.
 use Rattle.std.proofs.Common.{◌≡◌, ◌∙◌, ℕ, Bool, true, false, List, [], ◌∷◌, Option, Some, None, Ok}
 use Rattle.std.proofs.Common.{sym, subst, ap, refl}
+use Rattle.std.proofs.lemmas.Bool.{and_from}
 use Rattle.std.specs.Prelude.{codes, length, nat_le, ◌||◌, unwrap_or, if◌then◌else◌}
 use Rattle.std.specs.List.{list_all}
 use Rattle.std.specs.Option.{ok_or, option_and_then}
 use Rattle.std.specs.Str.{bytes_eq}
 use Rattle.toml.specs.Data.{as_str, as_table, Data, get_member}
-use Rattle.desk_base.proofs.Bools.{and_left, and_right, both}
+use Rattle.desk_base.proofs.Bools.{and_left, and_right}
 use Rattle.desk_base.proofs.Texts.{texts_equal}
 use Rattle.desk_base.specs.Idstring.{is_idstring}
 use Rattle.desk_base.specs.TextSets.{is_among}
@@ -34,15 +35,15 @@ are_ids texts = list_all is_idstring texts
 
 ids_put : (x : List ℕ) (ys : List (List ℕ)) → is_idstring x ≡ true → are_ids ys ≡ true
     → are_ids (put_new x ys) ≡ true
-ids_put x [] id all = both (is_idstring x) true id refl
+ids_put x [] id all = and_from (is_idstring x) true id refl
 ids_put x (y ∷ ys) id all = by_place (ids_put x ys id (and_right (is_idstring y) (are_ids ys) all))
     (text_below x y) (bytes_eq x y)
   where
     by_place : are_ids (put_new x ys) ≡ true → (a b : Bool)
         → are_ids (if a then x ∷ y ∷ ys else (if b then y ∷ ys else y ∷ put_new x ys)) ≡ true
-    by_place rest true b = both (is_idstring x) (are_ids (y ∷ ys)) id all
+    by_place rest true b = and_from (is_idstring x) (are_ids (y ∷ ys)) id all
     by_place rest false true = all
-    by_place rest false false = both (is_idstring y) (are_ids (put_new x ys))
+    by_place rest false false = and_from (is_idstring y) (are_ids (put_new x ys))
         (and_left (is_idstring y) (are_ids ys) all) rest
 
 ids_sorted : (xs : List (List ℕ)) → are_ids xs ≡ true → are_ids (sorted_set xs) ≡ true
@@ -120,7 +121,7 @@ ids_among : (duties texts : List (List ℕ)) → are_ids duties ≡ true
     → list_all (is_among duties) texts ≡ true → are_ids texts ≡ true
 ids_among duties [] all e = refl
 ids_among duties (text ∷ texts) all e =
-    both (is_idstring text) (are_ids texts)
+    and_from (is_idstring text) (are_ids texts)
     (id_among duties text all (and_left (is_among duties text) (list_all (is_among duties) texts)
     e))
     (ids_among duties texts all (and_right (is_among duties text) (list_all (is_among duties) texts)

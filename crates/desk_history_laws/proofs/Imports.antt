@@ -7,6 +7,7 @@ use Rattle.std.specs.Result.{result_ok}
 use Rattle.std.specs.Str.{bytes_eq}
 use Rattle.std.proofs.lemmas.List.{map-append}
 use Rattle.std.proofs.lemmas.List.Folds.{list_all-append}
+use Rattle.std.proofs.lemmas.Simd.{map-map}
 use Rattle.desk_base.specs.declared.profile.Profile.{Profile}
 use Rattle.desk_base.specs.declared.profile.Profile.TheVariants.{Capitals, Either}
 use Rattle.desk_base.proofs.Texts.{same_text}
@@ -28,7 +29,6 @@ use Rattle.desk_snapshot.specs.Tables.{snapshot_of, document_stored, reading_sto
 use Rattle.desk_snapshot.specs.declared.rows.StoredDocument.{StoredDocument}
 use Rattle.desk_snapshot.specs.declared.rows.StoredReading.{StoredReading}
 use Rattle.desk_history_laws.proofs.Numbered.{flat_map-push, rows_push}
-use Rattle.desk_history.proofs.Rows.{map-map}
 
 abbrev row_of : Readings → List Command → List ℕ → Profile → DocumentRow
 row_of w h bytes profile = record {

@@ -7,10 +7,12 @@ use Rattle.std.specs.Cmp.{IsTotalOrder}
 use Rattle.std.specs.Cmp.Lexicographic.{slice_cmp}
 use Rattle.std.specs.Str.{bytes_eq}
 use Rattle.std.specs.declared.cmp.Ordering.TheVariants.{Equal}
-use Rattle.std.proofs.lemmas.Cmp.{nat_cmp_total, nat_list_cmp_total, on_total, then_total, tied_itself}
+use Rattle.std.proofs.lemmas.Cmp.{nat_cmp_total, nat_list_cmp_total, on_total, then_total}
 use Rattle.std.proofs.lemmas.List.{map-append}
+use Rattle.std.proofs.lemmas.Simd.{map-map}
 use Rattle.desk_base.proofs.Numbers.{same_number}
 use Rattle.desk_base.proofs.Texts.{texts_equal, same_text}
+use Rattle.desk_base.proofs.Orders.{both_equal, texts_tie}
 use Rattle.desk_model.specs.Lists.{IsIn, in_order}
 use Rattle.desk_model.specs.Keys as key
 use Rattle.desk_model.specs.Keys.{below_by, choice_order, frozen_order}
@@ -33,10 +35,11 @@ use Rattle.desk_model.specs.declared.command.Command.TheVariants.{Freeze}
 use Rattle.desk_history.specs.Laws.{AreDistinct, IsFrozenTerm, Rises}
 use Rattle.desk_history.proofs.Members.{from_flat_map, from_map, in_map}
 use Rattle.desk_history.proofs.Orders.{choice_is_order}
-use Rattle.desk_history.proofs.OwnKeys.{distinct-shipped, open_at, place_of}
+use Rattle.desk_history.proofs.OwnKeys.{distinct-shipped, open_at, place_of, not_below_itself}
 use Rattle.desk_history.proofs.Sorting.{frozen_is_order}
 use Rattle.desk_history.proofs.Distinct.{from_filter, distinct-append, distinct-flat_map}
-use Rattle.desk_history.proofs.Rows.{filter-map, map-map}
+use Rattle.desk_history.proofs.Rows.{filter-map}
+use Rattle.desk_history.proofs.Rising.{rises-filter, rises-map}
 use Rattle.desk_history_laws.specs.Billed.{ListsPackagesOnce}
 use Rattle.desk_history_laws.specs.Standing.{frozen_row}
 use Rattle.desk_snapshot.specs.Conditions as audit
@@ -46,11 +49,12 @@ use Rattle.desk_snapshot.specs.Tables.{choice_stored, frozen_stored, release_sto
 use Rattle.desk_snapshot.specs.declared.rows.StoredChoice.{StoredChoice}
 use Rattle.desk_snapshot.specs.declared.rows.StoredFrozen.{StoredFrozen}
 use Rattle.desk_snapshot.specs.declared.rows.StoredRelease.{StoredRelease}
-use Rattle.desk_history_laws.proofs.Later.{closed_behind}
-use Rattle.desk_history_laws.proofs.Orders.{distinct_alike, distinct_map, filter_rises, first_tie}
-use Rattle.desk_history_laws.proofs.Orders.{in_filter, map_rises, numbers_tie, order_rises}
-use Rattle.desk_history_laws.proofs.Orders.{rises_distinct, same_rising, texts_tie, ties}
+use Rattle.desk_history_laws.proofs.Orders.{distinct_alike, distinct_map}
+use Rattle.desk_history_laws.proofs.Orders.{numbers_tie, order_rises}
+use Rattle.desk_history_laws.proofs.Orders.{rises_distinct, same_rising, ties}
 use Rattle.desk_history_laws.proofs.HeldRows.{choice_rises, SetsRise, Stands}
+use Rattle.desk_history_laws.proofs.FrozenRows.{closed_behind}
+use Rattle.desk_history_laws.proofs.Members.{in_filter}
 
 -- the choice that a frozen term was
 abbrev choice_of : FrozenRow → ChoiceRow
@@ -72,14 +76,14 @@ choice_total =
 
 same_row : (x y : ChoiceRow) → choice_order x y ≡ Equal → x ≡ y
 same_row x y e =
-    let one = first_tie (slice_cmp nat_cmp x.release y.release)
+    let one = both_equal (slice_cmp nat_cmp x.release y.release)
     (ordering_then (nat_cmp x.document y.document)
     (ordering_then (slice_cmp nat_cmp x.package_id y.package_id) (slice_cmp nat_cmp x.term y.term)))
     e in
-    let two = first_tie (nat_cmp x.document y.document)
+    let two = both_equal (nat_cmp x.document y.document)
     (ordering_then (slice_cmp nat_cmp x.package_id y.package_id) (slice_cmp nat_cmp x.term y.term))
     one.1 in
-    let three = first_tie (slice_cmp nat_cmp x.package_id y.package_id)
+    let three = both_equal (slice_cmp nat_cmp x.package_id y.package_id)
     (slice_cmp nat_cmp x.term y.term) two.1 in
     λ i. record {
       release = texts_tie x.release y.release one.0 i;
@@ -97,9 +101,6 @@ same_choice x y e f = same_row x y (ties choice_total x y e f)
 own : (row : ChoiceRow) → key.is_choice_of row.release row.document row.package_id row ≡ true
 own row = rw (same_text row.release, same_number row.document, same_text row.package_id) refl
 
-not_below : (x : List ℕ) → text_below x x ≡ false
-not_below x = rw (tied_itself nat_list_cmp_total x) refl
-
 distinct_standing : Stands → SetsRise → (w : Readings) (h : List Command)
     → AreDistinct (standing w h)
 distinct_standing stands sets w h =
@@ -108,7 +109,7 @@ distinct_standing stands sets w h =
     subst AreDistinct (sym (stands w h x.release x.document x.package_id))
     (distinct_map (choice_row x.release x.document x.package_id)
     (choice w h x.release x.document x.package_id) (λ a b e. ap (λ (row : ChoiceRow). row.term) e)
-    (rises_distinct text_below not_below (choice w h x.release x.document x.package_id)
+    (rises_distinct text_below not_below_itself (choice w h x.release x.document x.package_id)
     (choice_rises sets w h x.release x.document x.package_id))))
 
 pub choices_rise : Stands → SetsRise → (w : Readings) (h : List Command)
@@ -170,7 +171,7 @@ module _ (w : Readings) (h : List Command) (r : List ℕ) where
       (λ (c : ChoiceRow). c.term) (λ (term : List ℕ). term) (chosen_in w h r p)
       (λ term f n. (placed_under r p term (rule_of_term p term) f n).2)
       (distinct_map (λ (term : List ℕ). term) (chosen_in w h r p) (λ x y e. e)
-      (rises_distinct text_below not_below (chosen_in w h r p)
+      (rises_distinct text_below not_below_itself (chosen_in w h r p)
       (choice_rises sets w h r p.document p.id)))
       (λ term n. distinct_under r p term (rule_of_term p term)))
 
@@ -302,11 +303,11 @@ kept_terms stands sets were chosen rows frozen_held held_frozen w once h ok rele
     (table w h)) =
     same_rising (below_by choice_order) choice_is_order (filter (key.is_choice_in r) (choices w h))
     (map choice_of (filter (of_release r) (table w h)))
-    (filter_rises (below_by choice_order) (key.is_choice_in r) (choices w h)
+    (rises-filter (below_by choice_order) (key.is_choice_in r) (choices w h)
     (choices_rise stands sets w h))
-    (map_rises choice_of (below_by frozen_order) (below_by choice_order) (λ x y e. e)
+    (rises-map choice_of (below_by frozen_order) (below_by choice_order) (λ x y e. e)
     (filter (of_release r) (table w h))
-    (filter_rises (below_by frozen_order) (of_release r) (table w h)
+    (rises-filter (below_by frozen_order) (of_release r) (table w h)
     (frozen_rises sets were w once h ok)))
     (to_frozen w h ok r is_so chosen held_frozen) (to_chosen w h ok r is_so rows frozen_held) in
     chosen_stored w h r ∙ (ap (map held_stored) one ∙ sym (terms_stored w h r)))

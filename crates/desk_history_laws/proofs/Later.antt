@@ -1,5 +1,5 @@
 -- What a freeze saw of its release and of the rules is in every later history.
-use Rattle.std.proofs.Common.{◌≡◌, ◌≢◌, ℕ, ◌+◌, Bool, true, false, List, [], ◌∷◌, ◌++◌, length, map}
+use Rattle.std.proofs.Common.{◌≡◌, ℕ, ◌+◌, Bool, true, false, List, [], ◌∷◌, ◌++◌, length, map}
 use Rattle.std.proofs.Common.{Option, Some, None, refl, sym, ap, ◌∙◌, inl, inr}
 use Rattle.std.specs.Prelude.{is_some, if◌then◌else◌}
 use Rattle.std.specs.Result.{result_ok}
@@ -11,27 +11,14 @@ use Rattle.desk_model.specs.History.{form_given, form_of, revision_of, revisions
 use Rattle.desk_model.specs.History.{rule_rows, rules_in, state_of}
 use Rattle.desk_model.specs.Answers.{IsHistory}
 use Rattle.desk_model.specs.declared.row.RuleRow.{RuleRow}
-use Rattle.desk_model.specs.declared.state.ReleaseState.TheVariants.{IsOpen}
 use Rattle.desk_model.specs.declared.command.Command.{Command}
 use Rattle.desk_model.specs.declared.command.Command.TheVariants.{Freeze, LoadCatalogue, OpenRelease}
 use Rattle.desk_history.proofs.Members.{in_left}
 use Rattle.desk_history.proofs.OwnKeys.{open_at}
 use Rattle.desk_history_laws.proofs.Recorded.{opened_form}
-use Rattle.desk_history_laws.proofs.FrozenRows.{still_closed}
-
--- the first commands of a history are a history
-pub history_before : (w : Readings) (later h : List Command) → IsHistory w (later ++ h)
-    → IsHistory w h
-history_before w [] h ok = ok
-history_before w (c ∷ later) h ok = history_before w later h ok.1
+use Rattle.desk_history_laws.proofs.FrozenRows.{closed_behind}
 
 -- ---- a frozen release isn't frozen again
-
-pub closed_behind : (later h : List Command) (r day : List ℕ)
-    → state_of (later ++ Freeze r day ∷ h) r ≢ IsOpen
-closed_behind [] h r day = rw (same_text r) (λ e. cc)
-closed_behind (c ∷ later) h r day = still_closed c (later ++ Freeze r day ∷ h) r
-    (closed_behind later h r day)
 
 -- ---- its revision and its form stay
 

@@ -1,19 +1,14 @@
 -- What is in a list, and what is found in it.
-use Rattle.std.proofs.Common.{◌≡◌, ℕ, ◌+◌, ◌<◌, ◌≤◌, Bool, true, false, cond, List, [], ◌∷◌, ◌++◌}
-use Rattle.std.proofs.Common.{length, Some, refl, ap, ◌∙◌, subst, arith, inl, inr}
+use Rattle.std.proofs.Common.{◌≡◌, ℕ, ◌+◌, ◌<◌, ◌≤◌, Bool, true, false, cond, List, [], ◌∷◌}
+use Rattle.std.proofs.Common.{length, Some, refl, ap, subst, arith, inl, inr}
 use Rattle.std.specs.Prelude.{◌&&◌, ◌==◌, filter, find, pos}
-use Rattle.std.specs.List.{list_all, enumerate_from, AllByRecursion}
+use Rattle.std.specs.List.{enumerate_from, AllByRecursion}
 use Rattle.std.specs.Ordering.{int_eq}
 use Rattle.std.proofs.lemmas.Bool.Decides.{nat_tests}
 use Rattle.desk_model.specs.Lists.{IsIn}
 
 pub pos_eq : (a b : ℕ) → int_eq (pos a) (pos b) ≡ (a == b)
 pos_eq a b = grind (arith, nat_tests)
-
-pub all_in : {A : Type 0} (test : A → Bool) (xs : List A) → ((x : A) → IsIn x xs → test x ≡ true)
-    → list_all test xs ≡ true
-all_in test [] each = refl
-all_in test (x ∷ xs) each = rw (each x (inl refl), all_in test xs (λ y m. each y (inr m))) refl
 
 pub each_in : {A : Type 0} (P : A → Type 0) (xs : List A) → ((x : A) → IsIn x xs → P x)
     → AllByRecursion P xs
@@ -27,17 +22,7 @@ by_head test x y ys true is rest e = let same : y ≡ x = cc in
     (inl same, subst (λ z. test z ≡ true) same is)
 by_head test x y ys false is rest e = let at = rest e in (inr at.0, at.1)
 
-pub found_in : {A : Type 0} (test : A → Bool) (xs : List A) (x : A) → find test xs ≡ Some x
-    → IsIn x xs × (test x ≡ true)
-found_in test [] x e = cc
-found_in test (y ∷ ys) x e = by_head test x y ys (test y) refl (found_in test ys x) e
-
 -- what is filtered
-
-pub filter_same : {A : Type 0} (test other : A → Bool) → ((x : A) → test x ≡ other x)
-    → (xs : List A) → filter test xs ≡ filter other xs
-filter_same test other same [] = refl
-filter_same test other same (x ∷ xs) = rw (same x, filter_same test other same xs) refl
 
 pub find_same : {A : Type 0} (test other : A → Bool) → ((x : A) → test x ≡ other x) → (xs : List A)
     → find test xs ≡ find other xs
@@ -81,10 +66,3 @@ at_own {A} n (x ∷ xs) d m =
           (let less : n + 1 ≤ d.0 = at.0 in grind (arith, nat_tests)) in
           rw other (at_own (n + 1) xs d later))
     ]
-
-pub numbers-append : {A : Type 0} (n : ℕ) (xs ys : List A)
-    → enumerate_from n (xs ++ ys) ≡ enumerate_from n xs ++ enumerate_from (n + length xs) ys
-numbers-append n [] ys = ap (λ k. enumerate_from k ys) (omega arith)
-numbers-append n (x ∷ xs) ys = ap (λ zs. (n, x) ∷ zs)
-    (numbers-append (n + 1) xs ys
-    ∙ ap (λ k. enumerate_from (n + 1) xs ++ enumerate_from k ys) (omega arith))

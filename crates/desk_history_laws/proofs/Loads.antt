@@ -5,6 +5,7 @@ use Rattle.std.specs.List.{list_all, flat_map}
 use Rattle.std.specs.Result.{result_ok}
 use Rattle.std.proofs.lemmas.List.{map-append}
 use Rattle.std.proofs.lemmas.List.Folds.{list_all-append}
+use Rattle.std.proofs.lemmas.Simd.{map-map}
 use Rattle.desk_model.specs.Readings.{Readings}
 use Rattle.desk_model.specs.History.{revisions, rules_in, rule_row, rule_rows}
 use Rattle.desk_model.specs.Answers.{IsHistory, is_recorded, Loading, load_answer, loading}
@@ -20,7 +21,6 @@ use Rattle.desk_snapshot.specs.Rows.{AreFrom}
 use Rattle.desk_snapshot.specs.Tables.{snapshot_of, catalogue_stored, rule_stored}
 use Rattle.desk_snapshot.specs.declared.rows.StoredCatalogue.{StoredCatalogue}
 use Rattle.desk_history_laws.proofs.Numbered.{flat_map-push, rows_push}
-use Rattle.desk_history.proofs.Rows.{map-map}
 
 abbrev row_of : List Command → List ℕ → CatalogueRow
 row_of h text = record { revision = length (revisions h) + 1; body = text }

@@ -1,9 +1,11 @@
 -- What is in a list that was filtered or put in order.
 use Rattle.std.proofs.Common.{◌≡◌, Bool, true, false, cond, List, [], ◌∷◌, Option, Some, None, sym}
 use Rattle.std.proofs.Common.{refl, ap, ◌∙◌, subst, inl, inr}
+use Rattle.std.proofs.lemmas.Bool.{not-true}
 use Rattle.std.specs.Prelude.{◌⊎◌, filter, not, if◌then◌else◌}
 use Rattle.std.specs.List.{filter_map, cons_option}
 use Rattle.desk_model.specs.Lists.{IsIn, put, in_order, replaced}
+use Rattle.desk_model.proofs.Lists.{from_put}
 
 in_kept : {A : Type 0} (x y : A) (xs : List A) (b : Bool) → b ≡ true → y ≡ x
     → IsIn x (cond b (y ∷ xs) xs)
@@ -90,21 +92,6 @@ in_put below x z (y ∷ ys) m =
       ]
     ]
 
-from_place : {A : Type 0} (below : A → A → Bool) (x y z : A) (ys : List A) (b : Bool)
-    → (IsIn z (put below x ys) → (x ≡ z) ⊎ IsIn z ys)
-    → IsIn z (if b then x ∷ y ∷ ys else y ∷ put below x ys) → (x ≡ z) ⊎ IsIn z (y ∷ ys)
-from_place below x y z ys true rest m = m
-from_place below x y z ys false rest m =
-    elim m [
-      | inl same ↦ inr (inl same)
-      | inr n ↦ elim (rest n) [ inl same ↦ inl same | inr k ↦ inr (inr k) ]
-    ]
-
-pub from_put : {A : Type 0} (below : A → A → Bool) (x z : A) (ys : List A) → IsIn z (put below x ys)
-    → (x ≡ z) ⊎ IsIn z ys
-from_put below x z [] m = m
-from_put below x z (y ∷ ys) m = from_place below x y z ys (below x y) (from_put below x z ys) m
-
 pub in_sorted : {A : Type 0} (below : A → A → Bool) (z : A) (xs : List A) → IsIn z xs
     → IsIn z (in_order below xs)
 in_sorted below z [] m = m
@@ -129,15 +116,11 @@ in_replaced below at x z ys m =
       | inr n ↦ inr (in_filter (λ y. not (at y)) z ys (ap not n.0) n.1)
     ])
 
-not_false : (b : Bool) → not b ≡ true → b ≡ false
-not_false true e = cc
-not_false false e = refl
-
 pub from_replaced : {A : Type 0} (below : A → A → Bool) (at : A → Bool) (x z : A) (ys : List A)
     → IsIn z (replaced below at x ys) → (x ≡ z) ⊎ ((at z ≡ false) × IsIn z ys)
 from_replaced below at x z ys m =
     elim (from_put below x z (filter (λ y. not (at y)) ys) m) [
       | inl same ↦ inl same
       | inr n ↦ (let own = from_filter (λ y. not (at y)) z ys n in
-          inr (not_false (at z) own.0, own.1))
+          inr (not-true (at z) own.0, own.1))
     ]

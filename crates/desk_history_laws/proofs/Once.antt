@@ -1,6 +1,7 @@
 -- A right reading lists no package of a document and no code of a rule twice.
 use Rattle.std.proofs.Common.{◌≡◌, ◌∙◌, ℕ, Bool, true, false, List, [], ◌∷◌, map, sym, subst}
 use Rattle.std.proofs.Common.{ap, refl}
+use Rattle.std.proofs.lemmas.Simd.{map-map}
 use Rattle.std.specs.Prelude.{Result, Ok, Err, Option, codes, if◌then◌else◌}
 use Rattle.std.specs.Str.{bytes_eq}
 use Rattle.toml.specs.Data.{get_member}
@@ -25,7 +26,7 @@ use Rattle.desk_texts.specs.Right.{AreRight}
 use Rattle.desk_history_laws.proofs.ReadRules.{each_in, each_rule}
 use Rattle.desk_history_laws.proofs.Ships.{something_kept}
 use Rattle.desk_texts.proofs.Orders.{below_self}
-use Rattle.desk_texts.proofs.Halving.{rises_put, map_map}
+use Rattle.desk_texts.proofs.Halving.{rises_put}
 
 -- ---- sorted texts are different
 
@@ -81,7 +82,7 @@ id_of p = p.id
 ids_distinct : (ps : List (PackageText × Bool))
     → AreDistinct (map id_of (map package_of (sorted_by id_in ps)))
 ids_distinct ps =
-    subst AreDistinct (sym (map_map id_of package_of (sorted_by id_in ps)))
+    subst AreDistinct (sym (map-map id_of package_of (sorted_by id_in ps)))
     (rises_distinct (map id_in (sorted_by id_in ps)) (rises_sorted id_in ps))
 
 of_document : (read : Result DocumentText DocFault) (document : Document) → Keeps read (Ok document)

@@ -1,5 +1,6 @@
 -- A right reading lists rules, codes, packages and references in order.
 use Rattle.std.proofs.Common.{◌≡◌, ◌∙◌, ℕ, Bool, true, List, [], ◌∷◌, map, sym, subst, ap, refl, inl, inr, Less}
+use Rattle.std.proofs.lemmas.Simd.{map-map}
 use Rattle.std.specs.Prelude.{Result, Ok, Err}
 use Rattle.std.specs.List.{AllByRecursion}
 use Rattle.std.specs.List.Sorted.{IsStrictlySortedBy}
@@ -27,7 +28,6 @@ use Rattle.desk_history_laws.proofs.Once.{rises_sorted, sorted-same, id_in, id_o
 use Rattle.desk_history_laws.proofs.Once.{catalogue_has, of_whole}
 use Rattle.desk_history_laws.proofs.ReadRules.{each_in}
 use Rattle.desk_history_laws.proofs.Ships.{something_kept}
-use Rattle.desk_texts.proofs.Halving.{map_map}
 
 -- what is sorted by its ids
 by_ids : {A : Type 0} (id : A → List ℕ) (xs : List A) → Rises (map id xs)
@@ -43,7 +43,7 @@ by_ids id (x ∷ xs) up = (
 packages_rise : (ps : List (PackageText × Bool))
     → law.Rises package_below (map package_of (sorted_by id_in ps))
 packages_rise ps = by_ids id_of (map package_of (sorted_by id_in ps))
-    (subst Rises (sym (map_map id_of package_of (sorted_by id_in ps))) (rises_sorted id_in ps))
+    (subst Rises (sym (map-map id_of package_of (sorted_by id_in ps))) (rises_sorted id_in ps))
 
 abbrev named : ExtractedText → List ℕ
 named x = x.id
@@ -54,7 +54,7 @@ id_of_reference x = x.id
 references_rise : (xs : List ExtractedText)
     → law.Rises reference_below (map reference_of (sorted_by named xs))
 references_rise xs = by_ids id_of_reference (map reference_of (sorted_by named xs))
-    (subst Rises (sym (map_map id_of_reference reference_of (sorted_by named xs)))
+    (subst Rises (sym (map-map id_of_reference reference_of (sorted_by named xs)))
     (rises_sorted named xs))
 
 abbrev Listed : Document → Type 0

@@ -1,59 +1,21 @@
 -- Rows put in order by distinct keys are sorted, and sorted lists with the same members are equal.
 use Rattle.std.proofs.Common.{◌≡◌, ℕ, Bool, true, false, cond, List, [], ◌∷◌, map, refl, sym, ap}
 use Rattle.std.proofs.Common.{◌∙◌, subst, arith, inl, inr}
-use Rattle.std.specs.Prelude.{◌⊎◌, filter, if◌then◌else◌}
-use Rattle.std.specs.Ordering.{is_lt, is_eq, nat_cmp, ordering_reverse, ordering_then}
+use Rattle.std.specs.Prelude.{filter, if◌then◌else◌}
+use Rattle.std.specs.Ordering.{is_lt, nat_cmp, ordering_reverse}
 use Rattle.std.specs.Cmp.{IsTotalOrder}
-use Rattle.std.specs.Cmp.Lexicographic.{slice_cmp}
 use Rattle.std.specs.declared.cmp.Ordering.{Ordering}
 use Rattle.std.specs.declared.cmp.Ordering.TheVariants.{Less, Equal, Greater}
-use Rattle.std.proofs.lemmas.Map.Text.{is_eq-slice_cmp}
 use Rattle.std.proofs.lemmas.Bool.Decides.{nat_tests}
-use Rattle.desk_base.proofs.Texts.{texts_equal}
+use Rattle.desk_history_laws.proofs.Members.{from_sorted, in_filter}
 use Rattle.desk_model.specs.Lists.{IsIn, put, in_order}
 use Rattle.desk_model.specs.Keys.{below_by}
 use Rattle.desk_model.proofs.Orders.{IsOrder}
+use Rattle.desk_model.proofs.Lists.{from_put}
 use Rattle.desk_history.specs.Laws.{AreDistinct, Rises}
 use Rattle.desk_history.proofs.Members.{in_map, from_map}
-use Rattle.desk_history.proofs.Distinct.{from_filter}
 
 -- ---- what is in a list that was put in order
-
-pub from_put : {A : Type 0} (below : A → A → Bool) (x z : A) (xs : List A) → IsIn z (put below x xs)
-    → (x ≡ z) ⊎ IsIn z xs
-from_put below x z [] m = m
-from_put below x z (y ∷ ys) m =
-    (elim (below x y) as (λ b. IsIn z (if b then x ∷ y ∷ ys else y ∷ put below x ys)
-    → (x ≡ z) ⊎ IsIn z (y ∷ ys)) [
-      | true ↦ λ n. n
-      | false ↦ λ n. elim n [
-        | inl same ↦ inr (inl same)
-        | inr o ↦ (elim (from_put below x z ys o) [ inl same ↦ inl same | inr p ↦ inr (inr p) ])
-      ]
-    ]) m
-
-pub from_order : {A : Type 0} (below : A → A → Bool) (z : A) (xs : List A)
-    → IsIn z (in_order below xs) → IsIn z xs
-from_order below z [] m = m
-from_order below z (x ∷ xs) m = elim (from_put below x z (in_order below xs) m)
-    [ inl same ↦ inl same | inr n ↦ inr (from_order below z xs n) ]
-
-pub in_filter : {A : Type 0} (test : A → Bool) (x : A) (xs : List A) → test x ≡ true → IsIn x xs
-    → IsIn x (filter test xs)
-in_filter test x [] e m = m
-in_filter test x (y ∷ ys) e m =
-    elim m [
-      | inl same ↦ kept (filter test ys) (test y) (ap test same ∙ e) same
-      | inr n ↦ more (filter test ys) (test y) (in_filter test x ys e n)
-    ]
-  where
-    kept : (zs : List _) (b : Bool) → b ≡ true → y ≡ x → IsIn x (cond b (y ∷ zs) zs)
-    kept zs true e same = inl same
-    kept zs false e same = cc
-
-    more : (zs : List _) (b : Bool) → IsIn x zs → IsIn x (cond b (y ∷ zs) zs)
-    more zs true m = inr m
-    more zs false m = m
 
 -- ---- sorted lists
 
@@ -87,7 +49,7 @@ module _ {A : Type 0} (below : A → A → Bool) (o : IsOrder below) where
   order_rises key ties (x ∷ xs) apart =
       put_rises x (in_order below xs) (order_rises key ties xs apart.1) (λ y m e.
       turned (λ f. apart.0 (subst (λ k. IsIn k (map key xs)) (sym (ties x y e f))
-      (in_map key y xs (from_order below y xs m)))) (below y x) refl)
+      (in_map key y xs (from_sorted below y xs m)))) (below y x) refl)
     where
       turned : {y : A} → (below y x ≡ false → ⊥) → (b : Bool) → below y x ≡ b → b ≡ true
       turned never true e = refl
@@ -125,35 +87,6 @@ module _ {A : Type 0} (below : A → A → Bool) (o : IsOrder below) where
       tail_from (inl e) never = absurd (never e)
       tail_from (inr m) never = m
 
-pub filter_rises : {A : Type 0} (below : A → A → Bool) (test : A → Bool) (xs : List A)
-    → Rises below xs → Rises below (filter test xs)
-filter_rises below test [] up = tt
-filter_rises below test (x ∷ xs) up =
-    elim (test x) as (λ b. Rises below (cond b (x ∷ filter test xs) (filter test xs))) [
-      | true ↦ (λ z m. up.0 z (from_filter test z xs m).0, filter_rises below test xs up.1)
-      | false ↦ filter_rises below test xs up.1
-    ]
-
-pub map_rises : {A B : Type 0} (f : A → B) (below : A → A → Bool) (under : B → B → Bool)
-    → ((x y : A) → below x y ≡ true → under (f x) (f y) ≡ true) → (xs : List A) → Rises below xs
-    → Rises under (map f xs)
-map_rises f below under keeps [] up = tt
-map_rises f below under keeps (x ∷ xs) up = (
-  λ z m. (let at = from_map f z xs m in
-      subst (λ u. under (f x) u ≡ true) at.2 (keeps x at.0 (up.0 at.0 at.1))),
-  map_rises f below under keeps xs up.1,
-)
-
--- what is sorted is in order
-pub order_same : {A : Type 0} (below : A → A → Bool) (xs : List A) → Rises below xs
-    → in_order below xs ≡ xs
-order_same below [] up = refl
-order_same below (x ∷ xs) up = ap (put below x) (order_same below xs up.1) ∙ first xs up.0
-  where
-    first : (ys : List _) → ((y : _) → IsIn y ys → below x y ≡ true) → put below x ys ≡ x ∷ ys
-    first [] less = refl
-    first (y ∷ ys) less = rw (less y (inl refl)) refl
-
 pub rises_distinct : {A : Type 0} (below : A → A → Bool) → ((x : A) → below x x ≡ false)
     → (xs : List A) → Rises below xs → AreDistinct xs
 rises_distinct below never [] up = tt
@@ -174,14 +107,6 @@ tied t x y Greater b e f n m = let turned : b ≡ Less = sym f
 pub ties : {A : Type 0} {order : A → A → Ordering} → IsTotalOrder order → (x y : A)
     → below_by order x y ≡ false → below_by order y x ≡ false → order x y ≡ Equal
 ties {A} {order} t x y n m = tied t x y (order x y) (order y x) refl refl n m
-
-pub first_tie : (a b : Ordering) → ordering_then a b ≡ Equal → (a ≡ Equal) × (b ≡ Equal)
-first_tie Less b e = cc
-first_tie Equal b e = (refl, e)
-first_tie Greater b e = cc
-
-pub texts_tie : (x y : List ℕ) → slice_cmp nat_cmp x y ≡ Equal → x ≡ y
-texts_tie x y e = texts_equal x y (sym (is_eq-slice_cmp x y) ∙ ap is_eq e)
 
 pub numbers_tie : (x y : ℕ) → nat_cmp x y ≡ Equal → x ≡ y
 numbers_tie x y e = grind (arith, nat_tests)

@@ -8,7 +8,8 @@ use Rattle.std.proofs.lemmas.List.{map-append}
 use Rattle.std.proofs.lemmas.List.Folds.{flat_map-map}
 use Rattle.std.proofs.lemmas.List.Sorted.{IsPermutation-append, IsPermutation-append_comm}
 use Rattle.std.proofs.lemmas.List.Sorted.{IsPermutation-refl, IsPermutation-trans}
-use Rattle.desk_base.proofs.Bools.{both}
+use Rattle.std.proofs.lemmas.Bool.{and_from}
+use Rattle.std.proofs.lemmas.Grind.{flat_map-append}
 use Rattle.desk_model.specs.Lists.{IsIn, latest, in_order}
 use Rattle.desk_model.specs.Keys.{below_by, frozen_order}
 use Rattle.desk_model.specs.Readings.{Readings}
@@ -26,8 +27,10 @@ use Rattle.desk_model.specs.declared.row.Owed.{Owed}
 use Rattle.desk_model.specs.declared.row.PackageRow.{PackageRow}
 use Rattle.desk_model.specs.declared.command.Command.{Command}
 use Rattle.desk_model.specs.declared.command.Command.TheVariants.{Freeze}
+use Rattle.desk_model.proofs.Lists.{all_pass}
 use Rattle.desk_history.specs.Laws.{AreSortedAsListed, IsFrozenTerm, Rises, rule_row_order}
 use Rattle.desk_history.proofs.Members.{from_map}
+use Rattle.desk_history.proofs.Minimal.{history_before}
 use Rattle.desk_snapshot.specs.Conditions as audit
 use Rattle.desk_snapshot.specs.Conditions.{AreDuties, codes_in, is_ruled, owed_by, owed_of, rule_for, was_frozen}
 use Rattle.desk_snapshot.specs.Tables.{duty_stored, frozen_stored, snapshot_of}
@@ -35,10 +38,9 @@ use Rattle.desk_snapshot.specs.declared.rows.StoredFrozen.{StoredFrozen}
 use Rattle.desk_snapshot.specs.declared.rows.StoredRule.{StoredRule}
 use Rattle.desk_snapshot.specs.declared.snapshot.Snapshot.{Snapshot}
 use Rattle.desk_history_laws.specs.Premises.{ReadsRules}
-use Rattle.desk_history_laws.proofs.Lists.{all_in}
 use Rattle.desk_history_laws.proofs.Duties.{found_frozen, opened_loaded, WasFrozen}
 use Rattle.desk_history_laws.proofs.Parts.{from_same, ordered_parts, to_same}
-use Rattle.desk_history_laws.proofs.Later.{history_before, form_stays, revision_stays}
+use Rattle.desk_history_laws.proofs.Later.{form_stays, revision_stays}
 use Rattle.desk_history_laws.proofs.Recorded.{freezes}
 use Rattle.desk_history_laws.proofs.Rules.{codes_of, rule_form, rule_found}
 use Rattle.desk_history_laws.proofs.Words.{codes-joined}
@@ -61,12 +63,6 @@ duties_owed w h n [] = refl
 duties_owed w h n (x ∷ xs) = ap (λ ys. owed_stored x ∷ ys) (duties_owed w h (n + 1) xs)
 
 -- ---- lists made of parts
-
-flat_map-append : {A B : Type 0} (f : A → List B) (xs ys : List A)
-    → flat_map f (xs ++ ys) ≡ flat_map f xs ++ flat_map f ys
-flat_map-append f [] ys = refl
-flat_map-append f (x ∷ xs) ys = ap (λ zs. f x ++ zs) (flat_map-append f xs ys)
-    ∙ sym (append_assoc (f x) (flat_map f xs) (flat_map f ys))
 
 by_parts : {A B C D E : Type 0} (g : C → List E) (f : B → C) (u : A → List B) (k : D → E)
     (v : A → List D) → ((x : A) → flat_map g (map f (u x)) ≡ map k (v x))
@@ -232,7 +228,7 @@ ruled_by w reads h ok up f is =
     → is_ruled (snapshot_of (tables w all)) (frozen_stored f) ≡ true) (sym is.split)
     (λ ok' up'.
     let all = is.later ++ Freeze f.release is.day ∷ is.before in
-    both (was_frozen (snapshot_of (tables w all)) f.release)
+    and_from (was_frozen (snapshot_of (tables w all)) f.release)
     (is_some (rule_for (snapshot_of (tables w all)) (frozen_stored f)))
     (found_frozen w all f.release (frozen_so w reads is.later is.before f.release is.day ok'))
     (ap is_some (rule_found w reads is.later is.before f is.day is.rule ok' up' own.0 own.1
@@ -247,7 +243,7 @@ are_duties from_rows listed w h reads ok =
     let s = snapshot_of (tables w h) in
     let rows = in_order (below_by frozen_order) (frozen w h) in
     record {
-      ruled = all_in (is_ruled s) (map frozen_stored rows) (λ row m.
+      ruled = all_pass (is_ruled s) (map frozen_stored rows) (λ row m.
           let at = from_map frozen_stored row rows m in
           subst (λ (row : StoredFrozen). is_ruled s row ≡ true) at.2
           (ruled_by w reads h ok sorted.rule at.0 (from_rows w h at.0 at.1)));

@@ -29,6 +29,7 @@ use Rattle.desk_tokens.specs.declared.token.Kind.TheVariants.{Licence, LicenceOr
 use Rattle.desk_expr.proofs.Prints.{printed_term_spells}
 use Rattle.desk_expr.proofs.TermLemmas.{term_inv}
 use Rattle.desk_expr.proofs.WordLemmas.{word_of}
+use Rattle.desk_expr.proofs.SymbolLemmas.{is_with}
 
 -- ---- words
 
@@ -150,17 +151,6 @@ no_word_kind true false c d e = cc
 no_word_kind false b true d e = cc
 no_word_kind false b false true e = cc
 no_word_kind false b false false e = cc
-
-is_with : (k : Kind) (w : List ℕ) → symbol k w ≡ with_word → k ≡ With
-is_with Opening w e = cc
-is_with Closing w e = cc
-is_with And w e = cc
-is_with Or w e = cc
-is_with With w e = refl
-is_with Licence w e = cc
-is_with LicenceOrLater w e = cc
-is_with Reference w e = cc
-is_with Bad w e = cc
 
 with_text : (k : Kind) (w : List ℕ) → k ≡ kind_by Capitals w → symbol k w ≡ with_word
     → w ≡ codes "WITH"

@@ -1,13 +1,14 @@
 -- What a recorded command looked up: none of its refusals applied.
-use Rattle.std.proofs.Common.{◌≡◌, ℕ, ◌+◌, ◌<◌, true, false, List, Option, Some, None, refl, arith}
+use Rattle.std.proofs.Common.{◌≡◌, ℕ, ◌+◌, ◌<◌, true, false, List, Option, Some, None}
 use Rattle.std.specs.Prelude.{IsTrue, is_some, not, nat_lt, nat_le, ◌&&◌}
 use Rattle.std.specs.List.{list_any}
 use Rattle.std.specs.Option.{option_map, option_map_or, option_and_then}
 use Rattle.std.specs.Str.{bytes_eq}
-use Rattle.std.proofs.lemmas.Bool.Decides.{nat_tests}
+use Rattle.std.proofs.lemmas.Bool.{not-true}
+use Rattle.desk_history_laws.proofs.Bills.{is_mapped}
 use Rattle.desk_base.specs.Day.{is_day}
 use Rattle.desk_base.specs.Limits as most
-use Rattle.desk_base.proofs.Bools.{and_left, and_right, not_true}
+use Rattle.desk_base.proofs.Bools.{and_left, and_right}
 use Rattle.desk_model.specs.Texts.{is_note, is_release_name}
 use Rattle.desk_model.specs.Readings.{Readings}
 use Rattle.desk_model.specs.History.{form_of, state_of}
@@ -20,15 +21,7 @@ use Rattle.desk_model.specs.declared.refusal.Refusal.TheVariants as why
 use Rattle.desk_model.specs.declared.state.ReleaseState.{ReleaseState}
 use Rattle.desk_model.specs.declared.state.Word.{Word}
 use Rattle.desk_history.proofs.Recorded.{past, is_so}
-
-pub known_by : {A B : Type 0} (f : A → B) (o : Option A) → is_some (option_map f o) ≡ true
-    → is_some o ≡ true
-known_by f None e = cc
-known_by f (Some x) e = refl
-
-pub there : {A : Type 0} (o : Option A) → is_some o ≡ true → (x : A) × (o ≡ Some x)
-there None e = cc
-there (Some x) e = (x, refl)
+use Rattle.desk_history.proofs.Moving.{less_by}
 
 -- Meet, Waive and Reopen
 pub record Allows (word : Word) (day text : List ℕ) (until : Option (List ℕ))
@@ -41,9 +34,6 @@ pub record Allows (word : Word) (day text : List ℕ) (until : Option (List ℕ)
   pub stays : gone found.release ≡ None
   pub from : option_and_then (settled word) found.place ≡ None
   pub room : found.steps < 999
-
-pub less : (m n : ℕ) → nat_lt m n ≡ true → m < n
-less m n e = grind (arith, nat_tests)
 
 pub allows : (word : Word) (day text : List ℕ) (until : Option (List ℕ)) (found : Moving)
     → IsTrue (is_recorded (move_answer word day text until found))
@@ -61,11 +51,12 @@ allows word day text until found e =
       dated = and_left (is_day day) (option_map_or is_day until true) days;
       ends = and_right (is_day day) (option_map_or is_day until true) days;
       note = is_so (is_note text) why.BadText two.0;
-      over = not_true (is_over day until) (is_so (not (is_over day until)) why.BadEnd three.0);
+      over = not-true (is_over day until) (is_so (not (is_over day until)) why.BadEnd three.0);
       known = is_so (is_some found.place) why.UnknownDuty four.0;
       stays = five.0;
       from = six.0;
-      room = less found.steps 999 (is_so (nat_lt found.steps most.changes) (why.Full limit.Changes)
+      room = less_by found.steps 999 (is_so (nat_lt found.steps most.changes)
+          (why.Full limit.Changes)
           seven.0);
     }
 
@@ -79,10 +70,10 @@ opened_form w h r form e =
     let two = past (unless (list_any (bytes_eq form) found.forms) why.UnknownForm) _ one.1 in
     let three = past (unless (not found.is_taken) why.NameTaken) _ two.1 in (
       is_so (list_any (bytes_eq form) found.forms) why.UnknownForm two.0,
-      not_true found.is_taken (is_so (not found.is_taken) why.NameTaken three.0),
+      not-true found.is_taken (is_so (not found.is_taken) why.NameTaken three.0),
     )
 
--- Freeze: on a day, of a release that was opened, while there is room for its duties
+-- Freeze: on a day, of a release that was opened, while is_there is room for its duties
 pub record Freezes (w : Readings) (h : List Command) (r day : List ℕ) : Type 0 where
   pub dated : is_day day ≡ true
   pub opened : is_some (form_of h r) ≡ true
@@ -102,7 +93,7 @@ freezes w h r day e =
     _ five.1 in
     record {
       dated = is_so (is_day day) why.BadDay one.0;
-      opened = known_by (λ (form : List ℕ). state_of h r) (form_of h r)
+      opened = is_mapped (λ (form : List ℕ). state_of h r) (form_of h r)
           (is_so (is_some found.state) why.UnknownRelease two.0);
       faultless = five.0;
       room = is_so (nat_le (found.raised + found.owed) most.duties) (why.Full limit.Duties) six.0;

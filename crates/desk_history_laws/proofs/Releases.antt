@@ -1,5 +1,6 @@
 -- Releases by their openings, freezes and attached documents.
 use Rattle.std.proofs.Common.{◌≡◌, ℕ, ◌+◌, false, List, [], ◌∷◌, ◌++◌, length, Option, Some, sym, refl, ap, ◌∙◌, subst}
+use Rattle.std.proofs.lemmas.Bool.{and_from}
 use Rattle.std.specs.Prelude.{filter, unwrap_or, ◌==◌}
 use Rattle.std.specs.List.{list_any, filter_map}
 use Rattle.std.specs.Str.{bytes_eq}
@@ -15,7 +16,7 @@ use Rattle.desk_model.specs.declared.row.PackageRow.{PackageRow}
 use Rattle.desk_model.specs.declared.state.ReleaseState.TheVariants.{IsOpen}
 use Rattle.desk_model.specs.declared.command.Command.{Command}
 use Rattle.desk_model.specs.declared.command.Command.TheVariants.{OpenRelease, Attach, Freeze}
-use Rattle.desk_base.proofs.Bools.{and_left, and_right, both, or_left, or_right}
+use Rattle.desk_base.proofs.Bools.{and_left, and_right, or_left, or_right}
 use Rattle.desk_base.proofs.Numbers.{same_number, numbers_equal}
 use Rattle.desk_base.proofs.Texts.{same_text, texts_equal}
 use Rattle.desk_history.proofs.Members.{in_flat_map, from_flat_map}
@@ -74,7 +75,7 @@ in_shipped w h r p is =
     in_flat_map (λ (row : AttachedRow). filter (is_shipped_by row.document) (packages w h))
     (row_of r p.document) p (attached_to (attached h) r) there
     (in_filter (is_shipped_by p.document) p (packages w h)
-    (both (p.document == p.document) p.shipped (same_number p.document) is.ships) is.listed)
+    (and_from (p.document == p.document) p.shipped (same_number p.document) is.ships) is.listed)
 
 -- what gives an attachment is the Attach of it
 pub attaches : (c : Command) (row : AttachedRow) → attachment c ≡ Some row

@@ -8,8 +8,9 @@ use Rattle.std.specs.Ordering.{int_eq}
 use Rattle.std.specs.Result.{result_ok}
 use Rattle.std.specs.Str.{bytes_eq}
 use Rattle.std.proofs.lemmas.Cmp.{nat_cmp_total, nat_list_cmp_total, tied_itself}
+use Rattle.std.proofs.lemmas.Bool.{and_from}
 use Rattle.desk_base.specs.Idstring.{is_idstring}
-use Rattle.desk_base.proofs.Bools.{and_left, and_right, both}
+use Rattle.desk_base.proofs.Bools.{and_left, and_right}
 use Rattle.desk_base.proofs.Numbers.{numbers_equal, same_number}
 use Rattle.desk_base.proofs.Texts.{texts_equal, same_text}
 use Rattle.desk_model.specs.Lists.{IsIn}
@@ -26,20 +27,22 @@ use Rattle.desk_model.specs.declared.row.FrozenRow.{FrozenRow}
 use Rattle.desk_model.specs.declared.row.RuleRow.{RuleRow}
 use Rattle.desk_model.specs.declared.command.Command.{Command}
 use Rattle.desk_model.specs.declared.command.Command.TheVariants.{Freeze, LoadCatalogue}
+use Rattle.desk_model.proofs.Lists.{found_in}
 use Rattle.desk_history.specs.FromTables.{rule_of}
 use Rattle.desk_history.specs.Laws.{Rises, rule_row_order}
 use Rattle.desk_history.proofs.Lookups.{rules-found}
 use Rattle.desk_history.proofs.Members.{in_cases, from_map}
 use Rattle.desk_history.proofs.Distinct.{from_filter}
 use Rattle.desk_history.proofs.Rows.{find-map}
+use Rattle.desk_history.proofs.Minimal.{history_before}
 use Rattle.desk_snapshot.specs.Conditions.{rule_for}
 use Rattle.desk_snapshot.specs.Rows.{is_rule_spelled}
 use Rattle.desk_snapshot.specs.Tables.{frozen_stored, rule_stored, snapshot_of}
 use Rattle.desk_snapshot.specs.declared.rows.StoredRelease.{StoredRelease}
 use Rattle.desk_history_laws.specs.Premises.{ReadsRules}
-use Rattle.desk_history_laws.proofs.Lists.{found_in, pos_eq}
+use Rattle.desk_history_laws.proofs.Lists.{pos_eq}
 use Rattle.desk_history_laws.proofs.Duties.{opened_release}
-use Rattle.desk_history_laws.proofs.Later.{history_before, form_stays, revision_stays, rules_stay}
+use Rattle.desk_history_laws.proofs.Later.{form_stays, revision_stays, rules_stay}
 use Rattle.desk_history_laws.proofs.Recorded.{freezes}
 
 -- ---- rules in order, no two of which have the same key
@@ -189,9 +192,10 @@ module _ (w : Readings) (reads : ReadsRules w) (later : List Command) (h : List 
       let there : IsIn (rule_row n rule) (rule_rows w all) =
       rules_stay w later (Freeze f.release day ∷ h) (rule_row n rule) (in_rows w h rule m) in
       let passes : test (rule_row n rule) ≡ true =
-      both (int_eq (pos n) (pos n)) (bytes_eq rule.form rule.form && bytes_eq rule.spelled f.rule)
+      and_from (int_eq (pos n) (pos n))
+      (bytes_eq rule.form rule.form && bytes_eq rule.spelled f.rule)
       (pos_eq n n ∙ same_number n)
-      (both (bytes_eq rule.form rule.form) (bytes_eq rule.spelled f.rule) (same_text rule.form)
+      (and_from (bytes_eq rule.form rule.form) (bytes_eq rule.spelled f.rule) (same_text rule.form)
       (ap (bytes_eq rule.spelled) spelled ∙ same_text rule.spelled)) in
       let found : find (is_rule_spelled (pos n) rule.form f.rule) (map rule_stored
       (rule_rows w all)) ≡ Some (rule_stored (rule_row n rule)) =

@@ -9,6 +9,7 @@ use Rattle.desk_base.specs.Day.{is_day}
 use Rattle.desk_base.proofs.Bools.{and_left, and_right}
 use Rattle.desk_base.proofs.Numbers.{numbers_equal}
 use Rattle.desk_base.proofs.Texts.{texts_equal}
+use Rattle.desk_base.proofs.Lists.{is_there}
 use Rattle.desk_model.specs.Lists.{IsIn}
 use Rattle.desk_model.specs.Readings.{Readings}
 use Rattle.desk_model.specs.History.{state_of}
@@ -30,14 +31,15 @@ use Rattle.desk_model.specs.declared.state.Word.TheVariants as word
 use Rattle.desk_model.specs.declared.refusal.Refusal.TheVariants as why
 use Rattle.desk_model.specs.declared.command.Command.{Command}
 use Rattle.desk_model.specs.declared.command.Command.TheVariants.{Freeze, Meet, Waive, Reopen, Withdraw, CloseDay}
+use Rattle.desk_model.proofs.Lists.{found_in}
 use Rattle.desk_snapshot.specs.Changes.{is_formed, is_waiver_of, may_move}
 use Rattle.desk_snapshot.specs.Tables.{change_stored}
-use Rattle.desk_history_laws.proofs.Lists.{found_in}
-use Rattle.desk_history_laws.proofs.Recorded.{Allows, allows, closes, freezes, known_by, there, withdraws}
+use Rattle.desk_history_laws.proofs.Recorded.{Allows, allows, closes, freezes, withdraws}
 use Rattle.desk_history_laws.proofs.Duties.{move, new_raised, raised_cases, suited, suits}
-use Rattle.desk_history_laws.proofs.Steps.{unmoved}
+use Rattle.desk_history_laws.proofs.Bills.{is_mapped}
 use Rattle.desk_history.proofs.Recorded.{is_so}
 use Rattle.desk_history.proofs.Told.{is_moved, moved_more}
+use Rattle.desk_history.proofs.Freezing.{unmoved}
 
 -- a move is allowed after those before it
 abbrev pub GoesOn : List Move → Move → Type 0
@@ -156,8 +158,8 @@ named : (w : Readings) (h : List Command) (by : Word) (q : ℕ) (day text : List
     × IsWritten (moves w h q) (move by day text until)
 named w h by q day text until may note waiver recorded =
     let all = allows by day text until (moving w h q) recorded in
-    let at = there (duty_at w h q)
-    (known_by (λ (d : ℕ × Owed). place w h d.0) (duty_at w h q) all.known) in
+    let at = is_there (duty_at w h q)
+    (is_mapped (λ (d : ℕ × Owed). place w h d.0) (duty_at w h q) all.known) in
     let d = at.0 in
     let found = found_in (λ (d : ℕ × Owed). d.0 == q) (numbered w h) d at.1 in
     let number : d.0 ≡ q = numbers_equal d.0 q found.1 in
@@ -200,7 +202,7 @@ raised_run w h r day q dated e =
     (refl, (rw dated refl, refl))
 
 -- a duty that was raised for a release
-raised_for : (r : List ℕ) (o : Option (ℕ × Owed))
+pub raised_for : (r : List ℕ) (o : Option (ℕ × Owed))
     → option_map_or (λ (d : ℕ × Owed). bytes_eq d.1.release r) o false ≡ true
     → (d : ℕ × Owed) × (o ≡ Some d) × (d.1.release ≡ r)
 raised_for r None e = cc

@@ -1,18 +1,17 @@
 -- What is in a sorted set of texts, and that it is sorted.
-use Rattle.std.proofs.Common.{◌≡◌, ℕ, Bool, true, false, List, [], ◌∷◌, sym, refl, ap, ◌∙◌, subst, inl, inr}
+use Rattle.std.proofs.Common.{◌≡◌, ℕ, Bool, true, false, List, [], ◌∷◌, sym, refl, ◌∙◌, subst, inl}
+use Rattle.std.proofs.Common.{inr}
 use Rattle.std.specs.Prelude.{◌⊎◌, if◌then◌else◌}
 use Rattle.std.specs.Str.{bytes_eq}
-use Rattle.std.specs.Ordering.{nat_cmp, is_lt, is_eq, ordering_reverse}
+use Rattle.std.specs.Ordering.{nat_cmp}
 use Rattle.std.specs.Cmp.Lexicographic.{slice_cmp}
-use Rattle.std.specs.declared.cmp.Ordering.{Ordering}
-use Rattle.std.specs.declared.cmp.Ordering.TheVariants.{Less, Equal, Greater}
 use Rattle.std.proofs.lemmas.Cmp.{nat_list_cmp_total}
-use Rattle.std.proofs.lemmas.Map.Text.{is_eq-slice_cmp}
 use Rattle.desk_model.specs.Lists.{IsIn}
 use Rattle.desk_model.specs.Texts.{text_below, put_new, sorted_set}
 use Rattle.desk_model.proofs.Orders.{IsOrder, order_of}
 use Rattle.desk_base.proofs.Texts.{texts_equal}
 use Rattle.desk_history.specs.Laws.{Rises}
+use Rattle.desk_history.proofs.Chosen.{turns}
 
 in_place : (x y z : List ℕ) (ys : List (List ℕ)) (a b : Bool) → bytes_eq x y ≡ b
     → ((x ≡ z) ⊎ IsIn z ys → IsIn z (put_new x ys)) → (x ≡ z) ⊎ IsIn z (y ∷ ys)
@@ -59,13 +58,6 @@ from_set z (x ∷ xs) m = elim (from_put_new x z (sorted_set xs) m)
 text_order : IsOrder text_below
 text_order = order_of nat_list_cmp_total
 
-turned : (x y : List ℕ) (o : Ordering) → slice_cmp nat_cmp x y ≡ o → is_lt o ≡ false
-    → bytes_eq x y ≡ false → text_below y x ≡ true
-turned x y Less e f g = cc
-turned x y Equal e f g = let yes : is_eq (slice_cmp nat_cmp x y) ≡ true = ap is_eq e in
-    let no = is_eq-slice_cmp x y in cc
-turned x y Greater e f g = ap is_lt (nat_list_cmp_total.antisymm y x ∙ ap ordering_reverse e)
-
 before_all : (x y : List ℕ) (ys : List (List ℕ)) → text_below x y ≡ true → Rises text_below (y ∷ ys)
     → (z : List ℕ) → IsIn z (y ∷ ys) → text_below x z ≡ true
 before_all x y ys e up z (inl same) = subst (λ t. text_below x t ≡ true) same e
@@ -79,7 +71,7 @@ rises_in_place x y ys false true e f up rest = up
 rises_in_place x y ys false false e f up rest = (
   λ z m. elim (from_put_new x z ys m) [
     | inl same ↦ subst (λ t. text_below y t ≡ true) same
-        (turned x y (slice_cmp nat_cmp x y) refl e f)
+        (turns x y (slice_cmp nat_cmp x y) refl e f)
     | inr n ↦ up.0 z n
   ],
   rest,

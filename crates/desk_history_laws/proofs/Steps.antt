@@ -1,7 +1,7 @@
 -- A duty has few changes: at most so many for each state.
 use Rattle.std.proofs.Common.{◌≡◌, ◌≢◌, ℕ, ◌+◌, ◌<◌, ◌≤◌, Bool, true, false, cond, List, [], ◌∷◌}
 use Rattle.std.proofs.Common.{◌++◌, length, Option, Some, None, sym, refl, ap, ◌∙◌, subst, arith}
-use Rattle.std.proofs.Common.{length-append, add-one, inl, inr}
+use Rattle.std.proofs.Common.{add-one, inl, inr}
 use Rattle.std.specs.Prelude.{IsTrue, is_some, find, not, nat_lt, nat_le, ◌&&◌, ◌==◌, if◌then◌else◌, unwrap_or}
 use Rattle.std.specs.List.{enumerate_from}
 use Rattle.std.specs.Option.{option_map, option_map_or, option_and_then}
@@ -10,7 +10,7 @@ use Rattle.std.proofs.lemmas.Bool.Decides.{nat_tests}
 use Rattle.desk_base.specs.Day.{is_day}
 use Rattle.desk_base.proofs.Bools.{and_left, and_right}
 use Rattle.desk_base.proofs.Numbers.{numbers_equal}
-use Rattle.desk_base.proofs.Texts.{text_tells, texts_equal, same_text}
+use Rattle.desk_base.proofs.Texts.{text_tells, same_text}
 use Rattle.desk_model.specs.Lists.{latest, or_else}
 use Rattle.desk_model.specs.Texts.{is_before, is_note}
 use Rattle.desk_model.specs.Readings.{Readings}
@@ -33,12 +33,14 @@ use Rattle.desk_model.specs.declared.command.Command.{Command}
 use Rattle.desk_model.specs.declared.command.Command.TheVariants.{Freeze, Meet, Waive, Reopen, Withdraw, CloseDay}
 use Rattle.desk_history.proofs.OwnKeys.{open_at}
 use Rattle.desk_history.proofs.Recorded.{past, is_so}
-use Rattle.desk_history.proofs.Moving.{length-change_rows}
-use Rattle.desk_history_laws.proofs.Recorded.{allows, less}
+use Rattle.desk_history.proofs.Moving.{length-change_rows, less_by}
+use Rattle.desk_history.proofs.Freezing.{unmoved}
+use Rattle.desk_history_laws.proofs.Recorded.{allows}
+use Rattle.desk_history_laws.proofs.Runs.{raised_for}
 
 -- What a recorded command looked up
 
--- Meet, Waive and Reopen: fewer changes than the limit
+-- Meet, Waive and Reopen: raised_fewer changes than the limit
 steps_below : (word : Word) (day text : List ℕ) (until : Option (List ℕ)) (found : Moving)
     → IsTrue (is_recorded (move_answer word day text until found)) → found.steps < 999
 steps_below word day text until found e = (allows word day text until found e).room
@@ -64,23 +66,12 @@ standing w h r day text e =
 
 -- A duty that is not raised yet has no moves
 
-fewer : (w : Readings) (c : Command) (h : List Command)
-    → length (raised w h) ≤ length (raised w (c ∷ h))
-fewer w (Freeze r day) h = omega (arith, length-append (raised w h) (owed_at w h r))
-fewer w c h = omega arith
-
 none_at : (q n : ℕ) (xs : List Owed) → n + length xs ≤ q
     → find (λ (d : ℕ × Owed). d.0 == q) (enumerate_from n xs) ≡ None
 none_at q n [] le = refl
 none_at q n (x ∷ xs) le =
     let other : (n == q) ≡ false = grind (arith, nat_tests) in
     rw other (none_at q (n + 1) xs (omega arith))
-
-unraised : (n k q : ℕ) → n + k < q → (nat_lt n q && nat_le q (n + k)) ≡ false
-unraised n k q lt = grind (arith, nat_tests)
-
-unknown : (q' q n : ℕ) → n < q → ((q' == q) && nat_le q n) ≡ false
-unknown q' q n lt = grind (arith, nat_tests)
 
 unmoved_by : (b : Bool) (m : Move) (ms : List Move) → ms ≡ [] → b ≡ false
     → with_move (move_if b m) ms ≡ []
@@ -89,37 +80,6 @@ unmoved_by false m ms none e = none
 
 abbrev move : Word → List ℕ → List ℕ → Option (List ℕ) → Move
 move word day text until = record { day = day; word = word; body = text; last_day = until }
-
-pub unmoved : (w : Readings) (h : List Command) (q : ℕ) → length (raised w h) < q → moves w h q ≡ []
-unmoved w [] q lt = refl
-unmoved w (Freeze r day ∷ h) q lt =
-    let le = fewer w (Freeze r day) h in
-    let n = length (raised w h) in
-    let k = length (owed_at w h r) in
-    unmoved_by (raises w h r q) (move word.Raised day [] None) (moves w h q)
-    (unmoved w h q (omega arith))
-    (unraised n k q (omega (arith, length-append (raised w h) (owed_at w h r))))
-unmoved w (Meet q' day text ∷ h) q lt =
-    unmoved_by ((q' == q) && is_known w h q) (move word.Met day text None) (moves w h q)
-    (unmoved w h q lt) (unknown q' q (length (raised w h)) lt)
-unmoved w (Waive q' day text until ∷ h) q lt =
-    unmoved_by ((q' == q) && is_known w h q) (move word.Waived day text until) (moves w h q)
-    (unmoved w h q lt) (unknown q' q (length (raised w h)) lt)
-unmoved w (Reopen q' day text ∷ h) q lt =
-    unmoved_by ((q' == q) && is_known w h q) (move word.Reopened day text None) (moves w h q)
-    (unmoved w h q lt) (unknown q' q (length (raised w h)) lt)
-unmoved w (Withdraw r day text ∷ h) q lt =
-    let none : duty_at w h q ≡ None = none_at q 1 (raised w h) (omega arith) in
-    unmoved_by (is_raised_for w h q r && not (is_met (place w h q)))
-    (move word.Withdrawn day text None) (moves w h q) (unmoved w h q lt)
-    (ap (λ (o : Option (ℕ × Owed)). option_map_or (λ (d : ℕ × Owed). bytes_eq d.1.release r) o false
-    && not (is_met (place w h q))) none)
-unmoved w (CloseDay day ∷ h) q lt =
-    let none = unmoved w h q lt in
-    unmoved_by (has_ended day (place w h q) (end_after (moves w h q))) (move word.Ended day [] None)
-    (moves w h q) none
-    (ap (λ (ms : List Move). has_ended day (place_after ms) (end_after ms)) none)
-unmoved w (c ∷ h) q lt = unmoved w h q lt
 
 -- The release of a duty that is withdrawn is withdrawn
 
@@ -175,13 +135,6 @@ gone_stays w c h q recorded is = (
   duty_stays w c h q is.0 is.1,
   state_stays w c h is.0.1.release recorded is.2,
 )
-
--- a duty that was raised for a release
-raised_for : (r : List ℕ) (o : Option (ℕ × Owed))
-    → option_map_or (λ (d : ℕ × Owed). bytes_eq d.1.release r) o false ≡ true
-    → (d : ℕ × Owed) × (o ≡ Some d) × (d.1.release ≡ r)
-raised_for r None e = cc
-raised_for r (Some d) e = (d, refl, texts_equal d.1.release r e)
 
 gone_now : (w : Readings) (h : List Command) (r day text : List ℕ) (q : ℕ)
     → is_raised_for w h q r ≡ true → IsGone w (Withdraw r day text ∷ h) q
@@ -273,7 +226,7 @@ raised_within : (w : Readings) (h : List Command) (r : List ℕ) (q : ℕ) → r
     → length (moves w h q) + 1 ≤ 1000
 raised_within w h r q e =
     let new : length (raised w h) < q =
-    less (length (raised w h)) q (and_left (nat_lt (length (raised w h)) q)
+    less_by (length (raised w h)) q (and_left (nat_lt (length (raised w h)) q)
     (nat_le q (length (raised w h) + length (owed_at w h r))) e) in
     let none : length (moves w h q) ≡ 0 = ap (λ (ms : List Move). length ms) (unmoved w h q new) in
     omega arith

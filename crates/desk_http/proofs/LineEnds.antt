@@ -4,7 +4,7 @@ use Rattle.std.proofs.Common.{inr, subst, refl, sym, ap, ◌∙◌, arith, appen
 use Rattle.std.specs.Prelude.{◌≢◌, All}
 use Rattle.std.specs.List.{flat_map}
 use Rattle.std.specs.Prelude.{Bool, true, false, nat_le}
-use Rattle.std.proofs.lemmas.Bool.{leb-true, leb-false, eqb-true}
+use Rattle.std.proofs.lemmas.Bool.{leb-true, leb-false, eqb-true, and_parts, or_cases}
 use Rattle.std.proofs.lemmas.List.Elements.{All-head, All-tail}
 use Rattle.httparse.specs.Ascii.{space}
 use Rattle.httparse.specs.Grammar.{LineEnd, crlf, lf, print_end, print_blank, print_version}
@@ -13,7 +13,7 @@ use Rattle.httparse.specs.Grammar.{is_token_byte, IsToken}
 use Rattle.httparse.proofs.GrammarLemmas.{print_request-append}
 use Rattle.std.proofs.lemmas.List.Folds.{list_all-append}
 use Rattle.std.specs.List.{list_all}
-use Rattle.std.specs.Prelude.{◌&&◌, ◌||◌, ◌==◌}
+use Rattle.std.specs.Prelude.{◌==◌}
 use Rattle.desk_http.specs.Heads.{BeginsWith, HasNoHead, AreLineEnds, is_line_byte}
 use Rattle.desk_http.proofs.Stability.{BeginsWith-less}
 
@@ -69,14 +69,6 @@ HasNoHead-line front piece none no_lf h after b =
     no_head-cases front piece none no_lf h after b
     (nat_le (length (print_request h)) (length front)) refl
 
-and_both : (a b : Bool) → (a && b) ≡ true → (a ≡ true) × (b ≡ true)
-and_both true b e = (refl, e)
-and_both false b e = cc
-
-or_one : (a b : Bool) → (a || b) ≡ true → (a ≡ true) ⊎ (b ≡ true)
-or_one true b e = inl refl
-or_one false b e = inr e
-
 lf_or_token : is_token_byte 10 ≡ true → ⊥
 unfolding is_token_byte
 lf_or_token e = cc
@@ -94,15 +86,15 @@ line_or_token b (inr e) token = cr_or_token
 blank_method : (method rest : List ℕ) → IsToken method → AreLineEnds (method ++ rest) → ⊥
 blank_method [] rest token ends = absurd (omega arith)
 blank_method (b ∷ bs) rest token ends =
-    let first = (and_both (is_line_byte b) (list_all is_line_byte (bs ++ rest)) ends).0 in
-    line_or_token b (or_one (b == 10) (b == 13) first)
+    let first = (and_parts (is_line_byte b) (list_all is_line_byte (bs ++ rest)) ends).0 in
+    line_or_token b (or_cases (b == 10) (b == 13) first)
     (All-head (λ (x : ℕ). is_token_byte x ≡ true) b bs token.1)
 
 blank_part : (bytes before method rest : List ℕ) → bytes ≡ before ++ (method ++ rest)
     → AreLineEnds bytes → IsToken method → ⊥
 blank_part bytes before method rest e ends token =
     blank_method method rest token
-    (and_both (list_all is_line_byte before) (list_all is_line_byte (method ++ rest))
+    (and_parts (list_all is_line_byte before) (list_all is_line_byte (method ++ rest))
     (sym (list_all-append is_line_byte before (method ++ rest)) ∙ subst AreLineEnds e ends)).1
 
 -- only line ends are no head

@@ -14,6 +14,7 @@ use Rattle.desk_fields.specs.Tags.{tag_name}
 use Rattle.desk_tagvalue.specs.Drafts.{LineText, blank, one_line, in_text, text_of_lines}
 use Rattle.desk_tagvalue.specs.Written.{Stands, fields_of_lines}
 use Rattle.desk_tagvalue.proofs.LinesReread.{lines_again}
+use Rattle.desk_tagvalue.proofs.WriteLemmas.{mark_behind}
 use Rattle.desk_import.specs.declared.faults.ConvertFault.{ConvertFault}
 use Rattle.desk_import.specs.declared.faults.ConvertFault.TheVariants as faults
 use Rattle.desk_spdx_json.specs.Steps.{StepText, WhatText, put, left_out, missing, bad_type, bad_value}
@@ -69,17 +70,10 @@ all_stand (s ∷ steps) h =
     (line_stands s.what (All-get_or Passes (s ∷ steps) 0 s (omega arith) h))
     (all_stand steps (All-tail Passes s steps h))
 
--- no tag begins with a byte order mark
-tag_unmarked : (tag : Tag) (rest : List ℕ) → behind_mark rest ≡ rest
-    → behind_mark (tag_name tag ++ rest) ≡ tag_name tag ++ rest
-tag_unmarked tags.ReadOver rest h = h
-tag_unmarked tags.Unknown rest h = h
-tag_unmarked tag rest h = refl
-
 tagged : (tag : Tag) (inner rest : List ℕ) → behind_mark (inner ++ rest) ≡ inner ++ rest
     → behind_mark ((tag_name tag ++ inner) ++ rest) ≡ (tag_name tag ++ inner) ++ rest
 tagged tag inner rest h = subst (λ t. behind_mark t ≡ t)
-    (sym (append_assoc (tag_name tag) inner rest)) (tag_unmarked tag (inner ++ rest) h)
+    (sym (append_assoc (tag_name tag) inner rest)) (mark_behind tag (inner ++ rest) h)
 
 unmarked : (ls : List LineText) → behind_mark (text_of_lines ls) ≡ text_of_lines ls
 unmarked [] = refl

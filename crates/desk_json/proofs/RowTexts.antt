@@ -2,6 +2,7 @@
 use Rattle.std.proofs.Common.{◌≡◌, ℕ, List, [], ◌∷◌, ◌++◌, true, map, codes, append_assoc, refl, sym, ap, ◌∙◌}
 use Rattle.std.specs.List.{flat_map}
 use Rattle.std.proofs.lemmas.List.Folds.{flat_map-map}
+use Rattle.desk_base.proofs.Lists.{append_four}
 use Rattle.serde_json.specs.Data.{Data}
 use Rattle.serde_json.specs.View.{items_of}
 use Rattle.serde_json.specs.Written.{compact_text, items_text}
@@ -32,9 +33,6 @@ reply_text d ds =
     ap (λ text. codes "{\"rows\":[" ++ ((compact_text d ++ text) ++ 125 ∷ [])) (later_rows ds)
     ∙ ap (λ text. codes "{\"rows\":[" ++ text) (closed d ds)
 
-joined : (a b c d : List ℕ) → ((a ++ b) ++ c) ++ d ≡ a ++ (b ++ (c ++ d))
-joined a b c d = append_assoc (a ++ b) c d ∙ append_assoc a b (c ++ d)
-
 -- what the text of such a reply is made of
 pub reply_by_rows : {R : Type 0} (json : R → Data) (d : Data) (rows : List R)
     (front first opened filled text : List ℕ)
@@ -47,7 +45,7 @@ reply_by_rows json d rows front first opened filled text e1 e2 e3 e4 e5 =
     ∙ ap (λ t. t ++ codes "]}") (e4
     ∙ ap (λ t. t ++ flat_map (λ row. behind_a_comma (json row)) rows)
     (e3 ∙ ap (λ t. t ++ first) e1 ∙ ap (λ t. codes "{\"rows\":[" ++ t) e2))
-    ∙ joined (codes "{\"rows\":[") (compact_text d)
+    ∙ append_four (codes "{\"rows\":[") (compact_text d)
     (flat_map (λ row. behind_a_comma (json row)) rows) (codes "]}")
     ∙ ap (λ t. codes "{\"rows\":[" ++ (compact_text d ++ (t ++ codes "]}")))
     (sym (flat_map-map behind_a_comma json rows))

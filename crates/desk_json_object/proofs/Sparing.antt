@@ -2,6 +2,7 @@
 use Rattle.std.proofs.Common.{◌≡◌, ℕ, suc, ◌<◌, ◌≤◌, ◌&&◌, Bool, true, false, List, [], ◌∷◌, ◌++◌}
 use Rattle.std.proofs.Common.{Option, Some, None, is_some, option_map, option_and_then, Ordering}
 use Rattle.std.proofs.Common.{Less, Equal, Greater, refl, sym, ap, ◌∙◌, arith}
+use Rattle.std.proofs.Math.Bool.{and-false}
 use Rattle.std.specs.Ordering.{nat_cmp, match_ordering}
 use Rattle.std.specs.Cmp.Lexicographic.{slice_cmp}
 use Rattle.json.specs.Json as json
@@ -64,15 +65,11 @@ no_texts_before no_items behind none = absurd (cc)
 no_texts_before (item d before) behind none = neither (is_some (as_str d)) (are_texts before)
     (are_texts (joined before behind)) none (no_texts_before before behind)
 
-and_false : (b : Bool) → (b && false) ≡ false
-and_false true = refl
-and_false false = refl
-
 pub no_text_more : (before : Items) (d : Data) → as_str d ≡ None
     → are_texts (joined before (item d no_items)) ≡ false
 no_text_more no_items d none = rw none refl
 no_text_more (item e before) d none = ap (λ rest. is_some (as_str e) && rest)
-    (no_text_more before d none) ∙ and_false (is_some (as_str e))
+    (no_text_more before d none) ∙ and-false (is_some (as_str e))
 
 -- ---- members
 

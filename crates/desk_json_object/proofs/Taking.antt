@@ -1,8 +1,7 @@
 -- Values, items and members that the grammar takes one after another, as the data that they are.
 use Rattle.std.proofs.Common.{◌≡◌, ◌⊎◌, inl, inr, Bor, ℕ, zero, suc, ◌-◌, ◌<◌, ◌≤◌, List, ◌∷◌}
-use Rattle.std.proofs.Common.{length, Option, Some, None, Result, Ok, Err, option_map}
+use Rattle.std.proofs.Common.{length, Option, Some, None, option_map}
 use Rattle.std.proofs.Common.{option_and_then, refl, ap, ◌∙◌}
-use Rattle.std.specs.Result.{OnErr}
 use Rattle.std.specs.Prelude as prelude
 use Rattle.json.specs.Token.{Token}
 use Rattle.json.specs.Reads.{token_of}
@@ -197,11 +196,6 @@ pub refused_around : {A B : Type 0} (g : A → B) (taken : Option (A × List Tok
     (outer : Option (B × List Token))
     → outer ≡ parse_map g taken → taken ≡ None → outer ≡ None
 refused_around g taken outer is none = is ∙ ap (parse_map g) none
-
--- what holds whatever the result
-pub on_any_err : {T E P : Type 0} (r : Result T E) → P → OnErr r P
-on_any_err (Ok x) holds = tt
-on_any_err (Err e) holds = holds
 
 -- ---- a token that opens nothing
 

@@ -1,8 +1,8 @@
 -- The tables of a history are in the order that look-ups in a file rely on.
-use Rattle.std.proofs.Common.{◌≡◌, ◌∙◌, inl, inr, ℕ, ◌+◌, ◌≤◌, ◌<◌, Bool, true, false, List, []}
+use Rattle.std.proofs.Common.{◌≡◌, ◌∙◌, inl, inr, ℕ, ◌+◌, ◌≤◌, Bool, true, false, List, []}
 use Rattle.std.proofs.Common.{◌∷◌, map, length, refl, ap, sym, subst, arith}
 use Rattle.std.specs.Prelude.{nat_lt, nat_le, ◌==◌, ◌&&◌, ◌||◌}
-use Rattle.std.specs.List.{list_all, enumerate_from, flat_map}
+use Rattle.std.specs.List.{enumerate_from, flat_map}
 use Rattle.std.specs.Ordering.{nat_cmp, ordering_then, is_lt}
 use Rattle.std.specs.Cmp.Lexicographic.{slice_cmp}
 use Rattle.std.specs.declared.cmp.Ordering.{Ordering}
@@ -10,7 +10,7 @@ use Rattle.std.proofs.lemmas.Bool.Decides.{nat_tests}
 use Rattle.std.proofs.lemmas.Cmp.{nat_list_cmp_total}
 use Rattle.std.proofs.lemmas.List.{length-map}
 use Rattle.std.proofs.lemmas.List.Folds.{list_all-append}
-use Rattle.desk_base.proofs.Bools.{both}
+use Rattle.std.proofs.lemmas.Bool.{and_from}
 use Rattle.desk_base.proofs.Numbers.{three}
 use Rattle.desk_model.specs.Lists.{IsIn}
 use Rattle.desk_model.specs.Readings.{Readings}
@@ -29,6 +29,7 @@ use Rattle.desk_model.specs.declared.row.Owed.{Owed}
 use Rattle.desk_model.specs.declared.row.PackageRow.{PackageRow}
 use Rattle.desk_model.specs.declared.command.Command.{Command}
 use Rattle.desk_model.proofs.Orders.{IsOrder, order_of}
+use Rattle.desk_model.proofs.Lists.{all_pass}
 use Rattle.desk_history.specs.Laws.{Ascends, AreSorted, AreSortedAsListed, Rises}
 use Rattle.desk_history.proofs.Members.{in_cases, in_map, from_map, from_flat_map}
 use Rattle.desk_history_laws.specs.Filters.{document_row, given, imported, packages_of, revision_row, rules_of}
@@ -36,6 +37,7 @@ use Rattle.desk_model.specs.History.{loaded}
 use Rattle.desk_history_laws.specs.Ids.{ListsIds}
 use Rattle.desk_sql_layout.specs.Held.{AreNumbered, AreOrderly, package_below}
 use Rattle.desk_sql_layout.specs.Writable.{have_words}
+use Rattle.desk_sql_layout.proofs.Orderly.{at_most}
 use Rattle.desk_laws.proofs.Writing.{read_have}
 
 -- ---- numbers
@@ -45,11 +47,6 @@ numbers : {A B : Type 0} (row : ℕ × A → B) (key : B → ℕ) → ((d : ℕ 
 numbers row key same n [] = tt
 numbers row key same n (x ∷ xs) = (same (n, x), numbers row key same (n + 1) xs)
 
-at_most : (n m : ℕ) (ns : List ℕ) → AreNumbered n ns → IsIn m ns → m < n + length ns
-at_most n m [] are there = absurd there
-at_most n m (k ∷ ks) are (inl e) = omega (arith, are.0, e)
-at_most n m (k ∷ ks) are (inr there) = omega (arith, at_most (n + 1) m ks are.1 there)
-
 -- the number of a row is at most the number of rows
 within : {A : Type 0} (key : A → ℕ) (row : A) (rows : List A) → AreNumbered 1 (map key rows)
     → IsIn row rows → key row ≤ length rows
@@ -58,12 +55,6 @@ within key row rows are m = omega
 
 is_le : (a b : ℕ) → a ≤ b → nat_le a b ≡ true
 is_le a b e = grind (arith, nat_tests)
-
-all_pass : {A : Type 0} (p : A → Bool) (xs : List A) → ((x : A) → IsIn x xs → p x ≡ true)
-    → list_all p xs ≡ true
-all_pass p [] each = refl
-all_pass p (x ∷ xs) each = both (p x) (list_all p xs) (each x (inl refl))
-    (all_pass p xs (λ y there. each y (inr there)))
 
 -- ---- packages
 
@@ -138,7 +129,7 @@ words_of : (w : Readings) → ListsIds w → (rows : List CatalogueRow)
 words_of w ids [] = refl
 words_of w ids (row ∷ rows) =
     list_all-append _ (rules_of w row) (flat_map (rules_of w) rows)
-    ∙ both (have_words (rules_of w row)) (have_words (flat_map (rules_of w) rows))
+    ∙ and_from (have_words (rules_of w row)) (have_words (flat_map (rules_of w) rows))
     (read_have w ids row.revision row.body (w.catalogue row.body) refl) (words_of w ids rows)
 
 -- ---- the tables

@@ -1,7 +1,7 @@
 -- The cells of rows within the limits, with short texts, are small and as a desk writes them.
 use Rattle.std.proofs.Common.{◌≡◌, ℕ, ◌^◌, ◌<◌, ◌≤◌, Bool, true, false, List, [], ◌∷◌, length, map}
 use Rattle.std.proofs.Common.{filter, Option, Some, None, refl, subst, arith, inl, inr}
-use Rattle.std.specs.Prelude.{All, codes, IfSome, IsTrue, IsUtf8, ◌==◌, if◌then◌else◌, nat_lt, slice_index}
+use Rattle.std.specs.Prelude.{All, codes, IfSome, IsTrue, IsUtf8, ◌==◌, if◌then◌else◌, nat_lt}
 use Rattle.std.specs.Char.{is_ascii_digit}
 use Rattle.std.specs.List.{AllByRecursion, list_all}
 use Rattle.std.proofs.lemmas.Str.{IsUtf8-from_ascii}
@@ -9,12 +9,12 @@ use Rattle.std.proofs.lemmas.Str.Ascii.{IsAscii-from_all}
 use Rattle.std.proofs.lemmas.Bool.Decides.{nat_tests}
 use Rattle.std.proofs.lemmas.List.Elements.{All-nil, All-cons}
 use Rattle.desk_base.proofs.Bools.{and_left, and_right}
-use Rattle.desk_base.proofs.Numbers.{numbers_equal}
+use Rattle.desk_base.proofs.Days.{ten_bytes}
 use Rattle.sqlite_value.specs.declared.value.Value.{Value}
 use Rattle.sqlite_value.specs.declared.value.Value.TheVariants.{Text}
 use Rattle.sqlite_value.specs.Order.{Row}
 use Rattle.sqlite_schema.specs.declared.schema.Table.{Table}
-use Rattle.desk_base.specs.Day.{is_day, writes_day}
+use Rattle.desk_base.specs.Day.{is_day}
 use Rattle.desk_base.specs.Profiles.{profile_number}
 use Rattle.desk_base.specs.declared.profile.Profile.{Profile}
 use Rattle.desk_base.specs.declared.profile.Profile.TheVariants.{Capitals, Either}
@@ -79,32 +79,25 @@ ascii (b ∷ bs) e =
 plain : (bs : List ℕ) → list_all (λ b. nat_lt b 128) bs ≡ true → IsUtf8 bs
 plain bs e = IsUtf8-from_ascii bs (IsAscii-from_all bs (ascii bs e))
 
--- a day has ten bytes, each a digit or a hyphen
-ten : (day : List ℕ) → IsTrue (is_day day) → length day ≡ 10
-ten day is =
-    let at : ℕ → ℕ = slice_index day in
-    numbers_equal (length day) 10
-    (and_left (length day == 10) (writes_day (at 0) (at 1) (at 2) (at 3) (at 4) (at 5) (at 6) (at 7)
-    (at 8) (at 9)) is)
-
 digit : (b : ℕ) → is_ascii_digit b ≡ true → nat_lt b 128 ≡ true
 digit b e = grind (arith, nat_tests)
 
 day_short : (day : List ℕ) → IsTrue (is_day day) → IsShort day
-day_short [] is = absurd (omega (arith, ten [] is))
-day_short (y ∷ []) is = absurd (omega (arith, ten (y ∷ []) is))
-day_short (y ∷ e ∷ []) is = absurd (omega (arith, ten (y ∷ e ∷ []) is))
-day_short (y ∷ e ∷ a ∷ []) is = absurd (omega (arith, ten (y ∷ e ∷ a ∷ []) is))
-day_short (y ∷ e ∷ a ∷ r ∷ []) is = absurd (omega (arith, ten (y ∷ e ∷ a ∷ r ∷ []) is))
-day_short (y ∷ e ∷ a ∷ r ∷ f ∷ []) is = absurd (omega (arith, ten (y ∷ e ∷ a ∷ r ∷ f ∷ []) is))
+day_short [] is = absurd (omega (arith, ten_bytes [] is))
+day_short (y ∷ []) is = absurd (omega (arith, ten_bytes (y ∷ []) is))
+day_short (y ∷ e ∷ []) is = absurd (omega (arith, ten_bytes (y ∷ e ∷ []) is))
+day_short (y ∷ e ∷ a ∷ []) is = absurd (omega (arith, ten_bytes (y ∷ e ∷ a ∷ []) is))
+day_short (y ∷ e ∷ a ∷ r ∷ []) is = absurd (omega (arith, ten_bytes (y ∷ e ∷ a ∷ r ∷ []) is))
+day_short (y ∷ e ∷ a ∷ r ∷ f ∷ []) is = absurd
+    (omega (arith, ten_bytes (y ∷ e ∷ a ∷ r ∷ f ∷ []) is))
 day_short (y ∷ e ∷ a ∷ r ∷ f ∷ m
-    ∷ []) is = absurd (omega (arith, ten (y ∷ e ∷ a ∷ r ∷ f ∷ m ∷ []) is))
+    ∷ []) is = absurd (omega (arith, ten_bytes (y ∷ e ∷ a ∷ r ∷ f ∷ m ∷ []) is))
 day_short (y ∷ e ∷ a ∷ r ∷ f ∷ m ∷ n
-    ∷ []) is = absurd (omega (arith, ten (y ∷ e ∷ a ∷ r ∷ f ∷ m ∷ n ∷ []) is))
+    ∷ []) is = absurd (omega (arith, ten_bytes (y ∷ e ∷ a ∷ r ∷ f ∷ m ∷ n ∷ []) is))
 day_short (y ∷ e ∷ a ∷ r ∷ f ∷ m ∷ n ∷ s
-    ∷ []) is = absurd (omega (arith, ten (y ∷ e ∷ a ∷ r ∷ f ∷ m ∷ n ∷ s ∷ []) is))
+    ∷ []) is = absurd (omega (arith, ten_bytes (y ∷ e ∷ a ∷ r ∷ f ∷ m ∷ n ∷ s ∷ []) is))
 day_short (y ∷ e ∷ a ∷ r ∷ f ∷ m ∷ n ∷ s ∷ d
-    ∷ []) is = absurd (omega (arith, ten (y ∷ e ∷ a ∷ r ∷ f ∷ m ∷ n ∷ s ∷ d ∷ []) is))
+    ∷ []) is = absurd (omega (arith, ten_bytes (y ∷ e ∷ a ∷ r ∷ f ∷ m ∷ n ∷ s ∷ d ∷ []) is))
 day_short (y ∷ e ∷ a ∷ r ∷ f ∷ m ∷ n ∷ s ∷ d ∷ c ∷ []) is = (
   plain (y ∷ e ∷ a ∷ r ∷ f ∷ m ∷ n ∷ s ∷ d ∷ c ∷ []) (below is),
   omega arith,
@@ -114,7 +107,7 @@ day_short (y ∷ e ∷ a ∷ r ∷ f ∷ m ∷ n ∷ s ∷ d ∷ c ∷ []) is = 
         → list_all (λ b. nat_lt b 128) (y ∷ e ∷ a ∷ r ∷ f ∷ m ∷ n ∷ s ∷ d ∷ c ∷ []) ≡ true
     below is = grind (arith, nat_tests)
 day_short (y ∷ e ∷ a ∷ r ∷ f ∷ m ∷ n ∷ s ∷ d ∷ c ∷ x
-    ∷ xs) is = absurd (omega (arith, ten (y ∷ e ∷ a ∷ r ∷ f ∷ m ∷ n ∷ s ∷ d ∷ c ∷ x ∷ xs) is))
+    ∷ xs) is = absurd (omega (arith, ten_bytes (y ∷ e ∷ a ∷ r ∷ f ∷ m ∷ n ∷ s ∷ d ∷ c ∷ x ∷ xs) is))
 
 release_fits : (s : ReleaseState) → Fits (Text (release_state_name s))
 release_fits release.IsOpen = (omega arith, plain (codes "open") refl)

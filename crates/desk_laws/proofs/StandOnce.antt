@@ -28,10 +28,10 @@ use Rattle.desk_model.specs.declared.row.ReleaseRow.{ReleaseRow}
 use Rattle.desk_model.specs.declared.row.RuleRow.{RuleRow}
 use Rattle.desk_history.specs.Laws.{AreDistinct, key_of}
 use Rattle.desk_history.proofs.Members.{in_map}
+use Rattle.desk_history.proofs.Distinct.{distinct-filter}
 use Rattle.desk_history_laws.specs.OwnKeys.{adoption_key, attached_key, change_key, choice_key}
 use Rattle.desk_history_laws.specs.OwnKeys.{conclusion_key, extracted_key, frozen_key, HaveOwnKeys}
 use Rattle.desk_history_laws.specs.OwnKeys.{package_key, rule_key}
-use Rattle.desk_history_laws.proofs.Distinct.{distinct_kept}
 use Rattle.desk_sql_layout.specs.Cells.{adoption_cells, attached_cells, catalogue_cells}
 use Rattle.desk_sql_layout.specs.Cells.{change_cells, choice_cells, conclusion_cells}
 use Rattle.desk_sql_layout.specs.Cells.{document_cells, duty_cells, extracted_cells, frozen_cells}
@@ -307,7 +307,7 @@ have_keys t own =
     own.frozen in
     let changes = once change_cells change_key (1 ∷ 2 ∷ []) change_tells t.changes own.changes in
     let waivers = once waiver_cells change_key (1 ∷ 2 ∷ []) waiver_tells
-    (filter is_waiver t.changes) (distinct_kept change_key is_waiver t.changes own.changes) in (
+    (filter is_waiver t.changes) (distinct-filter change_key is_waiver t.changes own.changes) in (
       (one_row meta_cells (0 ∷ []), tt),
       (
         (

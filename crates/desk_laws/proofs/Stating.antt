@@ -4,6 +4,7 @@ use Rattle.std.specs.Prelude.{codes, Option, Some, None}
 use Rattle.std.specs.Str.{is_utf8}
 use Rattle.std.proofs.lemmas.Bool.{cases_eq, cases_Bool}
 use Rattle.std.proofs.lemmas.Str.{IsUtf8-from_is_utf8, is_utf8-from_IsUtf8}
+use Rattle.desk_findings.proofs.States.{same_text}
 use Rattle.desk_fields.specs.Text.{trim_end, trimmed}
 use Rattle.desk_fields.proofs.Closing.{Closing, open_text, closed, closing}
 use Rattle.desk_tree_annotations.specs.Runs.{RunText}
@@ -13,19 +14,6 @@ use Rattle.desk_tree_annotations.proofs.EachRun.{shown_within}
 use Rattle.desk_tree_infos.specs.Readers.{Stated}
 
 -- ---- values
-
-same_or_not : (a b : List ℕ) → (a ≡ b) ⊎ (a ≢ b)
-same_or_not [] [] = inl refl
-same_or_not [] (d ∷ b) = inr (λ e. absurd cc)
-same_or_not (c ∷ a) [] = inr (λ e. absurd cc)
-same_or_not (c ∷ a) (d ∷ b) =
-    elim (cases_eq c d) [
-      | inl is ↦ elim (same_or_not a b) [
-        | inl same ↦ inl (λ i. is i ∷ same i)
-        | inr other ↦ inr (λ e. let tail : a ≡ b = cc in other tail)
-      ]
-      | inr apart ↦ inr (λ e. let head : c ≡ d = cc in apart head)
-    ]
 
 abbrev Ended : List ℕ → List ℕ → Type 0
 Ended p t = ((f : List ℕ) × (t ≡ f ++ p)) ⊎ ((f : List ℕ) → t ≡ f ++ p → ⊥)
@@ -45,12 +33,12 @@ ended_behind p c t here (inr none) = inr (no_end p c t here none)
 
 ended : (p t : List ℕ) → Ended p t
 ended p [] =
-    elim (same_or_not [] p) [
+    elim (same_text [] p) [
       | inl is ↦ inl ([], is)
       | inr other ↦ inr (no_end_of_nil p other)
     ]
 ended p (c ∷ t) =
-    elim (same_or_not (c ∷ t) p) [
+    elim (same_text (c ∷ t) p) [
       | inl is ↦ inl ([], is)
       | inr other ↦ ended_behind p c t other (ended p t)
     ]

@@ -4,8 +4,9 @@ use Rattle.std.specs.Prelude.{not, nat_lt, ◌==◌}
 use Rattle.std.specs.List.{list_all}
 use Rattle.std.specs.Result.{result_ok}
 use Rattle.std.proofs.lemmas.Bool.Decides.{nat_tests}
+use Rattle.std.proofs.lemmas.Bool.{and_from}
 use Rattle.desk_base.specs.Idstring.{is_idstring, is_idstring_byte}
-use Rattle.desk_base.proofs.Bools.{and_left, and_right, both}
+use Rattle.desk_base.proofs.Bools.{and_left, and_right}
 use Rattle.desk_base.proofs.Numbers.{same_number}
 use Rattle.desk_model.specs.Lists.{IsIn}
 use Rattle.desk_model.specs.Readings.{Readings}
@@ -35,13 +36,13 @@ id_bytes : (bs : List ℕ) → list_all is_idstring_byte bs ≡ true
     → list_all (λ byte. not (byte == 32)) bs ≡ true
 id_bytes [] all = refl
 id_bytes (b ∷ bs) all =
-    both (not (b == 32)) (list_all (λ byte. not (byte == 32)) bs)
+    and_from (not (b == 32)) (list_all (λ byte. not (byte == 32)) bs)
     (id_byte b (and_left (is_idstring_byte b) (list_all is_idstring_byte bs) all))
     (id_bytes bs (and_right (is_idstring_byte b) (list_all is_idstring_byte bs) all))
 
 id_is_word : (text : List ℕ) → is_idstring text ≡ true → is_word text ≡ true
 id_is_word text e =
-    both (nat_lt 0 (length text)) (list_all (λ byte. not (byte == 32)) text)
+    and_from (nat_lt 0 (length text)) (list_all (λ byte. not (byte == 32)) text)
     (and_left (nat_lt 0 (length text)) (list_all is_idstring_byte text) e)
     (id_bytes text (and_right (nat_lt 0 (length text)) (list_all is_idstring_byte text) e))
 
@@ -49,7 +50,7 @@ are_words : (codes : List (List ℕ)) → list_all is_idstring codes ≡ true
     → list_all is_word codes ≡ true
 are_words [] all = refl
 are_words (code ∷ codes) all =
-    both (is_word code) (list_all is_word codes)
+    and_from (is_word code) (list_all is_word codes)
     (id_is_word code (and_left (is_idstring code) (list_all is_idstring codes) all))
     (are_words codes (and_right (is_idstring code) (list_all is_idstring codes) all))
 
@@ -58,7 +59,7 @@ rules_have : (n : ℕ) (rules : List Rule)
     → have_words (map (rule_row n) rules) ≡ true
 rules_have n [] each = refl
 rules_have n (rule ∷ rules) each =
-    both (list_all is_word rule.codes) (have_words (map (rule_row n) rules))
+    and_from (list_all is_word rule.codes) (have_words (map (rule_row n) rules))
     (are_words rule.codes (each rule (inl refl)))
     (rules_have n rules (λ other m. each other (inr m)))
 
@@ -73,14 +74,14 @@ read_have w ids n text (Err fault) e = refl
 
 pub rows_are_of : (n : ℕ) (ps : List Package) → are_of n (map (package_row n) ps) ≡ true
 rows_are_of n [] = refl
-rows_are_of n (p ∷ ps) = both (n == n) (are_of n (map (package_row n) ps)) (same_number n)
+rows_are_of n (p ∷ ps) = and_from (n == n) (are_of n (map (package_row n) ps)) (same_number n)
     (rows_are_of n ps)
 
 rows_rise : (n : ℕ) (ps : List Package) → Rises package_below ps
     → rise (map (package_row n) ps) ≡ true
 rows_rise n [] up = refl
 rows_rise n (p ∷ []) up = refl
-rows_rise n (p ∷ q ∷ ps) up = both (text_below p.id q.id) (rise (map (package_row n) (q ∷ ps)))
+rows_rise n (p ∷ q ∷ ps) up = and_from (text_below p.id q.id) (rise (map (package_row n) (q ∷ ps)))
     (up.0 q (inl refl)) (rows_rise n (q ∷ ps) up.1)
 
 read_rise : (w : Readings) → ListsInOrder w
@@ -97,6 +98,7 @@ writable w t (LoadCatalogue text) in_order ids = read_have w ids (length t.catal
 writable w t (Import bytes profile) in_order ids =
     let n = length t.document + 1 in
     let rows = map (package_row n) (packages_in (result_ok (w.document bytes))) in
-    both (are_of n rows) (rise rows) (rows_are_of n (packages_in (result_ok (w.document bytes))))
+    and_from (are_of n rows) (rise rows) (rows_are_of n
+    (packages_in (result_ok (w.document bytes))))
     (read_rise w in_order n bytes (w.document bytes) refl)
 writable w t c in_order ids = refl

@@ -1,13 +1,14 @@
 -- A list made from another, one item at a time.
 use Rattle.std.proofs.Common.{◌≡◌, ℕ, ◌+◌, ◌<◌, ◌≤◌, Bool, true, false, cond, List, [], ◌∷◌, ◌++◌}
-use Rattle.std.proofs.Common.{length, get_or, drop, take, take_all, map, refl, sym, ap, ap₂, subst}
+use Rattle.std.proofs.Common.{length, get_or, take, take_all, map, refl, sym, ap, ap₂, subst}
 use Rattle.std.proofs.Common.{◌∙◌, append-nil, append_assoc}
 use Rattle.std.specs.Prelude.{filter, find, reverse, Option, Some, None}
 use Rattle.std.specs.List.{AllZip, flat_map}
-use Rattle.std.proofs.lemmas.List.{drop_more, flat_map_more, map_more, map-append, reverse-append, take_more}
+use Rattle.std.proofs.lemmas.List.{flat_map_more, map_more, map-append, reverse-append, take_more}
 use Rattle.std.proofs.lemmas.List.Elements.{filter_more}
 use Rattle.std.proofs.lemmas.List.Folds.{find-append}
 use Rattle.std.specs.Option.{option_or}
+use Rattle.desk_base.proofs.Lists.{zip_pushed}
 
 -- one more is made
 pub made_more : {X Y : Type 0} (f : X → Y) (xs : List X) (i : ℕ) (x : X) (before after : List Y)
@@ -46,18 +47,6 @@ joined_more f xs i x start before after piece inside at so_far made pushed =
     pushed ∙ ap₂ (λ a b. a ++ b) so_far (made ∙ ap f at)
     ∙ flat_map_more f start (take i xs) (get_or xs i x)
     ∙ ap (λ ys. start ++ flat_map f ys) (sym (take_more xs i x inside))
-
--- an item and those after it
-pub drop_item : {X : Type 0} (xs : List X) (i : ℕ) (x : X) → i < length xs → x ≡ get_or xs i x
-    → drop i xs ≡ x ∷ drop (i + 1) xs
-drop_item xs i x inside at = drop_more xs i x inside ∙ ap (λ y. y ∷ drop (i + 1) xs) (sym at)
-
-zip_pushed : {A B : Type 0} (R : A → B → Type 0) (xs : List A) (ys : List B) (x : A) (y : B)
-    → AllZip R xs ys → R x y → AllZip R (xs ++ x ∷ []) (ys ++ y ∷ [])
-zip_pushed R [] [] x y zip r = (r, tt)
-zip_pushed R [] (v ∷ vs) x y zip r = absurd zip
-zip_pushed R (u ∷ us) [] x y zip r = absurd zip
-zip_pushed R (u ∷ us) (v ∷ vs) x y zip r = (zip.0, zip_pushed R us vs x y zip.1 r)
 
 -- one more item in each of two lists
 pub zipped_more : {X Y : Type 0} (R : X → Y → Type 0) (xs : List X) (i : ℕ) (x : X)

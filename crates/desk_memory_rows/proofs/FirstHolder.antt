@@ -10,6 +10,9 @@ use Rattle.std.specs.Cmp.Lexicographic.{slice_cmp}
 use Rattle.std.specs.declared.cmp.Ordering.{Ordering}
 use Rattle.std.specs.declared.cmp.Ordering.TheVariants.{Less, Equal, Greater}
 use Rattle.std.proofs.lemmas.Bool.Decides.{nat_tests}
+use Rattle.std.proofs.lemmas.Bool.{and_from}
+use Rattle.std.proofs.lemmas.Map.Keys.{ge_from_not_lt}
+use Rattle.std.proofs.lemmas.Option.{same_Some}
 use Rattle.desk_model.specs.Lists.{IsIn, ascends}
 use Rattle.desk_model.specs.Keys.{below_by, is_release}
 use Rattle.desk_model.specs.Conclusions.{first_opened, holds, sooner}
@@ -22,12 +25,13 @@ use Rattle.desk_sorted.specs.Sides.{numbers_meet, texts_meet}
 use Rattle.desk_memory_rows.specs.Holders.{AreHolders, holder_order, is_held, is_holder}
 use Rattle.desk_memory_rows.specs.HolderLaws.{holder_total}
 use Rattle.desk_memory_rows.specs.declared.holders.Holder.{Holder}
-use Rattle.desk_memory_rows.proofs.Lists.{any_none, any_of, first_least, found_in, in_any}
+use Rattle.desk_memory_rows.proofs.Lists.{any_none, first_least}
 use Rattle.desk_memory_rows.proofs.Lists.{in_filtered, none_filtered, none_in}
-use Rattle.desk_base.proofs.Bools.{and_left, and_right, both}
+use Rattle.desk_base.proofs.Bools.{and_left, and_right}
 use Rattle.desk_base.proofs.Numbers.{numbers_equal, same_number}
 use Rattle.desk_base.proofs.Texts.{same_text, texts_equal}
 use Rattle.desk_model.proofs.Orders.{order_of}
+use Rattle.desk_model.proofs.Lists.{one_passes, one_any, found_in}
 
 -- The first opened release
 
@@ -125,9 +129,6 @@ third_not_less Equal Greater c d e f g = cc
 third_not_less Less b c d e f g = cc
 third_not_less Greater b c d e f g = cc
 
-place_low : (a b : ℕ) → is_lt (nat_cmp a b) ≡ false → b ≤ a
-place_low a b e = grind (arith, nat_tests)
-
 -- of two holders for one package, the one that isn't above the other was opened no later
 opened_before : (d : ℕ) (p : List ℕ) (x h : Holder) → is_held d p x ≡ true → is_held d p h ≡ true
     → below_by holder_order x h ≡ false → h.place ≤ x.place
@@ -144,7 +145,7 @@ opened_before d p x h e f below =
     let texts : is_eq (slice_cmp nat_cmp x.package_id h.package_id) ≡ true =
     sym (texts_meet x.package_id h.package_id)
     ∙ (ap (λ t. bytes_eq t h.package_id) text ∙ same_text h.package_id) in
-    place_low x.place h.place
+    ge_from_not_lt x.place h.place
     (third_not_less (nat_cmp x.document h.document) (slice_cmp nat_cmp x.package_id h.package_id)
     (nat_cmp x.place h.place) (slice_cmp nat_cmp x.release h.release) numbers texts below)
 
@@ -166,23 +167,20 @@ pub held_by : (r : List ℕ) (d : ℕ) (p : List ℕ) (x : Holder) → is_holder
     → is_held d p x ≡ true
 held_by r d p x e = and_right (bytes_eq x.release r) (is_held d p x) e
 
-pub some_place : (a b : ℕ) → Some a ≡ Some b → a ≡ b
-some_place a b e = cc
-
 module _ (t : Tables) (all : List Holder) (places : ArePlaces t.releases) (held : AreHolders all t)
     (d : ℕ) (p : List ℕ) where
   -- the holder for a release that holds a choice
   holder_at : (y : ReleaseRow) → IsIn y t.releases → holds t.choice d p y ≡ true
       → (k : Holder) × IsIn k all × (is_held d p k ≡ true) × (k.place ≡ y.place)
   holder_at y is some =
-      let found = any_of (is_holder y.name d p) all (held.holding y.name d p ∙ some) in
+      let found = one_passes (is_holder y.name d p) all (held.holding y.name d p ∙ some) in
       let k : Holder = found.0 in
       let own = and_left (bytes_eq k.release y.name) (is_held d p k) found.2 in
       let name : k.release ≡ y.name = texts_equal k.release y.name own in (
         k,
         found.1,
         held_by y.name d p k found.2,
-        some_place k.place y.place (sym (held.placed k found.1)
+        same_Some k.place y.place (sym (held.placed k found.1)
             ∙ (ap (place_found t.releases) name ∙ held.apart y is)),
       )
 
@@ -206,8 +204,8 @@ module _ (t : Tables) (all : List Holder) (places : ArePlaces t.releases) (held 
       let own : bytes_eq h.release x.name ≡ true = ap (bytes_eq h.release) name
       ∙ same_text h.release in
       let some : holds t.choice d p x ≡ true = sym (held.holding x.name d p)
-      ∙ in_any (is_holder x.name d p) h all found.0
-      (both (bytes_eq h.release x.name) (is_held d p h) own found.1) in
+      ∙ one_any (is_holder x.name d p) h all found.0
+      (and_from (bytes_eq h.release x.name) (is_held d p h) own found.1) in
       let least : (y : ReleaseRow) → IsIn y (filter (holds t.choice d p)
       t.releases) → x.place ≤ y.place =
       λ y is.

@@ -1,6 +1,10 @@
 -- The releases that hold a choice for a package: what a change of the rows leaves of them.
 use Rattle.std.proofs.Common.{◌≡◌, ◌≢◌, ◌∙◌, ℕ, Bool, true, false, List, [], ◌∷◌, ◌++◌, Option}
 use Rattle.std.proofs.Common.{Some, None, refl, sym, ap, subst, inl, inr}
+use Rattle.std.proofs.lemmas.Bool.{and_from, not-true, false_from_ne_true}
+use Rattle.std.proofs.lemmas.Option.{same_Some}
+use Rattle.std.proofs.Math.Bool.{or-false}
+use Rattle.std.proofs.lemmas.List.Folds.{list_any-append}
 use Rattle.std.specs.Prelude.{if◌then◌else◌, filter, not, is_some, ◌==◌, ◌&&◌, ◌||◌, ◌⊎◌}
 use Rattle.std.specs.List.{list_any, list_all}
 use Rattle.std.specs.Option.{option_map}
@@ -14,6 +18,7 @@ use Rattle.desk_model.specs.declared.state.ReleaseState.TheVariants.{Frozen}
 use Rattle.desk_model.specs.declared.row.ChoiceRow.{ChoiceRow}
 use Rattle.desk_model.specs.declared.row.ReleaseRow.{ReleaseRow}
 use Rattle.desk_model.specs.declared.command.Change.{Change}
+use Rattle.desk_model.proofs.Lists.{one_passes, one_any, each_passes}
 use Rattle.desk_model.specs.declared.command.Change.TheVariants as change
 use Rattle.desk_history.specs.Laws.{Ascends}
 use Rattle.desk_history.specs.FromTables.{release_found}
@@ -25,13 +30,14 @@ use Rattle.desk_memory_rows.specs.Holders.{AreHolders, choosing, holder_of, hold
 use Rattle.desk_memory_rows.specs.Holders.{holders_after, is_among, is_held, is_holder, is_holding}
 use Rattle.desk_memory_rows.specs.Holders.{is_of, leaving, letting_go, withdrawing}
 use Rattle.desk_memory_rows.specs.declared.holders.Holder.{Holder}
-use Rattle.desk_memory_rows.proofs.FirstHolder.{held_by, some_place}
-use Rattle.desk_memory_rows.proofs.Lists.{any_append, any_of, any_same, each_of, filter_alike}
-use Rattle.desk_memory_rows.proofs.Lists.{filter_twice, in_any, in_filtered, in_front, in_further}
-use Rattle.desk_memory_rows.proofs.Lists.{in_put_all, ones_put, others_put, refuted}
-use Rattle.desk_base.proofs.Bools.{and_left, and_right, both, contrary, not_true}
+use Rattle.desk_memory_rows.proofs.FirstHolder.{held_by}
+use Rattle.desk_memory_rows.proofs.Lists.{any_same, filter_alike}
+use Rattle.desk_memory_rows.proofs.Lists.{in_filtered, in_front, in_further}
+use Rattle.desk_memory_rows.proofs.Lists.{in_put_all, ones_put, others_put}
+use Rattle.desk_base.proofs.Bools.{and_left, and_right, contrary}
 use Rattle.desk_base.proofs.Numbers.{numbers_equal, same_number}
 use Rattle.desk_base.proofs.Texts.{same_text, texts_equal}
+use Rattle.desk_base.proofs.Lists.{filter_twice}
 
 -- releases whose names and places are kept
 in_updated : (test : ReleaseRow → Bool) (change : ReleaseRow → ReleaseRow)
@@ -169,25 +175,28 @@ module _ (t : Tables) (all : List Holder) (held : AreHolders all t) (r : List �
       elsewhere : r' ≢ r → list_any (is_holder r' d p) all ≡ true
           → list_any (is_choice_of r' d p) (filter (is_choice_elsewhere r) t.choice) ≡ true
       elsewhere differ some =
-          let found = any_of (is_choice_of r' d p) t.choice (sym (held.holding r' d p) ∙ some) in
+          let found = one_passes (is_choice_of r' d p) t.choice
+          (sym (held.holding r' d p) ∙ some) in
           let x : ChoiceRow = found.0 in
           let name : x.release ≡ r' = (choice_key r' d p x found.2).release in
           let other : is_choice_in r x ≡ false =
-          refuted (bytes_eq x.release r) (λ e. differ (sym name ∙ texts_equal x.release r e)) in
-          in_any (is_choice_of r' d p) x (filter (is_choice_elsewhere r) t.choice)
+          false_from_ne_true (bytes_eq x.release r)
+          (λ e. differ (sym name ∙ texts_equal x.release r e)) in
+          one_any (is_choice_of r' d p) x (filter (is_choice_elsewhere r) t.choice)
           (in_filtered (is_choice_elsewhere r) x t.choice found.1 (ap not other)) found.2
 
       there : (o : Option ℕ) → place_found t.releases r ≡ o
           → list_any (is_holder r' d p) (withdrawing r o all) ≡ true
           → list_any (is_choice_of r' d p) (filter (is_choice_elsewhere r) t.choice) ≡ true
       there None at some =
-          let found = any_of (is_holder r' d p) all some in
+          let found = one_passes (is_holder r' d p) all some in
           let name = (holder_key r' d p found.0 found.2).release in
           elsewhere (λ same. let both_ways : Some (found.0).place ≡ None =
           sym (held.placed found.0 found.1) ∙ (ap (place_found t.releases) (name ∙ same) ∙ at) in
           cc) some
       there (Some place) at some =
-          let found = any_of (is_holder r' d p) (filter (λ holder. not (is_of place r holder)) all)
+          let found = one_passes (is_holder r' d p)
+          (filter (λ holder. not (is_of place r holder)) all)
           some in
           let x : Holder = found.0 in
           let old = from_filter (λ holder. not (is_of place r holder)) x all found.1 in
@@ -195,40 +204,41 @@ module _ (t : Tables) (all : List Holder) (held : AreHolders all t) (r : List �
           elsewhere
           (λ same.
           let at_place : x.place ≡ place =
-          some_place x.place place (sym (held.placed x old.0)
+          same_Some x.place place (sym (held.placed x old.0)
           ∙ (ap (place_found t.releases) (name ∙ same) ∙ at)) in
           let of : is_of place r x ≡ true =
-          both (x.place == place) (bytes_eq x.release r)
+          and_from (x.place == place) (bytes_eq x.release r)
           (ap (λ n. n == place) at_place ∙ same_number place)
           (ap (λ n. bytes_eq n r) (name ∙ same) ∙ same_text r) in
-          contrary (is_of place r x) of (not_true (is_of place r x) old.1))
-          (in_any (is_holder r' d p) x all old.0 found.2)
+          contrary (is_of place r x) of (not-true (is_of place r x) old.1))
+          (one_any (is_holder r' d p) x all old.0 found.2)
 
       back : (o : Option ℕ) → place_found t.releases r ≡ o
           → list_any (is_choice_of r' d p) (filter (is_choice_elsewhere r) t.choice) ≡ true
           → list_any (is_holder r' d p) (withdrawing r o all) ≡ true
       back o at some =
-          let found = any_of (is_choice_of r' d p) (filter (is_choice_elsewhere r) t.choice) some in
+          let found = one_passes (is_choice_of r' d p)
+          (filter (is_choice_elsewhere r) t.choice) some in
           let x : ChoiceRow = found.0 in
           let old = from_filter (is_choice_elsewhere r) x t.choice found.1 in
           let name : x.release ≡ r' = (choice_key r' d p x found.2).release in
-          let holder = any_of (is_holder r' d p) all
-          (held.holding r' d p ∙ in_any (is_choice_of r' d p) x t.choice old.0 found.2) in
+          let holder = one_passes (is_holder r' d p) all
+          (held.holding r' d p ∙ one_any (is_choice_of r' d p) x t.choice old.0 found.2) in
           let h : Holder = holder.0 in
           let own : h.release ≡ r' = (holder_key r' d p h holder.2).release in
           let differ : r' ≢ r = λ same. contrary (bytes_eq x.release r)
           (ap (λ n. bytes_eq n r) (name ∙ same) ∙ same_text r)
-          (not_true (bytes_eq x.release r) old.1) in
+          (not-true (bytes_eq x.release r) old.1) in
           stays o h holder.1 holder.2 (λ e. differ (sym own ∙ e))
         where
           stays : (o : Option ℕ) (h : Holder) → IsIn h all → is_holder r' d p h ≡ true
               → h.release ≢ r → list_any (is_holder r' d p) (withdrawing r o all) ≡ true
-          stays None h is passes differ = in_any (is_holder r' d p) h all is passes
+          stays None h is passes differ = one_any (is_holder r' d p) h all is passes
           stays (Some place) h is passes differ =
               let other : is_of place r h ≡ false =
-              refuted (is_of place r h) (λ e. differ
+              false_from_ne_true (is_of place r h) (λ e. differ
               (texts_equal h.release r (and_right (h.place == place) (bytes_eq h.release r) e))) in
-              in_any (is_holder r' d p) h (filter (λ holder. not (is_of place r holder)) all)
+              one_any (is_holder r' d p) h (filter (λ holder. not (is_of place r holder)) all)
               (in_filtered (λ holder. not (is_of place r holder)) h all is (ap not other)) passes
 
   left : (o : Option ℕ) (x : Holder) → IsIn x (withdrawing r o all) → IsIn x all
@@ -255,12 +265,8 @@ let_go_both place xs ys all =
     filter_twice (is_among place xs) (is_among place ys) all
     ∙ filter_alike (λ x. not (is_among place xs x || is_among place ys x))
     (λ x. not (is_among place (xs ++ ys) x)) all
-    (λ x is. ap not (sym (any_append
+    (λ x is. ap not (sym (list_any-append
     (λ (row : ChoiceRow). is_holding row.document row.package_id place row.release x) xs ys)))
-
-alone_or_none : (b : Bool) → (b || false) ≡ b
-alone_or_none true = refl
-alone_or_none false = refl
 
 -- the holder of one choice
 pub let_go_one : (place : ℕ) (row : ChoiceRow) (all : List Holder)
@@ -269,7 +275,7 @@ pub let_go_one : (place : ℕ) (row : ChoiceRow) (all : List Holder)
 let_go_one place row all =
     filter_alike (λ holder. not (is_holding row.document row.package_id place row.release holder))
     (λ holder. not (is_among place (row ∷ []) holder)) all
-    (λ x is. ap not (sym (alone_or_none
+    (λ x is. ap not (sym (or-false
     (is_holding row.document row.package_id place row.release x))))
 
 -- the holder of no choice
@@ -284,7 +290,7 @@ module _ (t : Tables) (all : List Holder) (held : AreHolders all t) (r : List �
 
   among_own : (x : Holder) → is_among place own_choices x ≡ true → is_of place r x ≡ true
   among_own x some =
-      let found = any_of (λ (row : ChoiceRow). is_holding row.document row.package_id place
+      let found = one_passes (λ (row : ChoiceRow). is_holding row.document row.package_id place
       row.release x) own_choices some in
       let row : ChoiceRow = found.0 in
       let name : row.release ≡ r = texts_equal row.release r
@@ -296,7 +302,7 @@ module _ (t : Tables) (all : List Holder) (held : AreHolders all t) (r : List �
         and_right (is_held row.document row.package_id x && (x.place == place))
             (bytes_eq x.release row.release) found.2,
       ) in
-      both (x.place == place) (bytes_eq x.release r)
+      and_from (x.place == place) (bytes_eq x.release r)
       (and_right (is_held row.document row.package_id x) (x.place == place) parts.0)
       (ap (bytes_eq x.release) (sym name) ∙ parts.1)
 
@@ -308,27 +314,28 @@ module _ (t : Tables) (all : List Holder) (held : AreHolders all t) (r : List �
       let own : bytes_eq x.release r ≡ true =
       and_right (x.place == place) (bytes_eq x.release r) of in
       let held_here : is_held x.document x.package_id x ≡ true =
-      both (x.document == x.document) (bytes_eq x.package_id x.package_id) (same_number x.document)
+      and_from (x.document == x.document) (bytes_eq x.package_id x.package_id)
+      (same_number x.document)
       (same_text x.package_id) in
       let some : list_any (is_choice_of r x.document x.package_id) t.choice ≡ true =
       sym (held.holding r x.document x.package_id)
-      ∙ in_any (is_holder r x.document x.package_id) x all is
-      (both (bytes_eq x.release r) (is_held x.document x.package_id x) own held_here) in
-      let found = any_of (is_choice_of r x.document x.package_id) t.choice some in
+      ∙ one_any (is_holder r x.document x.package_id) x all is
+      (and_from (bytes_eq x.release r) (is_held x.document x.package_id x) own held_here) in
+      let found = one_passes (is_choice_of r x.document x.package_id) t.choice some in
       let row : ChoiceRow = found.0 in
       let key = choice_key r x.document x.package_id row found.2 in
       let named : bytes_eq row.release r ≡ true = ap (λ n. bytes_eq n r) key.release
       ∙ same_text r in
       let release : row.release ≡ x.release = key.release ∙ sym (texts_equal x.release r own) in
       let same_package : is_held row.document row.package_id x ≡ true =
-      both (x.document == row.document) (bytes_eq x.package_id row.package_id)
+      and_from (x.document == row.document) (bytes_eq x.package_id row.package_id)
       (ap (λ n. x.document == n) key.document ∙ same_number x.document)
       (ap (bytes_eq x.package_id) key.package_id ∙ same_text x.package_id) in
-      in_any (λ (c : ChoiceRow). is_holding c.document c.package_id place c.release x) row
+      one_any (λ (c : ChoiceRow). is_holding c.document c.package_id place c.release x) row
       own_choices (in_filtered (is_choice_in r) row t.choice found.1 named)
-      (both (is_held row.document row.package_id x && (x.place == place))
+      (and_from (is_held row.document row.package_id x && (x.place == place))
       (bytes_eq x.release row.release)
-      (both (is_held row.document row.package_id x) (x.place == place) same_package there)
+      (and_from (is_held row.document row.package_id x) (x.place == place) same_package there)
       (ap (bytes_eq x.release) release ∙ same_text x.release))
 
   alike_tests : (a b : Bool) → (a ≡ true → b ≡ true) → (b ≡ true → a ≡ true) → a ≡ b
@@ -362,14 +369,14 @@ module _ (t : Tables) (all : List Holder) (held : AreHolders all t) (r : List �
   own_place : (x : Holder) → IsIn x all → is_holder r d p x ≡ true → is_holding d p place r x ≡ true
   own_place x is e =
       let own = and_left (bytes_eq x.release r) (is_held d p x) e in
-      let here : x.place ≡ place = some_place x.place place
+      let here : x.place ≡ place = same_Some x.place place
       (sym (held.placed x is) ∙ (ap (place_found t.releases) (texts_equal x.release r own) ∙ at)) in
-      both (is_held d p x && (x.place == place)) (bytes_eq x.release r)
-      (both (is_held d p x) (x.place == place) (held_by r d p x e)
+      and_from (is_held d p x && (x.place == place)) (bytes_eq x.release r)
+      (and_from (is_held d p x) (x.place == place) (held_by r d p x e)
       (ap (λ n. n == place) here ∙ same_number place)) own
 
   own_name : (x : Holder) → is_holding d p place r x ≡ true → is_holder r d p x ≡ true
-  own_name x e = both (bytes_eq x.release r) (is_held d p x)
+  own_name x e = and_from (bytes_eq x.release r) (is_held d p x)
       (and_right (is_held d p x && (x.place == place)) (bytes_eq x.release r) e)
       (and_left (is_held d p x) (x.place == place)
       (and_left (is_held d p x && (x.place == place)) (bytes_eq x.release r) e))
@@ -395,14 +402,14 @@ module _ (t : Tables) (all : List Holder) (held : AreHolders all t) (r : List �
       other_held : (x : Holder) → IsIn x all → is_holder r' d' p' x ≡ true
           → is_holding d p place r x ≡ false → list_any (is_choice_of r' d' p') chosen ≡ true
       other_held x is e other =
-          let found = any_of (is_choice_of r' d' p') t.choice
-          (sym (held.holding r' d' p') ∙ in_any (is_holder r' d' p') x all is e) in
+          let found = one_passes (is_choice_of r' d' p') t.choice
+          (sym (held.holding r' d' p') ∙ one_any (is_holder r' d' p') x all is e) in
           let y : ChoiceRow = found.0 in
           either y found.1 found.2 (is_choice_of r d p y) refl
         where
           either : (y : ChoiceRow) → IsIn y t.choice → is_choice_of r' d' p' y ≡ true → (b : Bool)
               → is_choice_of r d p y ≡ b → list_any (is_choice_of r' d' p') chosen ≡ true
-          either y there passes false f = in_any (is_choice_of r' d' p') y chosen
+          either y there passes false f = one_any (is_choice_of r' d' p') y chosen
               (others_put (below_by choice_order) y rows (filter (is_other_choice r d p) t.choice)
               (in_filtered (is_other_choice r d p) y t.choice there (ap not f))) passes
           either y there passes true f =
@@ -416,7 +423,7 @@ module _ (t : Tables) (all : List Holder) (held : AreHolders all t) (r : List �
           → ((x : ChoiceRow) × IsIn x rows × (is_same ≡ true))
           ⊎ ((h : Holder) × IsIn h others × (is_holder r' d' p' h ≡ true))
       choice_cases some =
-          let found = any_of (is_choice_of r' d' p') chosen some in
+          let found = one_passes (is_choice_of r' d' p') chosen some in
           either found.0 found.2 (in_put_all (below_by choice_order) found.0 rows
           (filter (is_other_choice r d p) t.choice) found.1)
         where
@@ -427,17 +434,18 @@ module _ (t : Tables) (all : List Holder) (held : AreHolders all t) (r : List �
           either x passes (inl new) = inl (
             x,
             new,
-            is_same_by (choice_key r d p x (each_of (is_choice_of r d p) x rows own new))
+            is_same_by (choice_key r d p x (each_passes (is_choice_of r d p) x rows own new))
                 (choice_key r' d' p' x passes),
           )
           either x passes (inr old) =
               let before = from_filter (is_other_choice r d p) x t.choice old in
-              let elsewhere = not_true (is_choice_of r d p x) before.1 in
-              let holder = any_of (is_holder r' d' p') all
-              (held.holding r' d' p' ∙ in_any (is_choice_of r' d' p') x t.choice before.0 passes) in
+              let elsewhere = not-true (is_choice_of r d p x) before.1 in
+              let holder = one_passes (is_holder r' d' p') all
+              (held.holding r' d' p' ∙ one_any
+              (is_choice_of r' d' p') x t.choice before.0 passes) in
               let h : Holder = holder.0 in
               let other : is_holding d p place r h ≡ false =
-              refuted (is_holding d p place r h)
+              false_from_ne_true (is_holding d p place r h)
               (λ e. contrary (is_choice_of r d p x)
               (carried (λ s n i. is_choice_of s n i x ≡ true) (turned (same (is_same_by
               (holder_key r d p h (own_name h e)) (holder_key r' d' p' h holder.2)))) passes)
@@ -452,10 +460,10 @@ module _ (t : Tables) (all : List Holder) (held : AreHolders all t) (r : List �
       others_hold : list_any (is_holder r' d' p') others ≡ true
           → list_any (is_choice_of r' d' p') chosen ≡ true
       others_hold some =
-          let found = any_of (is_holder r' d' p') others some in
+          let found = one_passes (is_holder r' d' p') others some in
           let old = from_filter (λ holder. not (is_holding d p place r holder)) found.0 all
           found.1 in
-          other_held found.0 old.0 found.2 (not_true (is_holding d p place r found.0) old.1)
+          other_held found.0 old.0 found.2 (not-true (is_holding d p place r found.0) old.1)
 
   choosing_holds : (rows : List ChoiceRow) → list_all (is_choice_of r d p) rows ≡ true
       → (r' : List ℕ) (d' : ℕ) (p' : List ℕ)
@@ -467,22 +475,22 @@ module _ (t : Tables) (all : List Holder) (held : AreHolders all t) (r : List �
       (others_hold r' d' p' [] own)
       (λ some. elim (choice_cases r' d' p' [] own some) [
         | inl new ↦ absurd new.1
-        | inr old ↦ in_any (is_holder r' d' p') old.0 others old.1 old.2
+        | inr old ↦ one_any (is_holder r' d' p') old.0 others old.1 old.2
       ])
   choosing_holds (row ∷ rows) own r' d' p' =
       any_same (is_holder r' d' p') (is_choice_of r' d' p')
       with_this (chosen r' d' p' (row ∷ rows) own)
-      (λ some. there (any_of (is_holder r' d' p') with_this some))
+      (λ some. there (one_passes (is_holder r' d' p') with_this some))
       (λ some. elim (choice_cases r' d' p' (row ∷ rows) own some) [
-        | inl new ↦ in_any (is_holder r' d' p') (holder_of r place d p) with_this
+        | inl new ↦ one_any (is_holder r' d' p') (holder_of r place d p) with_this
             (in_front (below_by holder_order) (holder_of r place d p) others) new.2
-        | inr old ↦ in_any (is_holder r' d' p') old.0 with_this
+        | inr old ↦ one_any (is_holder r' d' p') old.0 with_this
             (in_further (below_by holder_order) (holder_of r place d p) old.0 others old.1) old.2
       ])
     where
       own_choice : is_same r' d' p' ≡ true
           → list_any (is_choice_of r' d' p') (chosen r' d' p' (row ∷ rows) own) ≡ true
-      own_choice at = in_any (is_choice_of r' d' p') row (chosen r' d' p' (row ∷ rows) own)
+      own_choice at = one_any (is_choice_of r' d' p') row (chosen r' d' p' (row ∷ rows) own)
           (ones_put (below_by choice_order) row (row ∷ rows)
           (filter (is_other_choice r d p) t.choice) (inl refl))
           (carried (λ s n i. is_choice_of s n i row ≡ true) (same r' d' p' at)
@@ -495,7 +503,7 @@ module _ (t : Tables) (all : List Holder) (held : AreHolders all t) (r : List �
           found.1) [
             | inl same ↦ own_choice (subst (λ x. is_holder r' d' p' x ≡ true) (sym same) found.2)
             | inr old ↦ others_hold r' d' p' (row ∷ rows) own
-                (in_any (is_holder r' d' p') found.0 others old found.2)
+                (one_any (is_holder r' d' p') found.0 others old found.2)
           ]
 
   choosing_placed : (rows : List ChoiceRow) (x : Holder)

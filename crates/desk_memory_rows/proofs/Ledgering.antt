@@ -7,12 +7,13 @@ use Rattle.std.specs.List.{list_any, list_all}
 use Rattle.std.proofs.lemmas.List.Elements.{filter-append}
 use Rattle.std.proofs.lemmas.List.Folds.{list_all-append}
 use Rattle.std.proofs.lemmas.Bool.Decides.{nat_tests}
+use Rattle.std.proofs.lemmas.Bool.{and_from}
 use Rattle.desk_model.specs.Lists.{put, updated}
 use Rattle.desk_model.specs.Keys.{is_duty, is_change_of, change_below}
 use Rattle.desk_memory_rows.specs.Ledgers.{numbered, stepped, grouped, all_of, more_at}
 use Rattle.desk_model.specs.declared.row.DutyRow.{DutyRow}
 use Rattle.desk_model.specs.declared.row.ChangeRow.{ChangeRow}
-use Rattle.desk_base.proofs.Bools.{and_left, and_right, both, or_left, or_right}
+use Rattle.desk_base.proofs.Bools.{and_left, and_right, or_left, or_right}
 use Rattle.desk_base.proofs.Numbers.{numbers_equal}
 
 -- Duties
@@ -91,9 +92,10 @@ numbered-updated change keeps q n (row ∷ rows) e =
     (and_right (row.number == n) (numbered (n + 1) rows) e) in
     elim (row.number == q) as (λ b. numbered n
     ((if b then change row else row) ∷ updated (is_duty q) change rows) ≡ true) [
-      | true ↦ both ((change row).number == n) (numbered (n + 1) (updated (is_duty q) change rows))
+      | true ↦ and_from ((change row).number == n)
+          (numbered (n + 1) (updated (is_duty q) change rows))
           (ap (λ k. k == n) (keeps row) ∙ here) rest
-      | false ↦ both (row.number == n) (numbered (n + 1) (updated (is_duty q) change rows)) here
+      | false ↦ and_from (row.number == n) (numbered (n + 1) (updated (is_duty q) change rows)) here
           rest
     ]
 
@@ -102,7 +104,7 @@ pub numbered-append : (n : ℕ) (rows more : List DutyRow) → numbered n rows �
 numbered-append n [] more e f = subst (λ k. numbered k more ≡ true)
     (let z : n + 0 ≡ n = omega arith in z) f
 numbered-append n (row ∷ rows) more e f =
-    both (row.number == n) (numbered (n + 1) (rows ++ more))
+    and_from (row.number == n) (numbered (n + 1) (rows ++ more))
     (and_left (row.number == n) (numbered (n + 1) rows) e)
     (numbered-append (n + 1) rows more (and_right (row.number == n) (numbered (n + 1) rows) e)
     (subst (λ k. numbered k more ≡ true)
@@ -204,7 +206,7 @@ groups_above : (row : ChangeRow) (n : ℕ) (groups : List (List ChangeRow)) → 
 groups_above row n [] e lt = refl
 groups_above row n (g ∷ gs) e lt =
     list_all-append (change_below row) g (all_of gs)
-    ∙ both (list_all (change_below row) g) (list_all (change_below row) (all_of gs))
+    ∙ and_from (list_all (change_below row) g) (list_all (change_below row) (all_of gs))
     (all_above row n 1 g (and_left (stepped n 1 g) (grouped (n + 1) gs) e) lt)
     (groups_above row (n + 1) gs (and_right (stepped n 1 g) (grouped (n + 1) gs) e) (omega arith))
 
@@ -246,9 +248,10 @@ stepped-push : (n k : ℕ) (rows : List ChangeRow) (row : ChangeRow) → stepped
 stepped-push n k [] row e d s =
     let a : (row.duty == n) ≡ true = grind (arith, nat_tests) in
     let b : (row.step == k) ≡ true = grind (arith, nat_tests) in
-    both ((row.duty == n) && (row.step == k)) true (both (row.duty == n) (row.step == k) a b) refl
+    and_from ((row.duty == n) && (row.step == k)) true
+    (and_from (row.duty == n) (row.step == k) a b) refl
 stepped-push n k (x ∷ xs) row e d s =
-    both ((x.duty == n) && (x.step == k)) (stepped n (k + 1) (xs ++ row ∷ []))
+    and_from ((x.duty == n) && (x.step == k)) (stepped n (k + 1) (xs ++ row ∷ []))
     (and_left ((x.duty == n) && (x.step == k)) (stepped n (k + 1) xs) e)
     (stepped-push n (k + 1) xs row
     (and_right ((x.duty == n) && (x.step == k)) (stepped n (k + 1) xs) e) d (omega arith))
@@ -258,11 +261,11 @@ pub grouped-more : (n i : ℕ) (groups : List (List ChangeRow)) (row : ChangeRow
     → grouped n (more_at groups i row) ≡ true
 grouped-more n i [] row e d s = refl
 grouped-more n zero (g ∷ gs) row e d s =
-    both (stepped n 1 (g ++ row ∷ [])) (grouped (n + 1) gs)
+    and_from (stepped n 1 (g ++ row ∷ [])) (grouped (n + 1) gs)
     (stepped-push n 1 g row (and_left (stepped n 1 g) (grouped (n + 1) gs) e) (omega arith)
     (omega arith)) (and_right (stepped n 1 g) (grouped (n + 1) gs) e)
 grouped-more n (suc i) (g ∷ gs) row e d s =
-    both (stepped n 1 g) (grouped (n + 1) (more_at gs i row))
+    and_from (stepped n 1 g) (grouped (n + 1) (more_at gs i row))
     (and_left (stepped n 1 g) (grouped (n + 1) gs) e)
     (grouped-more (n + 1) i gs row (and_right (stepped n 1 g) (grouped (n + 1) gs) e) (omega arith)
     s)
@@ -274,7 +277,7 @@ pub grouped-append : (n : ℕ) (groups more : List (List ChangeRow)) → grouped
 grouped-append n [] more e f = subst (λ k. grouped k more ≡ true)
     (let z : n + 0 ≡ n = omega arith in z) f
 grouped-append n (g ∷ gs) more e f =
-    both (stepped n 1 g) (grouped (n + 1) (gs ++ more))
+    and_from (stepped n 1 g) (grouped (n + 1) (gs ++ more))
     (and_left (stepped n 1 g) (grouped (n + 1) gs) e)
     (grouped-append (n + 1) gs more (and_right (stepped n 1 g) (grouped (n + 1) gs) e)
     (subst (λ k. grouped k more ≡ true)

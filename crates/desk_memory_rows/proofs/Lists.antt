@@ -1,17 +1,15 @@
 -- What is in a list of rows, what passes a test in it, and what is found first.
-use Rattle.std.proofs.Common.{◌≡◌, ◌∙◌, ℕ, zero, suc, ◌+◌, ◌<◌, ◌≤◌, length, drop, get_or, add-one}
-use Rattle.std.proofs.Common.{Bool, true, false, cond, List, [], ◌∷◌, ◌++◌, Some, None, refl}
+use Rattle.std.proofs.Common.{◌≡◌, ◌∙◌, ℕ, zero, suc, ◌+◌, ◌<◌, length, drop, get_or, add-one}
+use Rattle.std.proofs.Common.{Bool, true, false, cond, List, [], ◌∷◌, Some, None, refl}
 use Rattle.std.proofs.Common.{sym, ap, subst, arith, inl, inr}
-use Rattle.std.specs.Prelude.{if◌then◌else◌, find, filter, not, ◌||◌, ◌⊎◌}
-use Rattle.std.specs.List.{list_any, list_all}
+use Rattle.std.proofs.lemmas.Bool.{not-true, false_from_ne_true}
+use Rattle.std.specs.Prelude.{if◌then◌else◌, find, filter, not, ◌⊎◌}
+use Rattle.std.specs.List.{list_any}
 use Rattle.desk_model.specs.Lists.{IsIn, put, put_all, ascends, over}
 use Rattle.desk_history.proofs.Distinct.{from_put}
-use Rattle.desk_base.proofs.Bools.{and_left, and_right, contrary, not_true}
+use Rattle.desk_base.proofs.Bools.{and_left, and_right, contrary}
 use Rattle.desk_model.proofs.Orders.{IsOrder}
-
-pub refuted : (b : Bool) → (b ≡ true → ⊥) → b ≡ false
-refuted true never = absurd (never refl)
-refuted false never = refl
+use Rattle.desk_model.proofs.Lists.{one_passes, each_passes}
 
 pub in_filtered : {A : Type 0} (test : A → Bool) (x : A) (xs : List A) → IsIn x xs → test x ≡ true
     → IsIn x (filter test xs)
@@ -27,28 +25,10 @@ in_filtered test x (y ∷ ys) is passes = either (λ later. in_filtered test x y
         (subst (λ z. test z ≡ false) same e))
     either rest false e (inr later) = rest later
 
-pub any_of : {A : Type 0} (test : A → Bool) (xs : List A) → list_any test xs ≡ true
-    → (x : A) × IsIn x xs × (test x ≡ true)
-any_of test [] e = cc
-any_of test (x ∷ xs) e = either (any_of test xs) (test x) refl e
-  where
-    either : (list_any test xs ≡ true → (y : _) × IsIn y xs × (test y ≡ true)) → (b : Bool)
-        → test x ≡ b → (b || list_any test xs) ≡ true → (y : _) × IsIn y (x ∷ xs) × (test y ≡ true)
-    either rest true e f = (x, inl refl, e)
-    either rest false e f = let found = rest f in (found.0, inr found.1, found.2)
-
-pub in_any : {A : Type 0} (test : A → Bool) (x : A) (xs : List A) → IsIn x xs → test x ≡ true
-    → list_any test xs ≡ true
-in_any test x [] is passes = absurd is
-in_any test x (y ∷ ys) (inl same) passes = let here : test y ≡ true = ap test same ∙ passes in
-    rw here refl
-in_any test x (y ∷ ys) (inr later) passes = elim (test y) as (λ b. (b || list_any test ys) ≡ true)
-    [ true ↦ refl | false ↦ in_any test x ys later passes ]
-
 pub any_none : {A : Type 0} (test : A → Bool) (xs : List A)
     → ((x : A) → IsIn x xs → test x ≡ true → ⊥) → list_any test xs ≡ false
-any_none test xs never = refuted (list_any test xs)
-    (λ some. let found = any_of test xs some in never found.0 found.1 found.2)
+any_none test xs never = false_from_ne_true (list_any test xs)
+    (λ some. let found = one_passes test xs some in never found.0 found.1 found.2)
 
 pub any_same : {A B : Type 0} (p : A → Bool) (q : B → Bool) (xs : List A) (ys : List B)
     → (list_any p xs ≡ true → list_any q ys ≡ true) → (list_any q ys ≡ true → list_any p xs ≡ true)
@@ -107,25 +87,7 @@ others_put below z [] ys is = is
 others_put below z (x ∷ xs) ys is = in_further below x z (put_all below xs ys)
     (others_put below z xs ys is)
 
-pub each_of : {A : Type 0} (test : A → Bool) (x : A) (xs : List A) → list_all test xs ≡ true
-    → IsIn x xs → test x ≡ true
-each_of test x [] all is = absurd is
-each_of test x (y ∷ ys) all (inl same) = subst (λ z. test z ≡ true) same
-    (and_left (test y) (list_all test ys) all)
-each_of test x (y ∷ ys) all (inr later) = each_of test x ys
-    (and_right (test y) (list_all test ys) all) later
-
 -- What is found first
-
-pub found_in : {A : Type 0} (test : A → Bool) (xs : List A) (x : A) → find test xs ≡ Some x
-    → IsIn x xs × (test x ≡ true)
-found_in test [] x e = cc
-found_in test (y ∷ ys) x e = either (found_in test ys x) (test y) refl e
-  where
-    either : (find test ys ≡ Some x → IsIn x ys × (test x ≡ true)) → (b : Bool) → test y ≡ b
-        → cond b (Some y) (find test ys) ≡ Some x → IsIn x (y ∷ ys) × (test x ≡ true)
-    either rest true f g = let same : y ≡ x = cc in (inl same, subst (λ z. test z ≡ true) same f)
-    either rest false f g = (inr (rest g).0, (rest g).1)
 
 pub none_in : {A : Type 0} (test : A → Bool) (xs : List A) → find test xs ≡ None → (x : A)
     → IsIn x xs → test x ≡ true → ⊥
@@ -141,10 +103,10 @@ none_in test (y ∷ ys) e x is passes = either (λ none later. none_in test ys n
 
 pub over_in : {A : Type 0} (below : A → A → Bool) (y : A) (zs : List A) → over below y zs ≡ true
     → (x : A) → IsIn x zs → below x y ≡ false
-over_in below y zs all x is = not_true (below x y) (each_of (λ z. not (below z y)) x zs all is)
+over_in below y zs all x is = not-true (below x y) (each_passes (λ z. not (below z y)) x zs all is)
 
 pub irreflexive : {A : Type 0} (below : A → A → Bool) → IsOrder below → (x : A) → below x x ≡ false
-irreflexive below o x = refuted (below x x) (λ e. contrary (below x x) e (o.asym x x e))
+irreflexive below o x = false_from_ne_true (below x x) (λ e. contrary (below x x) e (o.asym x x e))
 
 -- no row that passes is below the first that does
 pub first_least : {A : Type 0} (below : A → A → Bool) → IsOrder below → (test : A → Bool)
@@ -182,27 +144,6 @@ filter_alike p q (x ∷ xs) same =
     ap (λ b. cond b (x ∷ filter p xs) (filter p xs)) (same x (inl refl))
     ∙ ap (λ l. cond (q x) (x ∷ l) l) (filter_alike p q xs (λ y is. same y (inr is)))
 
-pub filter_twice : {A : Type 0} (p q : A → Bool) (xs : List A)
-    → filter (λ x. not (q x)) (filter (λ x. not (p x)) xs) ≡ filter (λ x. not (p x || q x)) xs
-filter_twice p q [] = refl
-filter_twice p q (x ∷ xs) = either (p x) refl (filter_twice p q xs)
-  where
-    either : (b : Bool) → p x ≡ b
-        → filter (λ y. not (q y)) (filter (λ y. not (p y)) xs) ≡ filter (λ y. not (p y || q y)) xs
-        → filter (λ y. not (q y)) (cond (not b) (x ∷ filter (λ y. not (p y)) xs)
-        (filter (λ y. not (p y)) xs))
-        ≡ cond (not (b || q x)) (x ∷ filter (λ y. not (p y || q y)) xs)
-        (filter (λ y. not (p y || q y)) xs)
-    either true e rest = rest
-    either false e rest = ap (λ l. cond (not (q x)) (x ∷ l) l) rest
-
-pub any_append : {A : Type 0} (test : A → Bool) (xs ys : List A)
-    → list_any test (xs ++ ys) ≡ (list_any test xs || list_any test ys)
-any_append test [] ys = refl
-any_append test (x ∷ xs) ys = elim (test x) as
-    (λ b. (b || list_any test (xs ++ ys)) ≡ ((b || list_any test xs) || list_any test ys))
-    [ true ↦ refl | false ↦ any_append test xs ys ]
-
 -- a row and those after it
 pub drop_next : {A : Type 0} (xs : List A) (i : ℕ) (d : A) → i < length xs
     → get_or xs i d ∷ drop (suc i) xs ≡ drop i xs
@@ -215,9 +156,3 @@ pub row_at : {A : Type 0} (rows : List A) (i : ℕ) (row : A) → i < length row
 row_at rows i row lt e =
     ap (λ x. x ∷ drop (i + 1) rows) e
     ∙ (ap (λ k. get_or rows i row ∷ drop k rows) (add-one i) ∙ drop_next rows i row lt)
-
-pub drop_rest : {A : Type 0} (n : ℕ) (xs : List A) → length xs ≤ n → drop n xs ≡ []
-drop_rest zero [] le = refl
-drop_rest (suc n) [] le = refl
-drop_rest zero (x ∷ xs) le = absurd (omega (arith, le))
-drop_rest (suc n) (x ∷ xs) le = drop_rest n xs (omega (arith, le))

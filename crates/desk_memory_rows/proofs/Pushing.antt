@@ -1,9 +1,9 @@
 -- Changes put after others, and removed again.
 use Rattle.std.proofs.Common.{◌≡◌, ℕ, zero, suc, ◌+◌, ◌-◌, ◌<◌, ◌≤◌, true, false, List, [], ◌∷◌}
-use Rattle.std.proofs.Common.{◌++◌, length, map, take, drop, Option, Some, None, sym, refl, ap, ◌∙◌}
+use Rattle.std.proofs.Common.{◌++◌, length, map, take, drop, Some, sym, refl, ap, ◌∙◌}
 use Rattle.std.proofs.Common.{subst, arith, append_assoc, append-nil, length-append, add-one}
 use Rattle.std.specs.Prelude.{nat_le, slice_get, slice_set, slice_index_or, Result, Ok, Err, is_err, OnErr, OnOk}
-use Rattle.std.specs.List.{list_all, last_or}
+use Rattle.std.specs.List.{list_all}
 use Rattle.std.proofs.lemmas.Bool.Decides.{nat_tests}
 use Rattle.desk_model.specs.Lists.{put, put_all, updated}
 use Rattle.desk_model.specs.Keys.{is_duty, change_below}
@@ -167,16 +167,6 @@ undo_more groups before i change g left e at is =
     subst (λ (gs : List (List ChangeRow)). slice_set gs i left ≡ before) (sym e)
     (undo_at before i change g left
     (sym (ap (λ (gs : List (List ChangeRow)). slice_get gs i) e) ∙ at) is)
-
-pub last_at : {A : Type 0} (o : Option A) (x : A) (xs : List A)
-    → slice_get (x ∷ xs) (length xs) ≡ last_or o (x ∷ xs)
-last_at o x [] = refl
-last_at o x (y ∷ ys) = last_at (Some x) y ys
-
-pub last_row : (rows : List ChangeRow) → slice_get rows (length rows - 1) ≡ last_or None rows
-last_row [] = refl
-last_row (row ∷ rows) = ap (slice_get (row ∷ rows))
-    (let e : length (row ∷ rows) - 1 ≡ length rows = omega arith in e) ∙ last_at None row rows
 
 pub popped : (items group : List ChangeRow) (n : ℕ) → items ≡ group → n ≡ length items
     → take (n - 1) items ≡ take (length group - 1) group

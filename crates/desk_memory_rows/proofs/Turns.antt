@@ -6,6 +6,7 @@ use Rattle.std.specs.Result.{IsOk}
 use Rattle.std.specs.List.{list_all}
 use Rattle.std.proofs.lemmas.List.Elements.{filter-append}
 use Rattle.std.proofs.lemmas.Bool.Decides.{nat_tests}
+use Rattle.std.proofs.lemmas.Bool.{and_from}
 use Rattle.desk_model.specs.Keys.{is_change_of, is_duty}
 use Rattle.desk_model.specs.Lists.{updated}
 use Rattle.desk_model.specs.Tables.{Tables, with_duty_state}
@@ -20,7 +21,7 @@ use Rattle.desk_memory_rows.specs.Ledgers.{AreSingles, AreWithin, all_of, are_in
 use Rattle.desk_memory_rows.specs.Ledgers.{can_take, is_in_turn, is_within, more_at, numbered}
 use Rattle.desk_memory_rows.specs.Ledgers.{place_of, standing_by}
 use Rattle.desk_memory_rows.proofs.Ledgering.{SinglesOn, singles_push}
-use Rattle.desk_base.proofs.Bools.{and_left, and_right, both}
+use Rattle.desk_base.proofs.Bools.{and_left, and_right}
 use Rattle.desk_base.proofs.Numbers.{numbers_equal}
 
 -- First changes
@@ -29,7 +30,7 @@ first_left : (n : ℕ) (xs ys : List ChangeRow) → are_first n (xs ++ ys) ≡ t
     → are_first n xs ≡ true
 first_left n [] ys e = refl
 first_left n (x ∷ xs) ys e =
-    both ((x.duty == n) && (x.step == 1)) (are_first (n + 1) xs)
+    and_from ((x.duty == n) && (x.step == 1)) (are_first (n + 1) xs)
     (and_left ((x.duty == n) && (x.step == 1)) (are_first (n + 1) (xs ++ ys)) e)
     (first_left (n + 1) xs ys (and_right ((x.duty == n) && (x.step == 1))
     (are_first (n + 1) (xs ++ ys)) e))
@@ -97,8 +98,8 @@ is_turn n count all row low high next =
     let a : nat_lt n row.duty ≡ true = grind (arith, nat_tests) in
     let b : nat_le row.duty count ≡ true = grind (arith, nat_tests) in
     let s : steps ≡ true = grind (arith, nat_tests) in
-    both (nat_lt n row.duty) (nat_le row.duty count && steps) a
-    (both (nat_le row.duty count) steps b s)
+    and_from (nat_lt n row.duty) (nat_le row.duty count && steps) a
+    (and_from (nat_le row.duty count) steps b s)
 
 -- the last of them has the highest duty
 pub last_turn : (n count : ℕ) (all front : List ChangeRow) (row : ChangeRow)
@@ -147,7 +148,7 @@ front_turn n count groups i (x ∷ xs) row e =
     (are_in_turn x.duty count (all_of groups) (xs ++ row ∷ [])) e in
     let above = (last_turn x.duty count (all_of groups) xs row rest).0 in
     let other : (row.duty == x.duty) ≡ false = grind (arith, nat_tests) in
-    both (is_in_turn n count (all_of (more_at groups i row)) x)
+    and_from (is_in_turn n count (all_of (more_at groups i row)) x)
     (are_in_turn x.duty count (all_of (more_at groups i row)) xs)
     (is_turn n count (all_of (more_at groups i row)) x (turn_low n count (all_of groups) x here)
     (turn_high n count (all_of groups) x here)
@@ -173,8 +174,8 @@ within_turn n count all (row ∷ rows) e =
     let high = turn_high n count all row here in
     let a : nat_le 1 row.duty ≡ true = grind (arith, nat_tests) in
     let b : nat_le row.duty count ≡ true = grind (arith, nat_tests) in
-    both (is_within count (place_of row)) (list_all (is_within count) (map place_of rows))
-    (both (nat_le 1 row.duty) (nat_le row.duty count) a b)
+    and_from (is_within count (place_of row)) (list_all (is_within count) (map place_of rows))
+    (and_from (nat_le 1 row.duty) (nat_le row.duty count) a b)
     (within_turn row.duty count all rows
     (and_right (is_in_turn n count all row) (are_in_turn row.duty count all rows) e))
 
@@ -201,7 +202,7 @@ length-standing (place ∷ places) rows = length-updated (is_duty place.duty)
 numbered_from : (n : ℕ) (rows : List DutyRow) → are_numbered n rows ≡ true → numbered n rows ≡ true
 numbered_from n [] e = refl
 numbered_from n (row ∷ rows) e =
-    both (row.number == n) (numbered (n + 1) rows)
+    and_from (row.number == n) (numbered (n + 1) rows)
     (and_left (row.number == n) (are_numbered (n + 1) rows) e)
     (numbered_from (n + 1) rows (and_right (row.number == n) (are_numbered (n + 1) rows) e))
 
@@ -218,7 +219,7 @@ numbers_above m n (row ∷ rows) lt e =
     let same : row.number ≡ n = numbers_equal row.number n
     (and_left (row.number == n) (numbered (n + 1) rows) e) in
     let here : nat_lt m row.number ≡ true = grind (arith, nat_tests) in
-    both (nat_lt m row.number) (list_all (nat_lt m) (numbers_of rows)) here
+    and_from (nat_lt m row.number) (list_all (nat_lt m) (numbers_of rows)) here
     (numbers_above m (n + 1) rows (omega (arith, lt))
     (and_right (row.number == n) (numbered (n + 1) rows) e))
 
@@ -229,7 +230,7 @@ numbers_rise n (row ∷ rows) e =
     let same : row.number ≡ n = numbers_equal row.number n
     (and_left (row.number == n) (numbered (n + 1) rows) e) in
     let rest = and_right (row.number == n) (numbered (n + 1) rows) e in
-    both (list_all (nat_lt row.number) (numbers_of rows)) (rise (numbers_of rows))
+    and_from (list_all (nat_lt row.number) (numbers_of rows)) (rise (numbers_of rows))
     (numbers_above row.number (n + 1) rows (omega (arith, same)) rest)
     (numbers_rise (n + 1) rows rest)
 
@@ -257,7 +258,7 @@ above_none t (row ∷ rows) e all =
     (and_left (is_some (duty_found t row.duty)) (are_of_duties t rows) all) in
     let low = at.0 in
     let here : nat_lt 0 row.duty ≡ true = grind (arith, nat_tests) in
-    both (nat_lt 0 row.duty) (list_all (nat_lt 0) (duties_of rows)) here
+    and_from (nat_lt 0 row.duty) (list_all (nat_lt 0) (duties_of rows)) here
     (above_none t rows e (and_right (is_some (duty_found t row.duty)) (are_of_duties t rows) all))
 
 turns_from : (t : Tables) (n : ℕ) (rows : List ChangeRow) → numbered 1 t.duty ≡ true
@@ -271,7 +272,7 @@ turns_from t n (row ∷ rows) e above up next all =
     let over : nat_lt n row.duty ≡ true =
     and_left (nat_lt n row.duty) (list_all (nat_lt n) (duties_of rows)) above in
     let low : n < row.duty = grind (arith, nat_tests) in
-    both (is_in_turn n (length t.duty) t.changes row)
+    and_from (is_in_turn n (length t.duty) t.changes row)
     (are_in_turn row.duty (length t.duty) t.changes rows)
     (is_turn n (length t.duty) t.changes row low (omega (arith, at.1))
     (numbers_equal row.step (steps_found t row.duty + 1)
@@ -303,10 +304,11 @@ taken (change.Froze release revision rows new
     let as_many : (length changes == length new) ≡ true = let e : length changes ≡ length new =
     follows.2 in grind (arith, nat_tests) in
     ap (λ (n : ℕ). can_append n new changes) count
-    ∙ both (numbered (length t.duty + 1) new)
+    ∙ and_from (numbered (length t.duty + 1) new)
     (are_first (length t.duty + 1) changes && (length changes == length new))
     (numbered_from (length t.duty + 1) new follows.0)
-    (both (are_first (length t.duty + 1) changes) (length changes == length new) follows.1 as_many)
+    (and_from (are_first (length t.duty + 1) changes)
+    (length changes == length new) follows.1 as_many)
 taken (change.Moved rows) t duties groups fresh paired same held follows = next_turns t duties
     groups rows same held fresh paired follows
 taken (change.Withdrew release rows) t duties groups fresh paired same held follows = next_turns t

@@ -6,9 +6,10 @@ use Rattle.std.specs.Cmp.{IsTotalOrder}
 use Rattle.std.specs.declared.cmp.Ordering.{Ordering}
 use Rattle.std.specs.declared.cmp.Ordering.TheVariants.{Less, Equal, Greater}
 use Rattle.std.proofs.lemmas.Cmp.{alike_right}
+use Rattle.std.proofs.lemmas.Bool.{and_from, not-true}
 use Rattle.desk_model.specs.Lists.{put, over, ascends}
 use Rattle.desk_model.specs.Keys.{below_by}
-use Rattle.desk_base.proofs.Bools.{and_left, and_right, both, not_true}
+use Rattle.desk_base.proofs.Bools.{and_left, and_right}
 
 -- what an order of rows must satisfy
 pub record IsOrder {A : Type 0} (below : A → A → Bool) : Type 0 where
@@ -42,8 +43,8 @@ pub over_all : {A : Type 0} (below : A → A → Bool) → IsOrder below → (x 
 over_all below o x y [] e all = refl
 over_all below o x y (z ∷ zs) e all =
     let here : below z y ≡ false =
-    not_true (below z y) (and_left (not (below z y)) (over below y zs) all) in
-    both (not (below z x)) (over below x zs)
+    not-true (below z y) (and_left (not (below z y)) (over below y zs) all) in
+    and_from (not (below z x)) (over below x zs)
     (ap not (o.asym x z (o.between x y z e here)))
     (over_all below o x y zs e (and_right (not (below z y)) (over below y zs) all))
 
@@ -52,8 +53,8 @@ pub over-put : {A : Type 0} (below : A → A → Bool) (x y : A) (zs : List A) �
 over-put below x y [] e all = rw e refl
 over-put below x y (z ∷ zs) e all =
     elim (below x z) as (λ b. over below y (if b then x ∷ z ∷ zs else z ∷ put below x zs) ≡ true) [
-      | true ↦ both (not (below x y)) (over below y (z ∷ zs)) (ap not e) all
-      | false ↦ both (not (below z y)) (over below y (put below x zs))
+      | true ↦ and_from (not (below x y)) (over below y (z ∷ zs)) (ap not e) all
+      | false ↦ and_from (not (below z y)) (over below y (put below x zs))
           (and_left (not (below z y)) (over below y zs) all)
           (over-put below x y zs e (and_right (not (below z y)) (over below y zs) all))
     ]
@@ -63,12 +64,12 @@ pub put_step : {A : Type 0} (below : A → A → Bool) → IsOrder below
     → ascends below (put below x ys) ≡ true
     → ascends below (if b then x ∷ y ∷ ys else y ∷ put below x ys) ≡ true
 put_step below o x y ys true e up rest =
-    both (over below x (y ∷ ys)) (ascends below (y ∷ ys))
-    (both (not (below y x)) (over below x ys) (ap not (o.asym x y e))
+    and_from (over below x (y ∷ ys)) (ascends below (y ∷ ys))
+    (and_from (not (below y x)) (over below x ys) (ap not (o.asym x y e))
     (over_all below o x y ys e (and_left (over below y ys) (ascends below ys) up)))
     up
 put_step below o x y ys false e up rest =
-    both (over below y (put below x ys)) (ascends below (put below x ys))
+    and_from (over below y (put below x ys)) (ascends below (put below x ys))
     (over-put below x y ys e (and_left (over below y ys) (ascends below ys) up)) rest
 
 pub ascends-put : {A : Type 0} (below : A → A → Bool) → IsOrder below → (x : A) (ys : List A)

@@ -8,6 +8,7 @@ use Rattle.std.specs.Cmp.Lexicographic.{slice_cmp}
 use Rattle.std.specs.BTreeSet.{insert_key}
 use Rattle.std.proofs.Math.Seq.{take-suc}
 use Rattle.std.proofs.lemmas.Map.Text.{is_eq-slice_cmp}
+use Rattle.std.proofs.lemmas.List.{map-id}
 use denote.Ref.{Bor}
 use Rattle.desk_base.specs.Borrowed.{texts, borrowed_cmp}
 use Rattle.desk_model.specs.Texts.{text_below, put_new, sorted_set}
@@ -68,11 +69,7 @@ pub texts-insert_key : (ks : List (Bor (List ℕ))) (k : Bor (List ℕ))
     → texts (insert_key borrowed_cmp ks k) ≡ put_new k.now (texts ks)
 texts-insert_key ks k = map-insert_key (λ (text : Bor (List ℕ)). text.now) ks k
 
-map-same : (xs : List (List ℕ)) → map (λ (x : List ℕ). x) xs ≡ xs
-map-same [] = refl
-map-same (x ∷ xs) = ap (λ (l : List (List ℕ)). x ∷ l) (map-same xs)
-
 pub insert_key-is : (ks : List (List ℕ)) (k : List ℕ)
     → insert_key (slice_cmp nat_cmp) ks k ≡ put_new k ks
-insert_key-is ks k = sym (map-same (insert_key (slice_cmp nat_cmp) ks k))
-    ∙ (map-insert_key (λ (x : List ℕ). x) ks k ∙ ap (put_new k) (map-same ks))
+insert_key-is ks k = sym (map-id (insert_key (slice_cmp nat_cmp) ks k))
+    ∙ (map-insert_key (λ (x : List ℕ). x) ks k ∙ ap (put_new k) (map-id ks))

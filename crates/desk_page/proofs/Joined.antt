@@ -1,6 +1,6 @@
 -- Rows one after another.
-use Rattle.std.proofs.Common.{◌≡◌, ◌∙◌, ℕ, ◌+◌, ◌<◌, List, ◌++◌, Ok, Err, length, get_or, map, take, ap, ap₂, sym}
-use Rattle.std.specs.Prelude.{OnOk, Result, is_ok, if◌then◌else◌}
+use Rattle.std.proofs.Common.{◌≡◌, ◌∙◌, ℕ, ◌+◌, ◌<◌, List, ◌++◌, length, get_or, map, take, ap, ap₂}
+use Rattle.std.proofs.Common.{sym}
 use Rattle.std.specs.List.{flat_map}
 use Rattle.std.proofs.lemmas.List.{flat_map_more, map_more, take_more}
 
@@ -22,9 +22,3 @@ mapped_more {X} {Y} f g xs i d start before after inside so_far added =
     let y = g (get_or xs i d) in
     added ∙ ap (λ l. l ++ f y) so_far ∙ flat_map_more f start (map g (take i xs)) y
     ∙ ap (λ (ys : List Y). start ++ flat_map f ys) (sym (map_more g xs i d inside))
-
--- what was added, if there was memory for it
-pub added : {A E : Type 0} (result : Result A E) (new grown old : List ℕ)
-    → new ≡ (if is_ok result then grown else old) → OnOk result (new ≡ grown)
-added (Ok x) new grown old is = is
-added (Err e) new grown old is = tt

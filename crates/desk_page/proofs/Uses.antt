@@ -1,5 +1,6 @@
 -- Texts in the order of first use: one more text goes to the end, if it isn't among them.
-use Rattle.std.proofs.Common.{◌≡◌, ◌∙◌, inl, inr, ℕ, Bool, true, false, cond, List, [], ◌∷◌, ◌++◌, sym, ap, refl, subst}
+use Rattle.std.proofs.Common.{◌≡◌, ◌∙◌, ℕ, Bool, true, false, cond, List, [], ◌∷◌, ◌++◌, sym, ap}
+use Rattle.std.proofs.Common.{refl}
 use Rattle.std.specs.Prelude.{◌||◌, not, filter, if◌then◌else◌}
 use Rattle.std.specs.List.{list_any}
 use Rattle.std.specs.Str.{bytes_eq}
@@ -8,14 +9,7 @@ use Rattle.std.proofs.lemmas.List.{append-nil}
 use Rattle.std.proofs.lemmas.List.Elements.{filter-append}
 use Rattle.std.proofs.lemmas.Slice.Eq.{bytes_eq-Decides}
 use Rattle.desk_page.specs.Rows.{first_uses}
-use Rattle.desk_base.proofs.Texts.{text_tells}
-
-flipped : (a b : List ℕ) → bytes_eq a b ≡ bytes_eq b a
-flipped a b =
-    elim (text_tells a b) [
-      | inl w ↦ subst (λ (t : List ℕ). bytes_eq a t ≡ bytes_eq t a) w.1 refl
-      | inr w ↦ (elim (text_tells b a) [ inl v ↦ absurd (w.1 (sym v.1)) | inr v ↦ w.0 ∙ sym v.0 ])
-    ]
+use Rattle.desk_base.proofs.Texts.{texts_turned}
 
 added : (x : List ℕ) (xs : List (List ℕ)) (y : List ℕ) (b : Bool)
     → y ∷ filter (λ other. not (bytes_eq y other))
@@ -29,7 +23,7 @@ added x xs y true = at_true (bytes_eq x y)
     at_true false = refl
 added x xs y false =
     ap (λ l. y ∷ l) (filter-append (λ other. not (bytes_eq y other)) (first_uses xs) (x ∷ []))
-    ∙ at_false (bytes_eq x y) (flipped y x)
+    ∙ at_false (bytes_eq x y) (texts_turned y x)
   where
     kept : List (List ℕ)
     kept = filter (λ other. not (bytes_eq y other)) (first_uses xs)

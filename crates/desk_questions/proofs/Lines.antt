@@ -1,11 +1,12 @@
 -- Lines of releases and documents, and open duties.
-use Rattle.std.proofs.Common.{◌≡◌, ◌∙◌, inl, inr, ℕ, Bool, true, false, List, [], ◌∷◌, length, map}
+use Rattle.std.proofs.Common.{◌≡◌, ◌∙◌, inl, inr, ℕ, Bool, true, false, List, [], ◌∷◌, map}
 use Rattle.std.proofs.Common.{Option, Some, None, refl, sym, ap, ap₂, arith}
 use Rattle.std.specs.Prelude.{◌&&◌, ◌==◌, not, count_by, filter, find, is_some}
 use Rattle.std.specs.Option.{option_map}
 use Rattle.std.proofs.lemmas.Bool.Decides.{nat_tests}
 use Rattle.std.proofs.lemmas.List.Sums.{length-filter}
 use Rattle.std.proofs.lemmas.Slice.Eq.{bytes_eq-Decides}
+use Rattle.std.proofs.lemmas.List.{nil_from_length}
 use Rattle.desk_model.specs.Keys.{is_duty_of, is_release}
 use Rattle.desk_model.specs.Lists.{IsIn}
 use Rattle.desk_model.specs.Queries.{document_line, head_of, is_open_of, release_line}
@@ -64,16 +65,11 @@ filter_both {A} p q (x ∷ xs) = go (filter_both p q xs) (p x) (q x) refl refl
     go rest true false e f = rw (e, f) rest
     go rest false b e f = rw e rest
 
--- if none is counted, none passes
-none_there : {A : Type 0} (xs : List A) → length xs ≡ 0 → xs ≡ []
-none_there [] none = refl
-none_there (x ∷ xs) none = absurd (omega (arith, none))
-
 pub none_open : (r : List ℕ) (rows : List DutyRow)
     → count_by (λ row. is_open row.state) (filter (is_duty_of r) rows) ≡ 0
     → filter (is_open_of r) rows ≡ []
 none_open r rows none = sym (filter_both (is_duty_of r) (λ row. is_open row.state) rows)
-    ∙ none_there (filter (λ (row : DutyRow). is_open row.state) (filter (is_duty_of r) rows))
+    ∙ nil_from_length (filter (λ (row : DutyRow). is_open row.state) (filter (is_duty_of r) rows))
     (length-filter (λ (row : DutyRow). is_open row.state) (filter (is_duty_of r) rows) ∙ none)
 
 -- the totals that were looked up

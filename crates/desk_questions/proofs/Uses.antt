@@ -4,13 +4,11 @@ use Rattle.std.proofs.Common.{◌≡◌, ◌∙◌, ℕ, ◌+◌, ◌==◌, Bool
 use Rattle.std.proofs.Common.{sym, ap, refl, nat_cmp, arith}
 use Rattle.std.specs.Prelude.{◌||◌, ◌&&◌, not, filter, if◌then◌else◌}
 use Rattle.std.specs.List.{list_any}
-use Rattle.std.specs.Ordering.{is_eq, ordering_then}
+use Rattle.std.specs.Ordering.{is_eq}
 use Rattle.std.specs.Cmp.{unsigned_tied}
 use Rattle.std.specs.Cmp.Lexicographic.{slice_cmp}
 use Rattle.std.specs.Str.{bytes_eq}
 use Rattle.std.specs.BTreeSet.{BTreeSet, contains_by, Updates}
-use Rattle.std.specs.declared.cmp.Ordering.{Ordering}
-use Rattle.std.specs.declared.cmp.Ordering.TheVariants.{Less, Equal, Greater}
 use Rattle.std.proofs.lemmas.Bool.{false≢true}
 use Rattle.std.proofs.lemmas.Bool.Decides.{nat_tests}
 use Rattle.std.proofs.lemmas.List.{append-nil}
@@ -18,27 +16,19 @@ use Rattle.std.proofs.lemmas.Slice.Eq.{bytes_eq-Decides}
 use Rattle.std.proofs.lemmas.Map.Text.{is_eq-slice_cmp}
 use Rattle.std.proofs.lemmas.List.Elements.{filter-append}
 use Rattle.std.proofs.lemmas.List.Folds.{list_any-append}
+use Rattle.desk_base.proofs.Texts.{texts_turned}
+use Rattle.desk_base.proofs.Numbers.{equal_turned, same_number}
+use Rattle.desk_base.proofs.Orders.{either_equal}
+use Rattle.desk_base.proofs.Bools.{cond_or_turned}
 use Rattle.desk_model.specs.Bills.{first_uses, is_same_text}
 use Rattle.desk_model.specs.declared.bill.TextOf.{TextOf}
 use Rattle.desk_model.specs.declared.bill.TextOf.TheVariants.{Licence, Reference}
 use Rattle.desk_questions.specs.Billing.{HasTexts, key_order, text_key}
 use Rattle.desk_questions.specs.declared.texts.TextKey.{TextKey}
-use Rattle.desk_history.proofs.Rows.{texts_turned}
 
 -- Either side
 
-nat_flipped : (d e : ℕ) → (d == e) ≡ (e == d)
-nat_flipped d e = grind (arith, nat_tests)
-
-nat_itself : (d : ℕ) → (d == d) ≡ true
-nat_itself d = grind (arith, nat_tests)
-
 -- Keys
-
-either_equal : (o p : Ordering) → is_eq (ordering_then o p) ≡ (is_eq o && is_eq p)
-either_equal Less p = refl
-either_equal Equal p = refl
-either_equal Greater p = refl
 
 key_equal : (a b : TextKey) → is_eq (key_order a b)
     ≡ ((a.document == b.document) && bytes_eq a.name b.name)
@@ -70,14 +60,14 @@ same_key (Reference d reference) (Reference e other) =
 
 pub same_itself : (a : TextOf) → is_same_text a a ≡ true
 same_itself (Licence id) = (bytes_eq-Decides id id).1 refl
-same_itself (Reference d reference) = λ i. nat_itself d i
+same_itself (Reference d reference) = λ i. same_number d i
     && (bytes_eq-Decides reference reference).1 refl i
 
 flipped : (a b : TextOf) → is_same_text a b ≡ is_same_text b a
 flipped (Licence id) (Licence other) = texts_turned id other
 flipped (Licence id) (Reference e other) = refl
 flipped (Reference d reference) (Licence other) = refl
-flipped (Reference d reference) (Reference e other) = λ i. nat_flipped d e i
+flipped (Reference d reference) (Reference e other) = λ i. equal_turned d e i
     && texts_turned reference other i
 
 -- One more text
@@ -116,12 +106,6 @@ first_uses-append (y ∷ xs) x =
 
 -- Sets
 
-either : (b c : Bool) → cond b true c ≡ (c || b)
-either true true = refl
-either true false = refl
-either false true = refl
-either false false = refl
-
 none_more : (b : Bool) → b ≡ (b || false)
 none_more true = refl
 none_more false = refl
@@ -133,7 +117,7 @@ any_key x [] = refl
 any_key x (y ∷ xs) = λ i. same_key x y i || any_key x xs i
 
 turned : (a b : TextKey) → is_eq (key_order a b) ≡ is_eq (key_order b a)
-turned a b = key_equal a b ∙ (λ i. nat_flipped a.document b.document i
+turned a b = key_equal a b ∙ (λ i. equal_turned a.document b.document i
     && texts_turned a.name b.name i) ∙ sym (key_equal b a)
 
 -- a text is new if none before is the same
@@ -150,7 +134,8 @@ pub texts_more : (xs : List TextOf) (x : TextOf) (old new : BTreeSet TextKey) (k
 texts_more xs x old new key is h has = λ q.
     h.0 q
     ∙ (λ i. cond (turned key q i) true (has q i))
-    ∙ either (is_eq (key_order q key)) (list_any (λ text. is_eq (key_order q (text_key text))) xs)
+    ∙ cond_or_turned (is_eq (key_order q key))
+    (list_any (λ text. is_eq (key_order q (text_key text))) xs)
     ∙ ap (λ k. list_any (λ text. is_eq (key_order q (text_key text))) xs || is_eq (key_order q k))
     is
     ∙ ap (λ b. list_any (λ text. is_eq (key_order q (text_key text))) xs || b)

@@ -1,12 +1,13 @@
 -- Requests one after another.
-use Rattle.std.proofs.Common.{◌≡◌, ℕ, zero, suc, ◌+◌, Bool, true, false, List, [], ◌∷◌, ◌++◌}
+use Rattle.std.proofs.Common.{◌≡◌, ℕ, zero, suc, ◌+◌, true, false, List, [], ◌∷◌, ◌++◌}
 use Rattle.std.proofs.Common.{Option, take, drop, refl, sym, ◌∙◌, ap, subst, arith, append_assoc}
 use Rattle.std.proofs.Common.{⊎_elim, inl, inr}
-use Rattle.std.specs.Prelude.{sum_by, ◌||◌}
+use Rattle.std.specs.Prelude.{sum_by}
 use Rattle.std.specs.Io.KnownBytes.{Appends}
 use Rattle.std.proofs.KnownBytes.{Appends-nil, Appends-trans}
 use Rattle.std.proofs.lemmas.Grind.{flat_map-append}
 use Rattle.std.proofs.lemmas.List.Sums.{sum_by-append, sum_by-cons}
+use Rattle.std.proofs.lemmas.Bool.{or_parts}
 use Rattle.desk_model.specs.Readings.{Readings}
 use Rattle.desk_model.specs.Tables.{Tables, tables}
 use Rattle.desk_model.specs.Answers.{IsHistory}
@@ -40,10 +41,6 @@ IsHistory-past w h (Act c) (Became o) ok is = IsHistory-with w h c o ok is
 IsHistory-past w h (Act c) NoRequest ok is = ok
 IsHistory-past w h (Ask q) p ok is = ok
 IsHistory-past w h BadCommand p ok is = ok
-
-either_false : (a b : Bool) → (a || b) ≡ false → (a ≡ false) × (b ≡ false)
-either_false true b e = cc
-either_false false b e = (refl, e)
 
 -- what follows from a fact if a script stops
 pub stop_then : {P Q : Type 0} (fault : ScriptFault) → (P → Q) → IfStop P fault → IfStop Q fault
@@ -149,7 +146,7 @@ module _ (is_right : Readings → Type 0) (tells : StoreFault → Type 0) {Left 
   replied_keeps a b [] (p ∷ ps) h none = absurd h
   replied_keeps a b (r ∷ rs) [] h none = absurd h
   replied_keeps a b (r ∷ rs) (p ∷ ps) h none =
-      let both = either_false (is_recorded_by r p) (is_any_recorded rs ps) none in
+      let both = or_parts (is_recorded_by r p) (is_any_recorded rs ps) none in
       let first = h.1.keeps both.0 in
       let second = replied_keeps h.0 b rs ps h.2 both.1 in
       spared_then (seen a) (seen h.0) (seen b) first second

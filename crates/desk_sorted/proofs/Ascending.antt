@@ -1,13 +1,14 @@
 -- Rows that ascend, and still do after a change.
-use Rattle.std.proofs.Common.{◌≡◌, ℕ, zero, suc, ◌<◌, ◌≤◌, Bool, true, false, cond, List, [], ◌∷◌}
+use Rattle.std.proofs.Common.{◌≡◌, ℕ, zero, suc, ◌<◌, ◌≤◌, Bool, true, false, List, [], ◌∷◌}
 use Rattle.std.proofs.Common.{length, get_or, refl, ◌∙◌, arith}
-use Rattle.std.specs.Prelude.{if◌then◌else◌, filter, not}
+use Rattle.std.proofs.lemmas.Bool.{not-true}
+use Rattle.std.specs.Prelude.{if◌then◌else◌, not}
 use Rattle.std.specs.Ordering.{ordering_index}
 use Rattle.std.specs.declared.cmp.Ordering.{Ordering}
 use Rattle.desk_model.specs.Lists.{put_all, updated, over, ascends}
 use Rattle.desk_model.specs.Keys.{below_by}
 use Rattle.desk_sorted.specs.Sorted.{IsSideOf}
-use Rattle.desk_base.proofs.Bools.{and_left, and_right, both, not_true}
+use Rattle.desk_base.proofs.Bools.{and_left, and_right}
 use Rattle.desk_model.proofs.Orders.{IsOrder, ascends-put}
 
 -- a row that is put in its place
@@ -19,28 +20,6 @@ ascends-put_all below o (x ∷ xs) ys up = ascends-put below o x (put_all below 
     (ascends-put_all below o xs ys up)
 
 -- rows that are cut out
-
-over-filter : {A : Type 0} (below : A → A → Bool) (test : A → Bool) (y : A) (zs : List A)
-    → over below y zs ≡ true → over below y (filter test zs) ≡ true
-over-filter below test y [] e = refl
-over-filter below test y (z ∷ zs) e =
-    let here = and_left (not (below z y)) (over below y zs) e in
-    let rest = over-filter below test y zs (and_right (not (below z y)) (over below y zs) e) in
-    elim (test z) as (λ b. over below y (cond b (z ∷ filter test zs) (filter test zs)) ≡ true) [
-      | true ↦ both (not (below z y)) (over below y (filter test zs)) here rest
-      | false ↦ rest
-    ]
-
-pub ascends-filter : {A : Type 0} (below : A → A → Bool) (test : A → Bool) (ys : List A)
-    → ascends below ys ≡ true → ascends below (filter test ys) ≡ true
-ascends-filter below test [] up = refl
-ascends-filter below test (y ∷ ys) up =
-    let rest = ascends-filter below test ys (and_right (over below y ys) (ascends below ys) up) in
-    elim (test y) as (λ b. ascends below (cond b (y ∷ filter test ys) (filter test ys)) ≡ true) [
-      | true ↦ both (over below y (filter test ys)) (ascends below (filter test ys))
-          (over-filter below test y ys (and_left (over below y ys) (ascends below ys) up)) rest
-      | false ↦ rest
-    ]
 
 -- rows that change, but not in what orders them
 
@@ -81,7 +60,7 @@ ascends-updated below test change k (y ∷ ys) = rw (
 over_at : {A : Type 0} (below : A → A → Bool) (y : A) (zs : List A) (j : ℕ) (d : A)
     → over below y zs ≡ true → j < length zs → below (get_or zs j d) y ≡ false
 over_at below y [] j d e lt = absurd (omega (arith, lt))
-over_at below y (z ∷ zs) zero d e lt = not_true (below z y)
+over_at below y (z ∷ zs) zero d e lt = not-true (below z y)
     (and_left (not (below z y)) (over below y zs) e)
 over_at below y (z ∷ zs) (suc j) d e lt = over_at below y zs j d
     (and_right (not (below z y)) (over below y zs) e) (omega (arith, lt))

@@ -8,10 +8,6 @@ use Rattle.desk_sorted.specs.Blocks.{is_between, rows_in, HasRoom}
 use Rattle.desk_sorted.proofs.Blocking.{rows_split}
 use Rattle.desk_base.proofs.Bools.{or_left, or_right}
 
-pub filter-true : {A : Type 0} (xs : List A) → filter (λ x. true) xs ≡ xs
-filter-true [] = refl
-filter-true (x ∷ xs) = ap (λ l. x ∷ l) (filter-true xs)
-
 -- the rows without those that pass a test, if none does
 pub all_left : {A : Type 0} (test : A → Bool) (xs : List A) → list_any test xs ≡ false
     → filter (λ x. not (test x)) xs ≡ filter (λ x. true) xs

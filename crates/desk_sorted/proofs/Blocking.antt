@@ -12,10 +12,11 @@ use Rattle.std.proofs.lemmas.List.{take-append-drop}
 use Rattle.std.proofs.lemmas.List.Folds.{list_any-append, list_all-append}
 use Rattle.std.proofs.lemmas.List.Sorted.{IsPartitionPoint-from_clause}
 use Rattle.std.proofs.lemmas.Grind.{flat_map-append}
+use Rattle.std.proofs.lemmas.Bool.{and_from, not-true}
 use Rattle.desk_model.specs.Lists.{over, ascends}
 use Rattle.desk_sorted.specs.Blocks.{are_filled, ends_in, has_rows, last_of, rows_in, IsSplit}
 use Rattle.desk_sorted.proofs.Halving.{last_at}
-use Rattle.desk_base.proofs.Bools.{and_left, and_right, both, not_true, contrary}
+use Rattle.desk_base.proofs.Bools.{and_left, and_right, contrary}
 
 -- the last row of a block
 
@@ -39,7 +40,7 @@ over_front : {A : Type 0} (below : A → A → Bool) (x : A) (xs ys : List A)
     → over below x (xs ++ ys) ≡ true → over below x xs ≡ true
 over_front below x [] ys e = refl
 over_front below x (z ∷ zs) ys e =
-    both (not (below z x)) (over below x zs)
+    and_from (not (below z x)) (over below x zs)
     (and_left (not (below z x)) (over below x (zs ++ ys)) e)
     (over_front below x zs ys (and_right (not (below z x)) (over below x (zs ++ ys)) e))
 
@@ -47,7 +48,7 @@ pub ascends_front : {A : Type 0} (below : A → A → Bool) (xs ys : List A)
     → ascends below (xs ++ ys) ≡ true → ascends below xs ≡ true
 ascends_front below [] ys up = refl
 ascends_front below (x ∷ xs) ys up =
-    both (over below x xs) (ascends below xs)
+    and_from (over below x xs) (ascends below xs)
     (over_front below x xs ys (and_left (over below x (xs ++ ys)) (ascends below (xs ++ ys)) up))
     (ascends_front below xs ys (and_right (over below x (xs ++ ys)) (ascends below (xs ++ ys)) up))
 
@@ -85,7 +86,7 @@ pub all_take : {A : Type 0} (test : A → Bool) (n : ℕ) (xs : List A) → list
 all_take test zero xs e = refl
 all_take test (suc n) [] e = refl
 all_take test (suc n) (x ∷ xs) e =
-    both (test x) (list_all test (take n xs)) (and_left (test x) (list_all test xs) e)
+    and_from (test x) (list_all test (take n xs)) (and_left (test x) (list_all test xs) e)
     (all_take test n xs (and_right (test x) (list_all test xs) e))
 
 pub filled_drop : {R : Type 0} (n : ℕ) (bs : List (Vec R Global)) → are_filled bs ≡ true
@@ -109,13 +110,13 @@ Turns {A} below test = (x y : A) → below y x ≡ false → test y ≡ true →
 all_of : {A : Type 0} (below : A → A → Bool) (test : A → Bool) → Turns below test → (xs : List A)
     → ascends below xs ≡ true → ends_in test xs ≡ true → list_all test xs ≡ true
 all_of below test t [] up e = refl
-all_of below test t (x ∷ []) up e = both (test x) true e refl
+all_of below test t (x ∷ []) up e = and_from (test x) true e refl
 all_of below test t (x ∷ y ∷ ys) up e =
     let rest = all_of below test t (y ∷ ys)
     (and_right (over below x (y ∷ ys)) (ascends below (y ∷ ys)) up) e in
     let first = and_left (over below x (y ∷ ys)) (ascends below (y ∷ ys)) up in
-    both (test x) (list_all test (y ∷ ys))
-    (t x y (not_true (below y x) (and_left (not (below y x)) (over below x ys) first))
+    and_from (test x) (list_all test (y ∷ ys))
+    (t x y (not-true (below y x) (and_left (not (below y x)) (over below x ys) first))
     (and_left (test y) (list_all test ys) rest))
     rest
 
@@ -127,7 +128,7 @@ none_over below test t x (y ∷ ys) e out =
     (and_right (not (below y x)) (over below x ys) e) out)
   where
     fails : (b : Bool) → test y ≡ b → b ≡ false
-    fails true f = sym (t x y (not_true (below y x)
+    fails true f = sym (t x y (not-true (below y x)
         (and_left (not (below y x)) (over below x ys) e)) f) ∙ out
     fails false f = refl
 
@@ -195,7 +196,7 @@ module _ {R : Type 0} (below : R → R → Bool) (test : R → Bool) (t : Turns 
   front_all [] (suc n) up h = refl
   front_all (b ∷ bs) (suc n) up h =
       list_all-append test b.items (rows_in (take n bs))
-      ∙ both (list_all test b.items) (list_all test (rows_in (take n bs)))
+      ∙ and_from (list_all test b.items) (list_all test (rows_in (take n bs)))
       (all_of below test t b.items (ascends_front below b.items (rows_in bs) up)
       (h zero b (omega arith) (omega arith)))
       (front_all bs n (ascends_back below b.items (rows_in bs) up)

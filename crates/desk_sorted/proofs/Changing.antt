@@ -8,11 +8,13 @@ use Rattle.std.specs.Vec.{with_items}
 use Rattle.std.specs.declared.alloc.Global.{Global}
 use Rattle.std.proofs.lemmas.List.{append-nil, append_assoc, take-map, drop-map, map-append, with_items_is}
 use Rattle.std.proofs.lemmas.List.Folds.{flat_map-map, list_all-append}
+use Rattle.std.proofs.lemmas.Bool.{and_from, not-true}
 use Rattle.desk_model.specs.Lists.{put, put_all}
+use Rattle.desk_model.proofs.Lists.{put-past}
 use Rattle.desk_sorted.specs.Blocks.{are_all_filled, are_filled, has_rows, is_between, rows_in}
-use Rattle.desk_sorted.proofs.Halving.{put_first, put_past, some_left}
+use Rattle.desk_sorted.proofs.Halving.{put_first, some_left}
 use Rattle.desk_sorted.proofs.Blocking.{all_drop, all_take}
-use Rattle.desk_base.proofs.Bools.{and_left, and_right, both, not_true, or_left, or_right}
+use Rattle.desk_base.proofs.Bools.{and_left, and_right, or_left, or_right}
 
 -- blocks without rows are dropped
 
@@ -43,7 +45,7 @@ all_filled {R = R} (b ∷ bs) = either (not (length b.items == 0)) refl (all_fil
         → list_all (λ (d : Vec R Global). has_rows d.items)
         (cond v (b ∷ filter (λ (d : Vec R Global). not (length d.items == 0)) bs)
         (filter (λ (d : Vec R Global). not (length d.items == 0)) bs)) ≡ true
-    either true e rest = both (has_rows b.items)
+    either true e rest = and_from (has_rows b.items)
         (list_all (λ (d : Vec R Global). has_rows d.items)
         (filter (λ (d : Vec R Global). not (length d.items == 0)) bs)) (has_some b.items e) rest
     either false e rest = rest
@@ -90,7 +92,7 @@ all_halved {R = R} (b ∷ bs) zero lower upper lt e f some =
     and_right (has_rows b.items) (list_all (λ (d : Vec R Global). has_rows d.items) bs) some in
     rw (e, f) rest
 all_halved {R = R} (b ∷ bs) (suc at) lower upper lt e f some =
-    both (has_rows b.items) (list_all (λ (d : Vec R Global). has_rows d.items)
+    and_from (has_rows b.items) (list_all (λ (d : Vec R Global). has_rows d.items)
     (halved bs at lower upper)) (and_left (has_rows b.items)
     (list_all (λ (d : Vec R Global). has_rows d.items) bs) some)
     (all_halved bs at lower upper (omega (arith, lt)) e f
@@ -201,11 +203,11 @@ all_set : {R : Type 0} (bs : List (Vec R Global)) (at : ℕ) (b : Vec R Global)
     → has_rows b.items ≡ true → list_all (λ d. has_rows d.items) bs ≡ true
     → list_all (λ d. has_rows d.items) (set bs at b) ≡ true
 all_set [] at b e some = refl
-all_set {R = R} (x ∷ xs) zero b e some = both (has_rows b.items)
+all_set {R = R} (x ∷ xs) zero b e some = and_from (has_rows b.items)
     (list_all (λ (d : Vec R Global). has_rows d.items) xs) e
     (and_right (has_rows x.items) (list_all (λ (d : Vec R Global). has_rows d.items) xs) some)
 all_set {R = R} (x ∷ xs) (suc at) b e some =
-    both (has_rows x.items) (list_all (λ (d : Vec R Global). has_rows d.items) (set xs at b))
+    and_from (has_rows x.items) (list_all (λ (d : Vec R Global). has_rows d.items) (set xs at b))
     (and_left (has_rows x.items) (list_all (λ (d : Vec R Global). has_rows d.items) xs) some)
     (all_set xs at b e (and_right (has_rows x.items)
     (list_all (λ (d : Vec R Global). has_rows d.items) xs) some))
@@ -240,8 +242,8 @@ pub put_between : {A : Type 0} (below : A → A → Bool) (x : A) (front middle 
     → is_between below front back x ≡ true
     → put below x (front ++ (middle ++ back)) ≡ front ++ (put below x middle ++ back)
 put_between below x front middle back e =
-    put_past below x front (middle ++ back)
-    (not_true (list_any (below x) front)
+    put-past below x front (middle ++ back)
+    (not-true (list_any (below x) front)
     (and_left (not (list_any (below x) front)) (list_all (below x) back) e))
     ∙ ap (λ l. front ++ l) (put_before below x middle back
     (and_right (not (list_any (below x) front)) (list_all (below x) back) e))
@@ -292,11 +294,11 @@ all_joined {R = R} (x ∷ xs) last b d zero e f some =
     (list_all (λ (y : Vec R Global). has_rows y.items) (xs ++ last ∷ [])) some in
     let split = sym (list_all-append (λ (y : Vec R Global). has_rows y.items) xs (last ∷ []))
     ∙ rest in
-    both (has_rows b.items) (list_all (λ (y : Vec R Global). has_rows y.items) xs) here
+    and_from (has_rows b.items) (list_all (λ (y : Vec R Global). has_rows y.items) xs) here
     (and_left (list_all (λ (y : Vec R Global). has_rows y.items) xs)
     (list_all (λ (y : Vec R Global). has_rows y.items) (last ∷ [])) split)
 all_joined {R = R} (x ∷ xs) last b d (suc at) e f some =
-    both (has_rows x.items) (list_all (λ (y : Vec R Global). has_rows y.items) (set xs at b))
+    and_from (has_rows x.items) (list_all (λ (y : Vec R Global). has_rows y.items) (set xs at b))
     (and_left (has_rows x.items) (list_all (λ (y : Vec R Global). has_rows y.items)
     (xs ++ last ∷ [])) some)
     (all_joined xs last b d at (omega (arith, e)) f
@@ -322,7 +324,7 @@ all_parted : {R : Type 0} (xs ys : List (Vec R Global)) → list_all (λ b. has_
     → list_all (λ b. has_rows b.items) (xs ++ ys) ≡ true
 all_parted [] ys e f = f
 all_parted (x ∷ xs) ys e f =
-    both (has_rows x.items) (list_all (λ b. has_rows b.items) (xs ++ ys))
+    and_from (has_rows x.items) (list_all (λ b. has_rows b.items) (xs ++ ys))
     (and_left (has_rows x.items) (list_all (λ b. has_rows b.items) xs) e)
     (all_parted xs ys (and_right (has_rows x.items) (list_all (λ b. has_rows b.items) xs) e) f)
 
@@ -338,7 +340,7 @@ row_there (x ∷ xs) e = refl
 each_filled : {R : Type 0} (bs : List (Vec R Global))
     → list_any (λ b. length b.items == 0) bs ≡ false → list_all (λ b. has_rows b.items) bs ≡ true
 each_filled [] e = refl
-each_filled (b ∷ bs) e = both (has_rows b.items) (list_all (λ c. has_rows c.items) bs)
+each_filled (b ∷ bs) e = and_from (has_rows b.items) (list_all (λ c. has_rows c.items) bs)
     (row_there b.items (or_left (length b.items == 0) (list_any (λ c. length c.items == 0) bs) e))
     (each_filled bs (or_right (length b.items == 0) (list_any (λ c. length c.items == 0) bs) e))
 
@@ -375,7 +377,8 @@ pub filled_around : {R : Type 0} (front back : List (Vec R Global)) (b : Vec R G
     → are_filled (front ++ (b ∷ [] ++ back)) ≡ true
 filled_around front back b e some all =
     filled_both front (b ∷ back) e
-    (both (has_rows b.items) (list_all (λ c. has_rows c.items) back) (row_there b.items some) all)
+    (and_from (has_rows b.items) (list_all (λ c. has_rows c.items) back)
+    (row_there b.items some) all)
 
 -- blocks that are changed in their place, and then those without rows are dropped
 module _ {R : Type 0} (blocks : Vec (Vec R Global) Global) (old new : List (Vec R Global))

@@ -1,11 +1,12 @@
 -- Rows that are counted.
-use Rattle.std.proofs.Common.{◌≡◌, ℕ, ◌+◌, ◌-◌, ◌^◌, ◌<◌, ◌≤◌, Bool, true, false, cond, List, []}
+use Rattle.std.proofs.Common.{◌≡◌, ℕ, ◌+◌, ◌-◌, ◌^◌, ◌<◌, ◌≤◌, Bool, List, []}
 use Rattle.std.proofs.Common.{◌∷◌, length, drop, get_or, refl, ap, ◌∙◌, arith}
 use Rattle.std.specs.Prelude.{filter, not, Vec}
 use Rattle.std.specs.declared.alloc.Global.{Global}
 use Rattle.std.proofs.lemmas.List.{length-append}
 use Rattle.std.proofs.lemmas.List.Filters.{length-filter_both}
 use Rattle.desk_model.specs.Lists.{put, put_all}
+use Rattle.desk_model.proofs.Lists.{length-put}
 use Rattle.desk_sorted.specs.Blocks.{rows_in}
 use Rattle.desk_sorted.proofs.Walking.{filter_split}
 
@@ -39,16 +40,6 @@ pub count_left : {A : Type 0} (test : A → Bool) (xs ys : List A) (all gone : �
     → all - gone ≡ length ys
 count_left test xs ys all gone e f g = omega
     (arith, ap length e, f, g, length-filter_both test (λ x. not (test x)) (λ x. refl) xs)
-
-pub length-put : {A : Type 0} (below : A → A → Bool) (x : A) (xs : List A)
-    → length (put below x xs) ≡ length xs + 1
-length-put below x [] = refl
-length-put below x (y ∷ ys) = either (length-put below x ys) (below x y)
-  where
-    either : length (put below x ys) ≡ length ys + 1 → (b : Bool)
-        → length (cond b (x ∷ y ∷ ys) (y ∷ put below x ys)) ≡ length (y ∷ ys) + 1
-    either e true = omega arith
-    either e false = omega (arith, e)
 
 pub length-put_all : {A : Type 0} (below : A → A → Bool) (xs ys : List A)
     → length (put_all below xs ys) ≡ length ys + length xs

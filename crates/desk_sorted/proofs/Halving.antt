@@ -1,8 +1,8 @@
 -- Runs of rows and places of rows, found by binary search.
-use Rattle.std.proofs.Common.{◌≡◌, ℕ, zero, suc, ◌+◌, ◌-◌, ◌<◌, ◌≤◌, Bool, true, false, cond, List}
+use Rattle.std.proofs.Common.{◌≡◌, ℕ, zero, suc, ◌+◌, ◌-◌, ◌<◌, ◌≤◌, Bool, true, false, List}
 use Rattle.std.proofs.Common.{[], ◌∷◌, ◌++◌, length, map, take, drop, get_or, Some, sym, refl, ap}
 use Rattle.std.proofs.Common.{subst, ◌∙◌, arith}
-use Rattle.std.specs.Prelude.{if◌then◌else◌, filter, find, ◌==◌, not, slice_get, nat_lt, insert}
+use Rattle.std.specs.Prelude.{if◌then◌else◌, filter, ◌==◌, not, slice_get, nat_lt, insert}
 use Rattle.std.specs.List.{list_all, list_any, AllWithin, IsAllAdjacentAnswer}
 use Rattle.std.specs.List.Sorted.{IsPartitionPoint, IsPartitionedBy}
 use Rattle.std.specs.Ordering.{is_lt, is_le, is_eq, ordering_index, ordering_reverse}
@@ -11,12 +11,14 @@ use Rattle.std.specs.declared.cmp.Ordering.{Ordering}
 use Rattle.std.specs.declared.cmp.Ordering.TheVariants.{Less, Equal, Greater}
 use Rattle.std.proofs.lemmas.Bool.Decides.{nat_tests}
 use Rattle.std.proofs.lemmas.List.{take-append-drop}
+use Rattle.std.proofs.lemmas.Bool.{and_from}
 use Rattle.desk_model.specs.Lists.{put, put_all, updated, ascends}
 use Rattle.desk_model.specs.Keys.{below_by}
 use Rattle.desk_sorted.specs.Blocks.{last_of}
 use Rattle.desk_sorted.specs.Sorted.{Rises, Climbs, IsRun, IsPlace}
-use Rattle.desk_base.proofs.Bools.{and_left, both, or_left, or_right}
-use Rattle.desk_model.proofs.Orders.{IsOrder, ascends-put}
+use Rattle.desk_base.proofs.Bools.{and_left, or_left, or_right}
+use Rattle.desk_model.proofs.Orders.{IsOrder, ascends-put, less_by}
+use Rattle.desk_model.proofs.Lists.{put-past, length-updated}
 
 -- sides that do not fall
 
@@ -45,11 +47,6 @@ pub partitioned_le : {A : Type 0} (side : A → Ordering) (xs : List A) → Rise
     → IsPartitionedBy (λ x. is_le (side x)) xs
 partitioned_le side xs up = λ i j d le lt e. le_by (side (get_or xs i d)) (side (get_or xs j d))
     (up i j d le lt) e
-
-less : (o : Ordering) → is_lt o ≡ true → o ≡ Less
-less Less e = refl
-less Equal e = cc
-less Greater e = cc
 
 equal : (o : Ordering) → is_lt o ≡ false → is_le o ≡ true → o ≡ Equal
 equal Less e f = cc
@@ -85,7 +82,7 @@ pub is_run : {A : Type 0} (side : A → Ordering) (xs : List A) (low high : ℕ)
 is_run side xs low high m n p q = record {
   ordered = ends_in_order side xs low high (nat_lt high low) refl m n p q;
   within = n;
-  before = λ k d a b. less (side (get_or xs k d)) (p.0 k d a b);
+  before = λ k d a b. less_by (side (get_or xs k d)) (p.0 k d a b);
   sought = λ k d a b. equal (side (get_or xs k d)) (p.1 k d a (omega arith))
       (q.0 k d (omega arith) b);
   behind = λ k d a b. greater (side (get_or xs k d)) (q.1 k d a b);
@@ -233,13 +230,6 @@ updated_run test change (x ∷ xs) (suc low) (suc high) le within t =
 
 -- the first of the rows that pass
 
-pub first_found : {A : Type 0} (test : A → Bool) (xs : List A)
-    → slice_get (filter test xs) 0 ≡ find test xs
-first_found test [] = refl
-first_found test (x ∷ xs) = elim (test x) as
-    (λ b. slice_get (cond b (x ∷ filter test xs) (filter test xs)) 0
-    ≡ cond b (Some x) (find test xs)) [ true ↦ refl | false ↦ first_found test xs ]
-
 pub some_left : (n : ℕ) → not (suc n == 0) ≡ true
 some_left n = let none : (suc n == 0) ≡ false = grind (arith, nat_tests) in ap not none
 
@@ -258,7 +248,7 @@ all_drop : {A : Type 0} (test : A → Bool) (xs : List A) (n : ℕ)
     → AllWithin (λ x. test x ≡ true) xs n (length xs) → list_all test (drop n xs) ≡ true
 all_drop test [] zero h = refl
 all_drop test (x ∷ xs) zero h =
-    both (test x) (list_all test xs) (h zero x (omega arith) (omega arith))
+    and_from (test x) (list_all test xs) (h zero x (omega arith) (omega arith))
     (all_drop test xs zero (λ k d a b. h (suc k) d (omega arith) (omega (arith, b))))
 all_drop test [] (suc n) h = refl
 all_drop test (x ∷ xs) (suc n) h = all_drop test xs n
@@ -293,18 +283,11 @@ pub put_first : {A : Type 0} (below : A → A → Bool) (x : A) (ys : List A)
 put_first below x [] all = refl
 put_first below x (y ∷ ys) all = rw (and_left (below x y) (list_all (below x) ys) all) refl
 
-pub put_past : {A : Type 0} (below : A → A → Bool) (x : A) (ys zs : List A)
-    → list_any (below x) ys ≡ false → put below x (ys ++ zs) ≡ ys ++ put below x zs
-put_past below x [] zs none = refl
-put_past below x (y ∷ ys) zs none =
-    rw (or_left (below x y) (list_any (below x) ys) none)
-    (ap (λ l. y ∷ l) (put_past below x ys zs (or_right (below x y) (list_any (below x) ys) none)))
-
 pub put_at : {A : Type 0} (below : A → A → Bool) (x : A) (xs : List A) (n : ℕ)
     → IsPlace below x xs n → put below x xs ≡ insert xs n x
 put_at below x xs n p =
     ap (put below x) (sym (take-append-drop n xs))
-    ∙ (put_past below x (take n xs) (drop n xs) p.front
+    ∙ (put-past below x (take n xs) (drop n xs) p.front
     ∙ ap (λ l. take n xs ++ l) (put_first below x (drop n xs) p.back))
 
 -- rows that climb and all go to one place
@@ -330,7 +313,7 @@ put_block : {A : Type 0} (below : A → A → Bool) → IsOrder below
     → (front back : List A) (m : A) (ms : List A) → Climbs below (m ∷ ms)
     → list_any (below m) front ≡ false → list_all (below (last_of m ms)) back ≡ true
     → put_all below (m ∷ ms) (front ++ back) ≡ front ++ (m ∷ (ms ++ back))
-put_block below o front back m [] up none all = put_past below m front back none
+put_block below o front back m [] up none all = put-past below m front back none
     ∙ ap (λ l. front ++ l) (put_first below m back all)
 put_block below o front back m (x ∷ xs) up none all =
     let here : below m x ≡ true = up zero m (omega arith) in
@@ -340,7 +323,7 @@ put_block below o front back m (x ∷ xs) up none all =
     let rest = put_block below o front back x xs tail (none_above below o m x front here none)
     all in
     ap (put below m) rest
-    ∙ (put_past below m front (x ∷ (xs ++ back)) none ∙ ap (λ l. front ++ l) (rw here refl))
+    ∙ (put-past below m front (x ∷ (xs ++ back)) none ∙ ap (λ l. front ++ l) (rw here refl))
 
 pub block_at : {A : Type 0} (below : A → A → Bool) → IsOrder below
     → (m : A) (ms xs : List A) (n : ℕ) → Climbs below (m ∷ ms) → IsPlace below m xs n
@@ -376,11 +359,6 @@ pub ascends_either : {A : Type 0} (below : A → A → Bool) → IsOrder below
 ascends_either below o true x xs n p up = ap (ascends below) (sym (put_at below x xs n p))
     ∙ ascends-put below o x xs up
 ascends_either below o false x xs n p up = up
-
-length-updated : {A : Type 0} (test : A → Bool) (change : A → A) (xs : List A)
-    → length (updated test change xs) ≡ length xs
-length-updated test change [] = refl
-length-updated test change (x ∷ xs) = ap suc (length-updated test change xs)
 
 pub same_count : {A : Type 0} (test : A → Bool) (change : A → A) (xs ys : List A)
     → ys ≡ updated test change xs → length ys ≡ length xs

@@ -6,10 +6,12 @@ use Rattle.std.specs.List.{position_from}
 use Rattle.std.specs.Option.{option_map}
 use Rattle.desk_model.specs.Lists.{put, or_else, over, ascends}
 use Rattle.std.proofs.lemmas.List.Elements.{filter_agree}
+use Rattle.std.proofs.lemmas.Bool.{and_from, not-true}
 use Rattle.desk_sorted.specs.Blocks.{last_of}
-use Rattle.desk_sorted.proofs.Halving.{first_found, last_at}
+use Rattle.desk_sorted.proofs.Halving.{last_at}
 use Rattle.desk_model.proofs.Orders.{IsOrder}
-use Rattle.desk_base.proofs.Bools.{and_left, and_right, both, not_true}
+use Rattle.desk_base.proofs.Bools.{and_left, and_right}
+use Rattle.desk_base.proofs.Lists.{first_found}
 
 -- one more row after the others
 
@@ -17,12 +19,12 @@ over_later : {A : Type 0} (below : A → A → Bool) → IsOrder below → (y z 
     → below z y ≡ false → over below z ws ≡ true → over below y ws ≡ true
 over_later below o y z [] e all = refl
 over_later below o y z (w ∷ ws) e all =
-    both (not (below w y)) (over below y ws)
+    and_from (not (below w y)) (over below y ws)
     (ap not (not_below (below w y) refl))
     (over_later below o y z ws e (and_right (not (below w z)) (over below z ws) all))
   where
     here : below w z ≡ false
-    here = not_true (below w z) (and_left (not (below w z)) (over below z ws) all)
+    here = not-true (below w z) (and_left (not (below w z)) (over below z ws) all)
 
     not_below : (b : Bool) → below w y ≡ b → b ≡ false
     not_below true f = sym (o.between w y z f e) ∙ here
@@ -37,9 +39,9 @@ push_on below o y (z ∷ zs) x e up =
     let rest = push_on below o z zs x e
     (and_right (over below y (z ∷ zs)) (ascends below (z ∷ zs)) up) in
     let here : below z y ≡ false =
-    not_true (below z y) (and_left (not (below z y)) (over below y zs) first) in
-    both (over below y (z ∷ (zs ++ x ∷ []))) (ascends below (z ∷ (zs ++ x ∷ [])))
-    (both (not (below z y)) (over below y (zs ++ x ∷ [])) (ap not here)
+    not-true (below z y) (and_left (not (below z y)) (over below y zs) first) in
+    and_from (over below y (z ∷ (zs ++ x ∷ []))) (ascends below (z ∷ (zs ++ x ∷ [])))
+    (and_from (not (below z y)) (over below y (zs ++ x ∷ [])) (ap not here)
     (over_later below o y z (zs ++ x ∷ []) here
     (and_left (over below z (zs ++ x ∷ [])) (ascends below (zs ++ x ∷ [])) rest)))
     rest
@@ -99,7 +101,7 @@ find_none below o t alike e y (z ∷ zs) te up all =
     (and_right (not (below z y)) (over below y zs) all))
   where
     here : below z y ≡ false
-    here = not_true (below z y) (and_left (not (below z y)) (over below y zs) all)
+    here = not-true (below z y) (and_left (not (below z y)) (over below y zs) all)
 
     fails : (b : Bool) → t z ≡ b → b ≡ false
     fails true f = sym (o.between e y z up here) ∙ alike e z te f

@@ -11,6 +11,7 @@ use Rattle.std.specs.declared.cmp.Ordering.TheVariants.{Less, Equal, Greater}
 use Rattle.std.proofs.lemmas.List.{append-nil, drop_all}
 use Rattle.std.proofs.lemmas.List.Elements.{filter-append}
 use Rattle.std.proofs.lemmas.List.Folds.{list_all-append}
+use Rattle.std.proofs.lemmas.Bool.{and_from}
 use Rattle.desk_model.specs.Keys.{below_by}
 use Rattle.desk_sorted.specs.Blocks.{is_between, rows_in, IsBlockRun}
 use Rattle.desk_sorted.specs.Sides.{side_by}
@@ -18,7 +19,8 @@ use Rattle.desk_sorted.proofs.Blocking.{Turns}
 use Rattle.desk_sorted.proofs.Halving.{le_by}
 use Rattle.desk_sorted.proofs.Halving.{turned_le, turned_gt}
 use Rattle.desk_sorted.proofs.Blocking.{rows_split}
-use Rattle.desk_base.proofs.Bools.{and_left, and_right, both, or_left, or_right}
+use Rattle.desk_base.proofs.Bools.{and_left, and_right, or_left, or_right}
+use Rattle.desk_base.proofs.Lists.{filter_none}
 
 -- a list from a place on, and from a further place on
 
@@ -44,12 +46,6 @@ rows_three {R = R} low high bs le =
     ∙ rows_split low bs
 
 -- rows that are not sought
-
-filter_no : {A : Type 0} (test : A → Bool) (xs : List A) → list_any test xs ≡ false
-    → filter test xs ≡ []
-filter_no test [] e = refl
-filter_no test (x ∷ xs) e = rw (or_left (test x) (list_any test xs) e)
-    (filter_no test xs (or_right (test x) (list_any test xs) e))
 
 filter_rest : {A : Type 0} (test : A → Bool) (xs : List A) → list_any test xs ≡ false
     → filter (λ x. not (test x)) xs ≡ xs
@@ -95,10 +91,10 @@ found_in_run test side meets bs low high run =
     sym (ap (filter test) (sym (rows_three low high bs run.ordered))
     ∙ (filter-append test front (middle ++ back)
     ∙ (ap (λ l. l ++ filter test (middle ++ back))
-    (filter_no test front (none_before test side meets front run.before))
+    (filter_none test front (none_before test side meets front run.before))
     ∙ (filter-append test middle back
     ∙ (ap (λ l. filter test middle ++ l)
-    (filter_no test back (none_behind test side meets back run.behind))
+    (filter_none test back (none_behind test side meets back run.behind))
     ∙ append-nil (filter test middle))))))
 
 -- the others stay when those are cut out of the run of blocks
@@ -131,7 +127,7 @@ all_further test (b ∷ bs) (suc at) zero le e = absurd (omega (arith, le))
 all_further test (b ∷ bs) (suc at) (suc n) le e =
     let split = sym (list_all-append test b.items (rows_in (take n bs))) ∙ e in
     list_all-append test b.items (rows_in (take at bs))
-    ∙ both (list_all test b.items) (list_all test (rows_in (take at bs)))
+    ∙ and_from (list_all test b.items) (list_all test (rows_in (take at bs)))
     (and_left (list_all test b.items) (list_all test (rows_in (take n bs))) split)
     (all_further test bs at n (omega (arith, le))
     (and_right (list_all test b.items) (list_all test (rows_in (take n bs))) split))
@@ -149,7 +145,7 @@ module _ {A : Type 0} {order : A → A → Ordering} (t : IsTotalOrder order) (r
       → list_all (below_by order row) xs ≡ true
   all_above [] e = refl
   all_above (x ∷ xs) e =
-      both (below_by order row x) (list_all (below_by order row) xs)
+      and_from (below_by order row x) (list_all (below_by order row) xs)
       (turned_gt (order row x) (order x row) (t.antisymm row x)
       (or_left (is_le (order x row)) (list_any (λ y. is_le (order y row)) xs) e))
       (all_above xs (or_right (is_le (order x row)) (list_any (λ y. is_le (order y row)) xs) e))
@@ -158,7 +154,7 @@ module _ {A : Type 0} {order : A → A → Ordering} (t : IsTotalOrder order) (r
       → list_any (λ y. is_le (order y row)) back ≡ false
       → is_between (below_by order) front back row ≡ true
   between_of front back e f =
-      both (not (list_any (below_by order row) front)) (list_all (below_by order row) back)
+      and_from (not (list_any (below_by order row) front)) (list_all (below_by order row) back)
       (ap not (none_above front e)) (all_above back f)
 
 pub none_left : {R : Type 0} (test : R → Bool) (bs : List (Vec R Global)) (n : ℕ) → length bs ≤ n

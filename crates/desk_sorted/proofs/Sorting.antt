@@ -10,7 +10,8 @@ use Rattle.std.specs.Ordering.{is_lt, ordering_reverse}
 use Rattle.std.proofs.lemmas.Cmp.{tied_itself}
 use Rattle.std.proofs.lemmas.List.Sums.{sum_by-cons}
 use Rattle.std.proofs.lemmas.List.Sorted.{sorted_far, sum_by-IsPermutation}
-use Rattle.desk_base.proofs.Bools.{and_left, and_right, both, not_true}
+use Rattle.std.proofs.lemmas.Bool.{and_from, not-true}
+use Rattle.desk_base.proofs.Bools.{and_left, and_right}
 use Rattle.desk_model.specs.Keys.{below_by}
 use Rattle.desk_model.specs.Lists.{ascends, over}
 use Rattle.desk_model.proofs.Orders.{order_of}
@@ -19,7 +20,7 @@ over_each : {A : Type 0} (lt : A → A → Bool) (x : A) (ys : List A)
     → ((k : ℕ) (d : A) → k < length ys → lt (get_or ys k d) x ≡ false) → over lt x ys ≡ true
 over_each lt x [] h = refl
 over_each lt x (y ∷ ys) h =
-    both (not (lt y x)) (over lt x ys) (ap not (h 0 y (omega arith)))
+    and_from (not (lt y x)) (over lt x ys) (ap not (h 0 y (omega arith)))
     (over_each lt x ys (λ k d less. h (suc k) d (omega arith)))
 
 -- a sorted list ascends
@@ -30,7 +31,7 @@ ascends-sorted lt o [] sorted = refl
 ascends-sorted lt o (x ∷ xs) sorted =
     let tail : IsSortedBy lt xs =
     λ k d p q. rw add-one (rw add-one at (sorted (suc k) d (omega arith) (omega arith))) in
-    both (over lt x xs) (ascends lt xs)
+    and_from (over lt x xs) (ascends lt xs)
     (over_each lt x xs (λ k d less. sorted_far lt o (x ∷ xs) sorted 0 (suc k) d (omega arith)
     (omega arith)))
     (ascends-sorted lt o xs tail)
@@ -52,7 +53,7 @@ module _ {A : Type 0} (order : A → A → Ordering) (total : IsTotalOrder order
   none x y [] e all = refl
   none x y (z ∷ zs) e all =
       let here : below z x ≡ false =
-      not_true (below z x) (and_left (not (below z x)) (over below x zs) all) in
+      not-true (below z x) (and_left (not (below z x)) (over below x zs) all) in
       let above : below y z ≡ true = (order_of total).between y x z e here in
       let nothing : upto y z ≡ 0 = ap (λ b. cond b 0 1) above in
       omega (

@@ -1,7 +1,7 @@
 -- Blocks that are gone through one by one.
 use Rattle.std.proofs.Common.{◌≡◌, ℕ, suc, ◌+◌, ◌-◌, ◌<◌, ◌≤◌, Bool, true, false, cond, List, []}
 use Rattle.std.proofs.Common.{◌∷◌, ◌++◌, length, take, drop, get_or, set, Some, None, sym, refl, ap}
-use Rattle.std.proofs.Common.{◌∙◌, arith, add-one, Bor}
+use Rattle.std.proofs.Common.{◌∙◌, arith, Bor}
 use Rattle.std.specs.Prelude.{filter, find, is_some, ◌||◌, not, slice_get, Option, Result, Ok, Err, IfOk, Vec}
 use Rattle.std.specs.List.{list_all, list_any}
 use Rattle.std.specs.Option.{option_copied, option_or}
@@ -10,20 +10,21 @@ use Rattle.std.specs.declared.alloc.Global.{Global}
 use Rattle.std.specs.declared.cmp.Ordering.{Ordering}
 use Rattle.std.specs.declared.cmp.Ordering.TheVariants.{Less, Equal, Greater}
 use Rattle.std.proofs.lemmas.List.{append-nil, append_assoc, take_at, length-append, length-drop}
-use Rattle.std.proofs.lemmas.List.{length-take-le, drop-set-lt}
+use Rattle.std.proofs.lemmas.List.{length-take-le, drop-set-lt, drop_more}
 use Rattle.std.proofs.lemmas.List.Elements.{filter-append}
 use Rattle.std.proofs.lemmas.List.Folds.{find-append}
 use Rattle.std.proofs.lemmas.Grind.{flat_map-append, take-set_at}
+use Rattle.std.proofs.lemmas.Bool.{and_from, not-true}
 use Rattle.desk_model.specs.Lists.{ascends}
 use Rattle.desk_model.specs.Keys.{below_by}
 use Rattle.desk_model.proofs.Orders.{IsOrder}
 use Rattle.desk_sorted.specs.Blocks.{is_between, rows_in}
 use Rattle.desk_sorted.specs.Sorted.{IsSideOf}
-use Rattle.desk_sorted.proofs.Halving.{first_found}
 use Rattle.desk_sorted.proofs.Blocking.{ascends_front, ascends_back}
 use Rattle.desk_sorted.proofs.Changing.{drop_at}
 use Rattle.desk_sorted.proofs.Searching.{drop_further}
-use Rattle.desk_base.proofs.Bools.{and_left, and_right, both, or_left, or_right, contrary, not_true}
+use Rattle.desk_base.proofs.Bools.{and_left, and_right, or_left, or_right, contrary}
+use Rattle.desk_base.proofs.Lists.{first_found}
 
 -- rows that are moved to the end, and cut off there
 pub turned_out : {A : Type 0} (xs : List A) (low high left : ℕ) → low ≤ high → high ≤ length xs
@@ -53,16 +54,12 @@ turned_out xs low high left le within e =
 
 -- the next block
 
-pub drop_one : {R : Type 0} (bs : List (Vec R Global)) (i : ℕ) (d : Vec R Global) → i < length bs
-    → drop i bs ≡ get_or bs i d ∷ drop (i + 1) bs
-drop_one bs i d lt = drop_at bs i d lt ∙ ap (λ k. get_or bs i d ∷ drop k bs) (sym (add-one i))
-
 pub block_ascends : {R : Type 0} (below : R → R → Bool) (bs : List (Vec R Global)) (i : ℕ)
     (d : Vec R Global) → i < length bs → ascends below (rows_in (drop i bs)) ≡ true
     → ascends below (get_or bs i d).items ≡ true
 block_ascends {R = R} below bs i d lt up =
     ascends_front below (get_or bs i d).items (rows_in (drop (i + 1) bs))
-    (ap (λ (l : List (Vec R Global)). ascends below (rows_in l)) (sym (drop_one bs i d lt)) ∙ up)
+    (ap (λ (l : List (Vec R Global)). ascends below (rows_in l)) (sym (drop_more bs i d lt)) ∙ up)
 
 -- the rows of a block, seen as a slice
 module _ {R : Type 0} (bs : List (Vec R Global)) (i : ℕ) (d : Vec R Global) {slice : List R}
@@ -83,14 +80,14 @@ pub rest_ascends : {R : Type 0} (below : R → R → Bool) (bs : List (Vec R Glo
     → ascends below (rows_in (drop (i + 1) bs)) ≡ true
 rest_ascends {R = R} below bs i d lt up =
     ascends_back below (get_or bs i d).items (rows_in (drop (i + 1) bs))
-    (ap (λ (l : List (Vec R Global)). ascends below (rows_in l)) (sym (drop_one bs i d lt)) ∙ up)
+    (ap (λ (l : List (Vec R Global)). ascends below (rows_in l)) (sym (drop_more bs i d lt)) ∙ up)
 
 -- a block and those after it
 pub parted : {R : Type 0} (bs : List (Vec R Global)) (at : ℕ) (b : Vec R Global)
     (back : List (Vec R Global)) → at < length bs → drop at bs ≡ b ∷ back
     → (b ≡ get_or bs at b) × (back ≡ drop (suc at) bs)
 parted bs at b back lt e =
-    let both : b ∷ back ≡ get_or bs at b ∷ drop (suc at) bs = sym e ∙ drop_at bs at b lt in
+    let and_from : b ∷ back ≡ get_or bs at b ∷ drop (suc at) bs = sym e ∙ drop_at bs at b lt in
     (cc, cc)
 
 -- the first that is sought
@@ -105,7 +102,7 @@ pub find_split : {R : Type 0} (test : R → Bool) (bs : List (Vec R Global)) (i 
     → find test (rows_in (drop i bs))
     ≡ option_or (find test (get_or bs i d).items) (find test (rows_in (drop (i + 1) bs)))
 find_split {R = R} test bs i d lt =
-    ap (λ (l : List (Vec R Global)). find test (rows_in l)) (drop_one bs i d lt)
+    ap (λ (l : List (Vec R Global)). find test (rows_in l)) (drop_more bs i d lt)
     ∙ find-append test (get_or bs i d).items (rows_in (drop (i + 1) bs))
 
 pub find_here : {R : Type 0} (test : R → Bool) (bs : List (Vec R Global)) (i : ℕ) (d : Vec R Global)
@@ -136,7 +133,7 @@ pub filter_split : {R : Type 0} (test : R → Bool) (bs : List (Vec R Global)) (
     → filter test (rows_in (drop i bs)) ≡ filter test (get_or bs i d).items
     ++ filter test (rows_in (drop (i + 1) bs))
 filter_split {R = R} test bs i d lt =
-    ap (λ (l : List (Vec R Global)). filter test (rows_in l)) (drop_one bs i d lt)
+    ap (λ (l : List (Vec R Global)). filter test (rows_in l)) (drop_more bs i d lt)
     ∙ filter-append test (get_or bs i d).items (rows_in (drop (i + 1) bs))
 
 pub more_found : {R : Type 0} (test : R → Bool) (bs : List (Vec R Global)) (i : ℕ)
@@ -239,9 +236,9 @@ module _ {A : Type 0} (order : A → A → Ordering) (o : IsOrder (below_by orde
       → is_between (below_by order) (filter (λ y. not (at y)) front) (filter (λ y. not (at y)) back)
       row ≡ true
   between_kept front back e =
-      both (not (list_any (below_by order row) (filter (λ y. not (at y)) front)))
+      and_from (not (list_any (below_by order row) (filter (λ y. not (at y)) front)))
       (list_all (below_by order row) (filter (λ y. not (at y)) back))
-      (ap not (front_kept front (not_true (list_any (below_by order first) front)
+      (ap not (front_kept front (not-true (list_any (below_by order first) front)
       (and_left (not (list_any (below_by order first) front)) (list_all (below_by order first) back)
       e))))
       (back_kept back (and_right (not (list_any (below_by order first) front))
@@ -255,7 +252,7 @@ pub all_between : {A : Type 0} (order : A → A → Ordering) → IsOrder (below
     (filter (λ y. not (at y)) back)) more ≡ true
 all_between order o side splits at meets first front back [] here all e = refl
 all_between order o side splits at meets first front back (x ∷ xs) here all e =
-    both (is_between (below_by order) (filter (λ y. not (at y)) front)
+    and_from (is_between (below_by order) (filter (λ y. not (at y)) front)
     (filter (λ y. not (at y)) back) x)
     (list_all (is_between (below_by order) (filter (λ y. not (at y)) front)
     (filter (λ y. not (at y)) back)) xs)

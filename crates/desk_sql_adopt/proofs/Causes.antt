@@ -6,8 +6,8 @@ use Rattle.desk_model.specs.declared.command.Fault.{Fault}
 use Rattle.desk_model.specs.Tables.{Tables}
 use Rattle.desk_sql_layout.specs.Held.{seen_of}
 use Rattle.desk_sql_layout.specs.Causes.{AreWritten, HasCauseIf}
+use Rattle.desk_sql_layout.proofs.Clean.{clean_before}
 use Rattle.desk_sql_adopt.specs.Reading.{HasRead}
-use Rattle.desk_sql_adopt.proofs.Spared.{clean_before}
 
 -- the disk was clean before what was read
 pub read_clean : {A : Type 0} (old new : State) (r : Result A Fault) → HasRead old new r

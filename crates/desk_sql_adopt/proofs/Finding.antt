@@ -4,6 +4,7 @@ use Rattle.std.proofs.Common.{IfOk, Ok, Err, Result, refl, sym, ap, subst}
 use Rattle.std.specs.List.{AllByRecursion}
 use Rattle.std.specs.Result.{IsErrAnd}
 use Rattle.std.proofs.lemmas.Result.{IfOk-weaker}
+use Rattle.desk_base.proofs.Lists.{filter-true}
 use Rattle.sqlite_trees.specs.declared.store.Store.{Ghosts}
 use Rattle.sqlite_value.specs.Order.{Row, column}
 use Rattle.sqlite_sql.specs.Term.{Term}
@@ -21,18 +22,18 @@ use Rattle.desk_sql_layout.specs.Stored.{cells}
 use Rattle.desk_sql_layout.proofs.Queries.{env, query_on}
 use Rattle.desk_sql_layout.specs.Causes.{HasCause, HasCauseIf, IsAsked, IsRow}
 use Rattle.desk_sql_layout.proofs.Causes.{rows_cause}
-use Rattle.desk_sql_layout.proofs.HolderLemmas.{all_pass}
 use Rattle.desk_sql_layout.proofs.Finding as lookup
 use Rattle.desk_sql_layout.proofs.Finding.{FindsRows}
 use Rattle.desk_sql_layout.proofs.Selecting.{as_declared}
 use Rattle.desk_sql_layout.proofs.Views.{View}
+use Rattle.desk_sql_layout.proofs.Clean.{clean_before}
 use Rattle.desk_sql_adopt.specs.Finding.{Counts, Finds}
 use Rattle.desk_sql_adopt.specs.Reading.{Asks, HasRead, HasStayed, IsSpared}
 use Rattle.desk_sql_adopt.specs.Revisions.{ShowsCount}
 use Rattle.desk_sql_adopt.proofs.Asking.{shown_unchanged}
 use Rattle.desk_sql_adopt.proofs.Causes.{cause_weaker, read_clean}
 use Rattle.desk_sql_adopt.proofs.Selecting.{IsBareSelect, select_asks}
-use Rattle.desk_sql_adopt.proofs.Spared.{clean_before, of_shown}
+use Rattle.desk_sql_adopt.proofs.Spared.{of_shown}
 
 -- ---- rows that are read
 
@@ -108,7 +109,7 @@ shows_each view names project it accepts acts = record {
       lookup.finds_more
       (lookup.finds_count view [] it.select [] refl accepts (λ cs. true) [] (0 ∷ []) (λ r. refl)
       acts (λ x. true) (λ x. refl))
-      (λ t rows orderly is. sym (is ∙ ap length (all_pass (view.held t))));
+      (λ t rows orderly is. sym (is ∙ ap length (filter-true (view.held t))));
 }
 
 module _ {text : List ℕ} {count : Tables → ℕ} (it : ShowsEach text count) {S : Type 0}

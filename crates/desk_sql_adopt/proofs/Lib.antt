@@ -7,4 +7,4 @@ mod Finding
 pub mod Texts
 pub mod Contents
 mod Listing
-mod Olders
+pub mod Olders

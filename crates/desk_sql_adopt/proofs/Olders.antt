@@ -54,7 +54,7 @@ second_asked : Asked (older_schema Two)
 unfolding understood everything
 second_asked = (refl, (refl, (refl, refl)))
 
-each : {X : Type 0} (xs : List X) → AllByRecursion (λ x. true ≡ true) xs
+pub each : {X : Type 0} (xs : List X) → AllByRecursion (λ x. true ≡ true) xs
 each [] = tt
 each (x ∷ xs) = (refl, each xs)
 

@@ -1,20 +1,17 @@
 -- What contracts see of a connection that was only read.
-use Rattle.std.proofs.Common.{◌⊎◌, inl, inr, ℕ, List, Ok, Err, Result, sym, subst, ◌∙◌, arith}
+use Rattle.std.proofs.Common.{◌⊎◌, inl, inr, ℕ, List, Ok, Err, Result, sym, subst, ◌∙◌}
 use Rattle.std.specs.Result.{IsErr}
 use Rattle.sqlite_trees.specs.Tree.{Trees}
 use Rattle.sqlite_value.specs.Order.{Row}
-use Rattle.sqlite.specs.State.{State, HasCleanDisk, Survives, Shown}
+use Rattle.sqlite.specs.State.{State, HasCleanDisk, Shown}
 use Rattle.sqlite.proofs.StateLemmas.{survives_then}
 use Rattle.desk_model.specs.declared.command.Fault.{Fault}
 use Rattle.desk_model.specs.Tables.{Tables}
 use Rattle.desk_access.specs.Seen.{Kept, Looked, OfRows}
 use Rattle.desk_sql_layout.specs.Held.{Holds, seen_of}
+use Rattle.desk_sql_layout.proofs.Clean.{clean_before}
 use Rattle.desk_sql_adopt.specs.Reading.{Asks, IsSpared, HasRead}
 use Rattle.desk_sql_adopt.proofs.Asking.{shown_unchanged}
-
-pub clean_before : (a b : State) (P : Trees → Type 0) → Survives a b P → HasCleanDisk b
-    → HasCleanDisk a
-clean_before a b P survives clean = omega (arith, survives.clean)
 
 pub kept : (old new : State) → IsSpared old new → Kept (seen_of old) (seen_of new)
 kept old new s = record {

@@ -7,11 +7,11 @@ use Rattle.std.specs.BTreeSet.{contains_text}
 use Rattle.std.specs.Option.{option_map}
 use Rattle.std.specs.List.{AllByRecursion, IsDistinct, list_any}
 use Rattle.std.proofs.lemmas.Bool.{and_parts}
-use Rattle.std.proofs.lemmas.Bool.Decides.{nat_tests}
-use Rattle.std.proofs.lemmas.Slice.Eq.{bytes_eq-Decides}
 use Rattle.std.proofs.lemmas.List.{length-map}
 use Rattle.std.proofs.lemmas.Map.Keys.{IsDistinct-IsPermutation}
 use Rattle.std.proofs.lemmas.List.Sorted.{IsPermutation-sym}
+use Rattle.desk_base.proofs.Numbers.{numbers_equal, same_number, unequal}
+use Rattle.desk_base.proofs.Texts.{texts_equal, same_text}
 use Rattle.sqlite_value.specs.declared.value.Value.TheVariants.{Text}
 use Rattle.sqlite_value.specs.Order.{Row, column}
 use Rattle.sqlite_trees.proofs.ListLemmas.{ascending-map}
@@ -24,11 +24,11 @@ use Rattle.desk_model.specs.Tables.{Tables, applied}
 use Rattle.desk_model.specs.declared.command.Change.TheVariants.{Adopted}
 use Rattle.desk_model.specs.declared.row.AdoptionRow.{AdoptionRow}
 use Rattle.desk_history.specs.FromTables.{adoption_count}
+use Rattle.desk_history.proofs.Concluding.{passed_by}
 use Rattle.desk_sql_layout.specs.Cells.{number, adoption_cells}
 use Rattle.desk_sql_layout.specs.Held.{Holds, rows_of, seen_of}
 use Rattle.desk_sql_layout.specs.Layout.{adoption_table}
 use Rattle.desk_sql_layout.specs.Stored.{cells}
-use Rattle.desk_sql_layout.proofs.Keyed.{same_number, same_text}
 use Rattle.desk_sql_layout.proofs.Selects.{by_unique, mine}
 use Rattle.desk_sql_write.proofs.Lists.{none_out}
 use Rattle.desk_sql_cache.specs.References.{AreAdopted}
@@ -68,7 +68,7 @@ apart t db holds =
 at_key : (d : ℕ) (r : List ℕ) (x : AdoptionRow) → is_adoption d r x ≡ true
     → key_of_cells (adoption_cells x) ≡ number d ∷ Text r ∷ []
 at_key d r x is = let both = and_parts (x.document == d) (bytes_eq x.reference r) is in
-    rw (same_number x.document d both.0, same_text x.reference r both.1) refl
+    rw (numbers_equal x.document d both.0, texts_equal x.reference r both.1) refl
 
 tied : (d : ℕ) (r : List ℕ) (x y : AdoptionRow) → is_adoption d r x ≡ true
     → is_adoption d r y ≡ true → at_one_key x y ≡ true
@@ -151,27 +151,19 @@ none_elsewhere e d r (x ∷ xs) other = go (none_elsewhere e d r xs other) (is_a
         → p x ≡ c → length (filter p (cond (not b) (x ∷ rest) rest))
         ≡ length (cond c (x ∷ filter p xs) (filter p xs))
     go more true true at here = absurd (other
-        (sym (same_number x.document d (and_parts (x.document == d) (bytes_eq x.reference r) at).0)
-        ∙ same_number x.document e here))
+        (sym (numbers_equal x.document d (and_parts (x.document == d)
+        (bytes_eq x.reference r) at).0)
+        ∙ numbers_equal x.document e here))
     go more true false at here = more
     go more false true at here = rw here (let m = more in omega (arith, m))
     go more false false at here = rw here more
 
 -- ---- counts after an adoption
 
-own_document : (d : ℕ) → (d == d) ≡ true
-own_document d = grind (arith, nat_tests)
-
-own_text : (r : List ℕ) → bytes_eq r r ≡ true
-own_text r = (bytes_eq-Decides r r).1 refl
-
-other_document : (d e : ℕ) → (d ≡ e → ⊥) → (d == e) ≡ false
-other_document d e other = grind (arith, nat_tests)
-
 first_counts : (row : AdoptionRow) (rows : List AdoptionRow)
     → length (filter (is_adoption_in row.document) (row ∷ rows))
     ≡ length (filter (is_adoption_in row.document) rows) + 1
-first_counts row rows = rw (own_document row.document) (omega arith)
+first_counts row rows = rw (same_number row.document) (omega arith)
 
 -- of a reference that wasn't adopted
 pub adopted_first : (t : Tables) (row : AdoptionRow)
@@ -198,7 +190,7 @@ adopted_elsewhere : (t : Tables) (row : AdoptionRow) (e : ℕ) → (row.document
 adopted_elsewhere t row e other =
     let without = filter (λ y. not (is_adoption row.document row.reference y)) t.adoption in
     count_put (below_by adoption_order) (is_adoption_in e) row without
-    ∙ (rw (other_document row.document e other) refl
+    ∙ (rw (unequal row.document e other) refl
     ∙ none_elsewhere e row.document row.reference t.adoption other)
 
 -- of a reference that was adopted
@@ -234,7 +226,7 @@ shown s d r found t is = go s.is_open refl
         let any : (u : Tables) → found ≡ licence_for u.adoption d r =
         λ u. is u (λ clean open_. absurd (true≢false (sym open_ ∙ shut))) in
         let none : found ≡ None = any (record t { adoption = [] }) in
-        let own : is_adoption d r row ≡ true = rw (own_document d, own_text r) refl in
+        let own : is_adoption d r row ≡ true = rw (same_number d, same_text r) refl in
         let some : found ≡ Some [] = any (record t { adoption = row ∷ [] }) ∙ rw own refl in
         absurd (let clash : None ≡ Some [] = sym none ∙ some in cc)
 
@@ -310,14 +302,6 @@ kept_read kept d texts t here counts has are =
           ∙ (sym (has reference) ∙ lacks))),
     )
 
-pub or_is : (b c : Bool) → cond b true c ≡ (b || c)
-or_is true c = refl
-or_is false c = refl
-
-pub not_true : (b : Bool) → not b ≡ true → b ≡ false
-not_true false is = refl
-not_true true is = absurd (cc)
-
 -- what the look-up of the reference found says whether it is adopted
 module _ (s : State) (row : AdoptionRow) (reference : List ℕ) (found : Option (List ℕ))
     (named : reference ≡ row.reference)
@@ -344,17 +328,6 @@ module _ (s : State) (row : AdoptionRow) (reference : List ℕ) (found : Option 
           (adopted_again t row s.now licence showing.holds (sym (found_there t held) ∙ e)
           ∙ omega arith)
 
--- other rows are found as before
-find_put : {A : Type 0} (below : A → A → Bool) (p : A → Bool) (x : A) (ys : List A) → p x ≡ false
-    → find p (put below x ys) ≡ find p ys
-find_put below p x [] other = rw other refl
-find_put {A} below p x (y ∷ ys) other = go (below x y) (find_put below p x ys other)
-  where
-    go : (b : Bool) → find p (put below x ys) ≡ find p ys
-        → find p (cond b (x ∷ y ∷ ys) (y ∷ put below x ys)) ≡ find p (y ∷ ys)
-    go true more = rw other refl
-    go false more = ap (λ o. cond (p y) (Some y) o) more
-
 find_rest : {A : Type 0} (p at : A → Bool) → ((y : A) → p y ≡ true → at y ≡ false) → (xs : List A)
     → find p (filter (λ y. not (at y)) xs) ≡ find p xs
 find_rest p at apart [] = refl
@@ -376,7 +349,7 @@ other_licence row t d r other =
     let at = is_adoption row.document row.reference in
     let without = filter (λ y. not (at y)) t.adoption in
     ap (option_map (λ (row : AdoptionRow). row.licence))
-    (find_put (below_by adoption_order) (is_adoption d r) row without other
+    (passed_by (below_by adoption_order) (is_adoption d r) row without other
     ∙ find_rest (is_adoption d r) at apart_from t.adoption)
   where
     apart_from : (y : AdoptionRow) → is_adoption d r y ≡ true
@@ -389,12 +362,12 @@ other_licence row t d r other =
             let own = and_parts (y.document == row.document) (bytes_eq y.reference row.reference)
             e in
             let its = and_parts (y.document == d) (bytes_eq y.reference r) is in
-            let here : row.document ≡ d = sym (same_number y.document row.document own.0)
-            ∙ same_number y.document d its.0 in
-            let named : row.reference ≡ r = sym (same_text y.reference row.reference own.1)
-            ∙ same_text y.reference r its.1 in
+            let here : row.document ≡ d = sym (numbers_equal y.document row.document own.0)
+            ∙ numbers_equal y.document d its.0 in
+            let named : row.reference ≡ r = sym (texts_equal y.reference row.reference own.1)
+            ∙ texts_equal y.reference r its.1 in
             absurd (let clash : true ≡ false =
-            sym (rw (here, named) (rw (own_document d, own_text r) refl)) ∙ other in cc)
+            sym (rw (here, named) (rw (same_number d, same_text r) refl)) ∙ other in cc)
 
 -- an adoption in another document
 pub kept_elsewhere : (row : AdoptionRow) (kept : Adoptions) (t : Tables)
@@ -403,7 +376,7 @@ pub kept_elsewhere : (row : AdoptionRow) (kept : Adoptions) (t : Tables)
 kept_elsewhere row kept t other are = (
   are.0 ∙ sym (adopted_elsewhere t row kept.document other),
   λ r lacks. other_licence row t kept.document r
-      (rw (other_document row.document kept.document other) refl) ∙ are.1 r lacks,
+      (rw (unequal row.document kept.document other) refl) ∙ are.1 r lacks,
 )
 
 -- and one in the same document

@@ -1,9 +1,9 @@
 -- Rows of a table, no two of which have the same key.
-use Rattle.std.proofs.Common.{◌≡◌, ◌∙◌, ℕ, Bool, true, false, List, [], ◌∷◌, map, refl, ap, subst}
-use Rattle.std.proofs.Common.{is_eq, Less, Equal, Greater, Ordering}
+use Rattle.std.proofs.Common.{◌≡◌, ◌∙◌, ℕ, Bool, true, false, List, [], ◌∷◌, map, ap, subst}
+use Rattle.std.proofs.Common.{is_eq}
 use Rattle.std.specs.List.{AllByRecursion, IsDistinct}
-use Rattle.std.specs.Ordering.{ordering_reverse}
 use Rattle.std.proofs.lemmas.Cmp.{tied_itself}
+use Rattle.desk_base.proofs.Orders.{is_eq-reverse}
 use Rattle.sqlite_value.specs.Order.{Row}
 use Rattle.sqlite_trees.specs.Tree.{IsAscending}
 use Rattle.sqlite_sql.specs.Query.{key_cmp}
@@ -13,11 +13,6 @@ use Rattle.desk_sql_layout.proofs.Ties.{keys}
 -- the values of the key in these places are the same
 abbrev pub tie : List ℕ → Row → Row → Bool
 tie places k l = is_eq (key_cmp 0 (keys places) k l)
-
-is_eq-reverse : (o : Ordering) → is_eq (ordering_reverse o) ≡ is_eq o
-is_eq-reverse Less = refl
-is_eq-reverse Equal = refl
-is_eq-reverse Greater = refl
 
 pub tie_flips : (places : List ℕ) (k l : Row) → tie places k l ≡ tie places l k
 tie_flips places k l = ap is_eq ((key_cmp_total (keys places) 0).antisymm k l)

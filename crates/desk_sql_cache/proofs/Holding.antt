@@ -18,16 +18,18 @@ use Rattle.std.proofs.Math.Seq.{take-suc}
 use Rattle.std.proofs.lemmas.List.Folds.{list_any-append}
 use Rattle.std.proofs.lemmas.Map.Keys.{IsDistinct-IsPermutation}
 use Rattle.std.proofs.lemmas.List.Sorted.{IsPermutation-sym}
+use Rattle.std.proofs.lemmas.Bool.{and_from}
+use Rattle.std.proofs.Math.Bool.{or_comm, or-false}
 use Rattle.sqlite_value.specs.declared.value.Value.TheVariants.{Text}
 use Rattle.sqlite_value.specs.Order.{Row, column}
 use Rattle.sqlite_trees.proofs.ListLemmas.{ascending-map}
 use Rattle.sqlite.specs.Effect.{Database}
 use Rattle.sqlite.specs.State.{State, HasCleanDisk}
-use Rattle.desk_base.proofs.Bools.{and_left, and_right, both, together}
+use Rattle.desk_base.proofs.Bools.{and_left, and_right, together}
 use Rattle.desk_base.proofs.Numbers.{numbers_equal}
 use Rattle.desk_base.proofs.Texts.{same_text, texts_equal}
 use Rattle.desk_model.specs.Keys.{below_by, is_choice_of, is_release, release_below}
-use Rattle.desk_model.specs.Lists.{IsIn, ascends, over, put, replaced, updated}
+use Rattle.desk_model.specs.Lists.{IsIn, ascends, over, replaced, updated}
 use Rattle.desk_model.specs.Texts.{text_below}
 use Rattle.desk_model.specs.Tables.{Tables, applied, with_release_state, withdrawn_release}
 use Rattle.desk_model.specs.declared.command.Change.{Change}
@@ -50,6 +52,7 @@ use Rattle.desk_memory_rows.specs.Holders.{AreHolders, holder_of, holder_order, 
 use Rattle.desk_memory_rows.specs.Holders.{is_held, is_holder, is_holding}
 use Rattle.desk_memory_rows.specs.declared.holders.Holder.{Holder}
 use Rattle.desk_history.proofs.Distinct.{from_filter, from_put}
+use Rattle.desk_history.proofs.Rows.{list_any-put}
 use Rattle.desk_memory_rows.proofs.Holding.{holders_kept}
 use Rattle.desk_sql_layout.specs.Cells.{release_cells}
 use Rattle.desk_sql_layout.specs.Held.{Holds, rows_of, seen_of}
@@ -142,20 +145,6 @@ one_is_of_none releases (y ∷ ys) (suc i) row low is none = go
 
 -- ---- one more choice
 
--- a row that is put is among those that are there
-any_put : {A : Type 0} (below : A → A → Bool) (p : A → Bool) (x : A) (ys : List A)
-    → list_any p (put below x ys) ≡ (p x || list_any p ys)
-any_put below p x [] = refl
-any_put {A} below p x (y ∷ ys) = go (below x y) (p x) (p y) refl refl (any_put below p x ys)
-  where
-    go : (b c d : Bool) → p x ≡ c → p y ≡ d → list_any p (put below x ys) ≡ (p x || list_any p ys)
-        → list_any p (cond b (x ∷ y ∷ ys) (y ∷ put below x ys)) ≡ (p x || list_any p (y ∷ ys))
-    go true c d e f more = refl
-    go false true true e f more = rw (e, f) refl
-    go false true false e f more = rw (e, f) (rw e at more)
-    go false false true e f more = rw (e, f) refl
-    go false false false e f more = rw (e, f) (rw e at more)
-
 -- rows that are left out pass as the one that is put does
 any_left : {A : Type 0} (p at : A → Bool) (b : Bool) (ys : List A)
     → ((y : A) → at y ≡ true → p y ≡ b)
@@ -173,24 +162,14 @@ any_left {A} p at false (y ∷ ys) same = go (at y) (p y) refl refl (any_left p 
     go false true e f more = rw f refl
     go false false e f more = rw f more
 
-either_way : (a b : Bool) → (a || b) ≡ (b || a)
-either_way true true = refl
-either_way true false = refl
-either_way false true = refl
-either_way false false = refl
-
-or_none : (a : Bool) → (a || false) ≡ a
-or_none true = refl
-or_none false = refl
-
 any_more : {A : Type 0} (p : A → Bool) (xs : List A) (i : ℕ) (x : A) → i < length xs
     → x ≡ get_or xs i x → list_any p (take (i + 1) xs) ≡ (p x || list_any p (take i xs))
 any_more p xs i x low is =
     ap (λ n. list_any p (take n xs)) (add-one i)
     ∙ (ap (list_any p) (take-suc xs i x low ∙ ap (λ z. take i xs ++ z ∷ []) (sym is))
     ∙ (list_any-append p (take i xs) (x ∷ [])
-    ∙ (ap (λ b. list_any p (take i xs) || b) (or_none (p x))
-    ∙ either_way (list_any p (take i xs)) (p x))))
+    ∙ (ap (λ b. list_any p (take i xs) || b) (or-false (p x))
+    ∙ or_comm (list_any p (take i xs)) (p x))))
 
 module _ (r : List ℕ) (place d : ℕ) (p : List ℕ) (r' : List ℕ) (d' : ℕ) (p' : List ℕ) where
   -- a holder that is recorded again is as it was
@@ -212,7 +191,7 @@ module _ (r : List ℕ) (place d : ℕ) (p : List ℕ) (r' : List ℕ) (d' : ℕ
       (replaced (below_by holder_order) (is_holding d p place r) (holder_of r place d p) all)
       ≡ (is_holder r' d' p' (holder_of r place d p) || list_any (is_holder r' d' p') all)
   any_noted all =
-      any_put (below_by holder_order) (is_holder r' d' p') (holder_of r place d p)
+      list_any-put (below_by holder_order) (is_holder r' d' p') (holder_of r place d p)
       (filter (λ y. not (is_holding d p place r y)) all)
       ∙ any_left (is_holder r' d' p') (is_holding d p place r)
       (is_holder r' d' p' (holder_of r place d p)) all held_alike
@@ -348,13 +327,13 @@ read_held s releases choices all held clean read t holds same =
 rows_ascend : (rows : List ReleaseRow) → Ascends release_below rows
     → ascends (below_by release_order) rows ≡ true
 rows_ascend [] up = refl
-rows_ascend (y ∷ ys) up = both (over (below_by release_order) y ys)
+rows_ascend (y ∷ ys) up = and_from (over (below_by release_order) y ys)
     (ascends (below_by release_order) ys) (over_all ys up.0) (rows_ascend ys up.1)
   where
     over_all : (zs : List ReleaseRow) → ((z : ReleaseRow) → IsIn z zs → release_below z y ≡ false)
         → over (below_by release_order) y zs ≡ true
     over_all [] below = refl
-    over_all (z ∷ zs) below = both (not (below_by release_order z y))
+    over_all (z ∷ zs) below = and_from (not (below_by release_order z y))
         (over (below_by release_order) y zs) (ap not (below z (inl refl)))
         (over_all zs (λ w later. below w (inr later)))
 

@@ -1,11 +1,14 @@
 -- What is kept of the last look-ups, and what becomes of it.
-use Rattle.std.proofs.Common.{◌≡◌, ◌∙◌, ◌∷◌, [], ℕ, Bool, true, false, cond, List, Option, Some}
+use Rattle.std.proofs.Common.{◌≡◌, ◌∙◌, ◌∷◌, [], ℕ, List, Option, Some}
 use Rattle.std.proofs.Common.{None, refl, ap, sym, subst, find}
 use Rattle.std.specs.Prelude.{bytes_eq}
 use Rattle.std.specs.Option.{option_map, option_or}
 use Rattle.std.proofs.lemmas.Bool.{and_parts}
 use Rattle.std.proofs.lemmas.List.Folds.{find-append}
 use Rattle.desk_base.specs.declared.profile.Profile.{Profile}
+use Rattle.desk_base.proofs.Numbers.{numbers_equal}
+use Rattle.desk_base.proofs.Texts.{texts_equal}
+use Rattle.desk_base.proofs.Lists.{found_passes}
 use Rattle.desk_model.specs.History.{rule_for}
 use Rattle.desk_model.specs.Keys.{is_document, is_rule}
 use Rattle.desk_model.specs.Tables.{Tables, applied}
@@ -14,7 +17,6 @@ use Rattle.desk_model.specs.declared.command.Change.TheVariants as change
 use Rattle.desk_model.specs.declared.reading.Rule.{Rule}
 use Rattle.desk_model.specs.declared.row.DocumentRow.{DocumentRow}
 use Rattle.desk_history.specs.FromTables.{known_document}
-use Rattle.desk_sql_layout.proofs.Keyed.{same_number, same_text}
 use Rattle.desk_sql_cache.specs.Last.{AreLast, IsDocument}
 use Rattle.desk_sql_cache.specs.Repeated.{no_choices, no_conclusions}
 
@@ -56,17 +58,6 @@ last_stays change t (Some known) is = record {
   choices = tt;
 }
 
--- what is found passes the test
-found_passes : {A : Type 0} (test : A → Bool) (xs : List A) (x : A) → find test xs ≡ Some x
-    → test x ≡ true
-found_passes test [] x e = cc
-found_passes test (y ∷ ys) x e = either (found_passes test ys x) (test y) refl e
-  where
-    either : (find test ys ≡ Some x → test x ≡ true) → (b : Bool) → test y ≡ b
-        → cond b (Some y) (find test ys) ≡ Some x → test x ≡ true
-    either rest true f g = let same : y ≡ x = cc in subst (λ z. test z ≡ true) same f
-    either rest false f g = rest g
-
 number_is : (rows : List DocumentRow) (number : ℕ) (known : ℕ × Profile)
     → option_map known_document (find (is_document number) rows) ≡ Some known → known.0 ≡ number
 number_is rows number known is = by_row (find (is_document number) rows) refl is
@@ -75,7 +66,7 @@ number_is rows number known is = by_row (find (is_document number) rows) refl is
         → option_map known_document found ≡ Some known → known.0 ≡ number
     by_row None e is = absurd (cc)
     by_row (Some row) e is =
-        let own : row.number ≡ number = same_number row.number number
+        let own : row.number ≡ number = numbers_equal row.number number
         (found_passes (is_document number) rows row e) in
         let same : known_document row ≡ known = cc in subst (λ k. k.0 ≡ number) same own
 
@@ -94,5 +85,5 @@ pub rule_is_own : (rules : List Rule) (term form : List ℕ) (rule : Rule)
 rule_is_own rules term form rule is =
     let both = and_parts (bytes_eq rule.term term) (bytes_eq rule.form form)
     (found_passes (is_rule term form) rules rule is) in
-    subst (λ x. rule_for rules x rule.form ≡ Some rule) (sym (same_text rule.term term both.0))
-    (subst (λ x. rule_for rules term x ≡ Some rule) (sym (same_text rule.form form both.1)) is)
+    subst (λ x. rule_for rules x rule.form ≡ Some rule) (sym (texts_equal rule.term term both.0))
+    (subst (λ x. rule_for rules term x ≡ Some rule) (sym (texts_equal rule.form form both.1)) is)

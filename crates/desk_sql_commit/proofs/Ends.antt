@@ -12,12 +12,12 @@ use Rattle.desk_model.specs.declared.command.Change.{Change}
 use Rattle.desk_model.specs.declared.command.Fault.{Fault}
 use Rattle.desk_sql_layout.specs.Faults.{fault_by}
 use Rattle.desk_sql_layout.specs.Held.{HasRows, rows_of}
+use Rattle.desk_sql_layout.proofs.Clean.{clean_before}
 use Rattle.desk_sql_commit.specs.Committing.{CommitFails, Done}
 use Rattle.desk_sql_write.specs.Replacing.{rows_before, rows_after}
 use Rattle.desk_sql_write.specs.Taking.{FailsFor, Uses, rows_in}
 use Rattle.desk_sql_write.specs.Written.{Wrote}
 use Rattle.desk_sql_write.proofs.Causes.{later_caused, ends_caused}
-use Rattle.desk_sql_write.proofs.Inside.{clean_before}
 
 module _ {S : Type 0} (g : Ghosts S) (old : Held S) (last new : State) (is_new : Bool)
     (change : Change) where

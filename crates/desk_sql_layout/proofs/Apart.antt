@@ -1,6 +1,7 @@
 -- No two rows of a table have the same values in a key that is declared unique.
 use Rattle.std.proofs.Common.{◌≡◌, inl, inr, ℕ, ℤ, ◌≤◌, Bool, true, false, not, cond, List, [], ◌∷◌}
 use Rattle.std.proofs.Common.{filter, length, refl, ap, subst, arith}
+use Rattle.std.proofs.lemmas.Bool.{not-true}
 use Rattle.std.specs.Prelude.{◌&&◌}
 use Rattle.std.specs.List.{AllByRecursion, list_any}
 use Rattle.std.specs.declared.cmp.Ordering.TheVariants.{Less}
@@ -26,7 +27,7 @@ differ_ints : (m n : ℤ) → value_cmp (Int m) (Int n) ≡ Less → differ (Int
 unfolding binary
 differ_ints m n less = rw less refl
 
-differ_is : (a b : Value) → is_int a ≡ true → is_int b ≡ true → value_cmp a b ≡ Less
+pub differ_is : (a b : Value) → is_int a ≡ true → is_int b ≡ true → value_cmp a b ≡ Less
     → differ a b ≡ true
 differ_is a b one two less =
     let x = int_is a one in
@@ -66,10 +67,6 @@ one_passes p (r ∷ rows) up keyed same = go
         omega (arith, ap length none)
     go more false is = more
 
-not_false : (b : Bool) → not b ≡ true → b ≡ false
-not_false true e = cc
-not_false false e = refl
-
 -- if the first is true, the second isn't
 second : (a b : Bool) → (a && b) ≡ false → a ≡ true → b ≡ false
 second true b e is = e
@@ -90,7 +87,7 @@ one_at_most schema table index db listed kept guarded obeys up keyed places key 
     let all = all_has (λ t. AllByRecursion (λ row. passes Unique schema db t row ≡ true)
     (db t.tree)) schema.tables table (obeys.rules Unique) listed in
     let mine = all_has (λ row. passes Unique schema db table row ≡ true) rows b all there in
-    let clear = not_false (guards index table && clashes o at rows b)
+    let clear = not-true (guards index table && clashes o at rows b)
     (test_has (λ i. not (guards i table && clashes i.order i.columns rows b)) schema.indexes index
     mine kept) in
     let free = second (guards index table) (clashes o at rows b) clear guarded in

@@ -8,7 +8,7 @@ use Rattle.desk_model.specs.Lists.{put, put_all, updated, IsIn}
 use Rattle.desk_model.specs.Keys.{release_below, change_below}
 use Rattle.desk_model.specs.Texts.{text_below}
 use Rattle.desk_history.specs.Laws.{Ascends}
-use Rattle.desk_history.proofs.Members.{in_cases, in_map, from_map}
+use Rattle.desk_history.proofs.Members.{in_map, from_map}
 use Rattle.desk_sql_layout.specs.Held.{AreNumbered}
 use Rattle.desk_model.proofs.Orders.{IsOrder, order_of}
 use Rattle.desk_base.proofs.Numbers.{not_less}
@@ -94,16 +94,6 @@ ascends_filter {A} below p (x ∷ xs) up = go (ascends_filter below p xs up.1) (
         → Ascends below (cond b (x ∷ filter p xs) (filter p xs))
     go more true = (λ z m. up.0 z (from_filter p z xs m), more)
     go more false = more
-
--- rows after others
-pub ascends_behind : {A : Type 0} (below : A → A → Bool) (xs ys : List A) → Ascends below xs
-    → Ascends below ys → ((x y : A) → IsIn x xs → IsIn y ys → below y x ≡ false)
-    → Ascends below (xs ++ ys)
-ascends_behind below [] ys up more after = more
-ascends_behind below (x ∷ xs) ys up more after = (
-  λ z m. elim (in_cases z xs ys m) [ inl old ↦ up.0 z old | inr new ↦ after x z (inl refl) new ],
-  ascends_behind below xs ys up.1 more (λ u y n m. after u y (inr n) m),
-)
 
 -- ---- rows by a key
 

@@ -5,6 +5,7 @@ use Rattle.std.specs.Prelude.{◌&&◌, ◌==◌, nat_le, bytes_eq}
 use Rattle.std.proofs.lemmas.Bool.Decides.{nat_tests}
 use Rattle.std.proofs.lemmas.Int.{ints}
 use Rattle.std.proofs.lemmas.Map.Text.{is_eq-slice_cmp}
+use Rattle.std.proofs.Math.Bool.{and-true}
 use Rattle.std.specs.Cmp.Lexicographic.{slice_cmp}
 use Rattle.std.specs.Ordering.{is_eq, is_ge, is_le, int_cmp, nat_cmp}
 use Rattle.sqlite_value.specs.declared.keys.Collation.TheVariants.{Binary}
@@ -54,10 +55,6 @@ unfolding binary
 text_test a b = rw (value_cmp-Text a b)
     (truth_is (is_eq (slice_cmp nat_cmp a b)) ∙ is_eq-slice_cmp a b)
 
-pub and_true : (b : Bool) → (b && true) ≡ b
-and_true true = refl
-and_true false = refl
-
 -- a column equals a parameter
 abbrev pub same : ℕ → ℕ → Term
 same at param = op2 (Compare Eq Binary) (col 1 at) (col 0 param)
@@ -84,7 +81,7 @@ pub run_test : (first last n : ℕ)
     && (is_true (binary (Compare Le Binary) (Int (pos n)) (Int (pos last))) && true))
     ≡ (nat_le first n && nat_le n last)
 run_test first last n = (λ i. ge_test n first i && (le_test n last i && true))
-    ∙ ap (λ b. nat_le first n && b) (and_true (nat_le n last))
+    ∙ ap (λ b. nat_le first n && b) (and-true (nat_le n last))
 
 -- a column is a number in the range from one parameter to the next
 abbrev pub within : ℕ → List Term

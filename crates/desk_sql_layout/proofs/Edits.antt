@@ -1,6 +1,6 @@
 -- What the edits of a statement do to a list of rows, apart from its order.
 use Rattle.std.proofs.Common.{◌≡◌, ℤ, Bool, true, false, not, List, [], ◌∷◌, ◌++◌, map, filter, refl, sym, ap, ◌∙◌}
-use Rattle.std.specs.Prelude.{◌||◌, if◌then◌else◌}
+use Rattle.std.specs.Prelude.{if◌then◌else◌}
 use Rattle.std.specs.List.{list_any}
 use Rattle.std.specs.List.Sorted.{IsPermutation}
 use Rattle.std.specs.declared.cmp.Ordering.{Ordering}
@@ -13,6 +13,8 @@ use Rattle.sqlite_value.specs.declared.value.Value.TheVariants.{Int}
 use Rattle.sqlite_value.specs.Order.{Row, value_cmp}
 use Rattle.sqlite_value.proofs.OrderLemmas.{value_cmp_total}
 use Rattle.std.proofs.lemmas.Cmp.{tied_itself}
+use Rattle.desk_base.proofs.Lists.{filter_twice}
+use Rattle.desk_base.proofs.Orders.{equal_is}
 use Rattle.sqlite_trees.specs.Tree.{rowid, has_rowid, put_row, without_rowid, IsTable}
 use Rattle.sqlite_trees.proofs.ListLemmas.{filter_all, filter_same, all_of, all-permutation}
 use Rattle.sqlite_rules.specs.Edit.{is_taken, are_fresh, put_all, without_all}
@@ -60,19 +62,6 @@ put_all_fresh (r ∷ news) rows fresh = go (put_all_fresh news (put_row r rows))
 abbrev pub goes : List ℤ → Row → Bool
 goes ids r = list_any (λ id. has_rowid id r) ids
 
-filter_twice : {X : Type 0} (p q : X → Bool) (xs : List X)
-    → filter (λ x. not (q x)) (filter (λ x. not (p x)) xs) ≡ filter (λ x. not (p x || q x)) xs
-filter_twice p q [] = refl
-filter_twice {X} p q (x ∷ xs) = go (filter_twice p q xs) (p x) (q x) refl refl
-  where
-    go : filter (λ x. not (q x)) (filter (λ x. not (p x)) xs) ≡ filter (λ x. not (p x || q x)) xs
-        → (b c : Bool) → p x ≡ b → q x ≡ c
-        → filter (λ x. not (q x)) (filter (λ x. not (p x)) (x ∷ xs))
-        ≡ filter (λ x. not (p x || q x)) (x ∷ xs)
-    go more true c is it = rw is more
-    go more false true is it = rw (is, it) more
-    go more false false is it = rw (is, it) (ap (λ l. x ∷ l) more)
-
 pub without_all_is : (ids : List ℤ) (rows : List Row)
     → without_all rows ids ≡ filter (λ r. not (goes ids r)) rows
 without_all_is [] rows = sym (filter_all (λ r. true) rows
@@ -83,11 +72,6 @@ without_all_is (id ∷ ids) rows = without_all_is ids (without_rowid id rows)
 pub has_permuted : {X : Type 0} (xs ys : List X) (x : X) → IsPermutation xs ys → Has ys x → Has xs x
 has_permuted xs ys x same = all_has (Has xs) ys x
     (all-permutation (Has xs) xs ys same (all_from (Has xs) xs (λ e h. h)))
-
-equal_is : (o : Ordering) → is_eq o ≡ true → o ≡ Equal
-equal_is Less h = absurd (cc)
-equal_is Equal h = refl
-equal_is Greater h = absurd (cc)
 
 -- these are the rowids of the rows that pass
 pub record AreIdsOf (p : Row → Bool) (rows : List Row) (ids : List ℤ) : Type 0 where

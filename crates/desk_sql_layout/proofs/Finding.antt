@@ -2,6 +2,7 @@
 use Rattle.std.proofs.Common.{◌≡◌, ◌∙◌, ℕ, Bool, true, false, List, [], ◌∷◌, zero, suc, map, filter}
 use Rattle.std.proofs.Common.{length, refl, sym, ap, subst, is_eq, is_lt}
 use Rattle.std.specs.List.{AllByRecursion}
+use Rattle.desk_base.proofs.Lists.{filter-true}
 use Rattle.sqlite_value.specs.Order.{Row, column}
 use Rattle.sqlite_trees.specs.Tree.{IsAscending}
 use Rattle.sqlite_trees.proofs.ListLemmas.{ascending-filter, map-map}
@@ -17,7 +18,6 @@ use Rattle.desk_sql_layout.specs.Stored.{cells}
 use Rattle.desk_sql_layout.proofs.Queries.{query_on, passes, env}
 use Rattle.desk_sql_layout.specs.Causes.{AreWritten, IsAsked, IsRow, IsWritten}
 use Rattle.desk_sql_layout.proofs.Causes.{filter_written}
-use Rattle.desk_sql_layout.proofs.HolderLemmas.{all_pass}
 use Rattle.desk_sql_layout.proofs.Selecting.{IsSelect, as_declared, select_asked}
 use Rattle.desk_sql_layout.proofs.Selects.{apart_shown, at_one_key, counts, keys_are, order_by, shows}
 use Rattle.desk_sql_layout.proofs.Ties.{keys, picked}
@@ -70,8 +70,8 @@ finds_mapped f g {xs} it = record {
 pub finds_every : {text : List ℕ} {params : Row} {X : Type 0} {f : X → Row} {xs : Tables → List X}
     → FindsRows text params f (λ t. filter (λ x. true) (xs t)) → FindsRows text params f xs
 finds_every {f = f} {xs = xs} it = record {
-  finds = finds_more it.finds (λ t rows orderly is. is ∙ ap (map f) (all_pass (xs t)));
-  written = λ t are. subst (λ l. AllByRecursion IsRow (map f l)) (all_pass (xs t))
+  finds = finds_more it.finds (λ t rows orderly is. is ∙ ap (map f) (filter-true (xs t)));
+  written = λ t are. subst (λ l. AllByRecursion IsRow (map f l)) (filter-true (xs t))
       (it.written t are);
 }
 

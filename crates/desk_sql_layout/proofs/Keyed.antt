@@ -1,12 +1,11 @@
 -- The orders of the tables, and tests for their keys.
-use Rattle.std.proofs.Common.{◌≡◌, ℕ, pos, Bool, true, false, List, [], ◌∷◌, refl, ap, ◌∙◌, arith, is_lt}
-use Rattle.std.specs.Prelude.{◌&&◌, ◌||◌, ◌==◌, nat_lt, bytes_eq}
+use Rattle.std.proofs.Common.{◌≡◌, ℕ, pos, Bool, false, List, [], ◌∷◌, refl, ap, ◌∙◌, arith, is_lt}
+use Rattle.std.specs.Prelude.{◌&&◌, ◌||◌, ◌==◌, nat_lt}
 use Rattle.std.specs.Ordering.{nat_cmp, int_cmp, ordering_then}
 use Rattle.std.specs.Cmp.Lexicographic.{slice_cmp}
 use Rattle.std.specs.declared.cmp.Ordering.{Ordering}
 use Rattle.std.proofs.lemmas.Bool.Decides.{nat_tests}
 use Rattle.std.proofs.lemmas.Int.{ints}
-use Rattle.std.proofs.lemmas.Slice.Eq.{bytes_eq-Decides}
 use Rattle.sqlite_value.specs.declared.value.Value.TheVariants.{Text}
 use Rattle.sqlite_value.specs.Order.{Row, value_cmp}
 use Rattle.sqlite_value.proofs.OrderLemmas.{value_cmp-Int, value_cmp-Text, then-Equal}
@@ -31,12 +30,6 @@ use Rattle.desk_sql_layout.specs.Held.{package_below}
 use Rattle.desk_sql_layout.proofs.Ties.{keys, ascends}
 
 -- ---- tests
-
-pub same_number : (a b : ℕ) → (a == b) ≡ true → a ≡ b
-same_number a b h = grind (arith, nat_tests)
-
-pub same_text : (a b : List ℕ) → bytes_eq a b ≡ true → a ≡ b
-same_text a b h = (bytes_eq-Decides a b).0 h
 
 -- ---- orders
 
@@ -97,7 +90,7 @@ documents_sorted rows =
     in_order (0 ∷ []) (λ (row : DocumentRow). number row.number ∷ []) document_below rows
     (λ a b. by_number a.number b.number)
 
-two_lower : (a b : ℕ) (o : Ordering)
+pub two_lower : (a b : ℕ) (o : Ordering)
     → is_lt (ordering_then (nat_cmp a b) o) ≡ (nat_lt a b || ((a == b) && is_lt o))
 two_lower a b o = grind (arith, nat_tests)
 

@@ -18,6 +18,7 @@ pub mod Tests
 pub mod Views
 pub mod Finding
 pub mod Calls
+pub mod Clean
 pub mod Causes
 pub mod HolderLemmas
 pub mod Chains

@@ -26,16 +26,6 @@ front_two f g (x ∷ xs) zero d z low is = (x, refl, is, refl)
 front_two f g (x ∷ xs) (suc i) d z low is = let r = front_two f g xs i d z (omega arith) is in
     (r.0, r.1, r.2, ap (λ l. x ∷ l) r.3)
 
--- the first that passes
-pub first_is : {X : Type 0} (p : X → Bool) (xs : List X) → slice_get (filter p xs) 0 ≡ find p xs
-first_is p [] = refl
-first_is {X} p (x ∷ xs) = go (first_is p xs) (p x) refl
-  where
-    go : slice_get (filter p xs) 0 ≡ find p xs → (b : Bool) → p x ≡ b
-        → slice_get (filter p (x ∷ xs)) 0 ≡ find p (x ∷ xs)
-    go more true is = rw is refl
-    go more false is = rw is more
-
 pub first_mapped : {X Y : Type 0} (f : X → Y) (p : X → Bool) (xs : List X)
     → slice_get (map f (filter p xs)) 0 ≡ option_map f (find p xs)
 first_mapped f p [] = refl

@@ -30,6 +30,7 @@ use Rattle.desk_model.specs.declared.command.Change.{Change}
 use Rattle.desk_model.specs.declared.command.Change.TheVariants.{Loaded, Imported, Opened, Attached}
 use Rattle.desk_model.specs.declared.command.Change.TheVariants.{Chosen, Froze, Moved, Withdrew}
 use Rattle.desk_model.specs.declared.command.Change.TheVariants.{Concluded, Adopted}
+use Rattle.desk_model.proofs.Lists.{each_passes, all_pass}
 use Rattle.desk_history.specs.FromTables.{duty_found}
 use Rattle.desk_history.specs.Laws.{Ascends}
 use Rattle.desk_history.proofs.Members.{in_cases}
@@ -40,27 +41,13 @@ use Rattle.desk_sql_layout.specs.Held.{AreNumbered, AreOrderly, package_below}
 use Rattle.desk_sql_layout.specs.Writable.{rise, are_of, is_writable}
 use Rattle.desk_sql_layout.proofs.Ascending.{release_is_order, text_is_order, change_is_order}
 use Rattle.desk_sql_layout.proofs.Ascending.{from_put, ascends_put, ascends_put_all, ascends_filter}
-use Rattle.desk_sql_layout.proofs.Ascending.{ascends_behind, by_key, same_keys, ascends_updated}
+use Rattle.desk_sql_layout.proofs.Ascending.{by_key, same_keys, ascends_updated}
 use Rattle.desk_sql_layout.proofs.Ascending.{numbers_ascend, numbered_on}
-use Rattle.desk_base.proofs.Bools.{and_left, and_right, both}
-use Rattle.desk_history.proofs.Sorting.{frozen_is_order}
+use Rattle.desk_base.proofs.Bools.{and_left, and_right}
+use Rattle.desk_history.proofs.Sorting.{frozen_is_order, joined}
 use Rattle.desk_history.proofs.Concluding.{conclusion_is_order, adoption_is_order}
 
 -- ---- all of a list
-
-pub each_passes : {A : Type 0} (p : A → Bool) (x : A) (xs : List A) → list_all p xs ≡ true
-    → IsIn x xs → p x ≡ true
-each_passes p x [] all there = absurd there
-each_passes p x (y ∷ ys) all (inl e) = subst (λ z. p z ≡ true) e
-    (and_left (p y) (list_all p ys) all)
-each_passes p x (y ∷ ys) all (inr there) = each_passes p x ys (and_right (p y) (list_all p ys) all)
-    there
-
-pub all_pass : {A : Type 0} (p : A → Bool) (xs : List A) → ((x : A) → IsIn x xs → p x ≡ true)
-    → list_all p xs ≡ true
-all_pass p [] each = refl
-all_pass p (x ∷ xs) each = both (p x) (list_all p xs) (each x (inl refl))
-    (all_pass p xs (λ y there. each y (inr there)))
 
 all_both : {A : Type 0} (p : A → Bool) (xs ys : List A) → list_all p xs ≡ true
     → list_all p ys ≡ true → list_all p (xs ++ ys) ≡ true
@@ -78,7 +65,7 @@ at_same a b false same off = grind (arith, nat_tests)
 
 -- ---- numbers
 
-at_most : (n m : ℕ) (ns : List ℕ) → AreNumbered n ns → IsIn m ns → m < n + length ns
+pub at_most : (n m : ℕ) (ns : List ℕ) → AreNumbered n ns → IsIn m ns → m < n + length ns
 at_most n m [] are there = absurd there
 at_most n m (k ∷ ks) are (inl e) = omega (arith, are.0, e)
 at_most n m (k ∷ ks) are (inr there) = omega (arith, at_most (n + 1) m ks are.1 there)
@@ -281,7 +268,7 @@ order_kept (Imported row packages references) t follows writable o =
       documents,
       by_key (λ (row : DocumentRow). row.number) nat_lt (t.document ++ row ∷ [])
           (numbers_ascend 1 _ documents),
-      ascends_behind package_below t.packages packages o.packages
+      joined package_below t.packages packages o.packages
           (packages_ascend row.number packages of up)
           (λ x y old new. after_any x.document y.document (text_below y.id x.id)
           (omega (arith, follows, old_low x old, new_is y new))),
@@ -319,7 +306,7 @@ order_kept (Froze release revision frozen duties changes) t follows writable o =
           (with_release_state Frozen revision) (λ x. refl) t.releases o.sorted.releases,
       ascends_put_all (below_by frozen_order) frozen_is_order frozen t.frozen o.sorted.frozen,
       by_key numbers nat_lt (t.duty ++ duties) (numbers_ascend 1 _ numbered),
-      ascends_behind change_below t.changes changes o.sorted.changes
+      joined change_below t.changes changes o.sorted.changes
           (first_ascend (n + 1) changes follows.1)
           (λ x y old new. after_any x.duty y.duty (nat_lt y.step x.step)
           (omega (arith, old_low x old, first_low (n + 1) y changes follows.1 new))),

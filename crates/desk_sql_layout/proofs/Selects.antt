@@ -1,13 +1,13 @@
 -- What a query on one table shows, in the order of a key.
 use Rattle.std.proofs.Common.{◌≡◌, ℕ, Bool, true, false, List, [], ◌∷◌, map, filter, get_or, length}
 use Rattle.std.proofs.Common.{slice_get, Option, Some, refl, sym, ap, subst, subst₂, ◌∙◌}
-use Rattle.std.proofs.Common.{IsPermutation, Ordering, Less, Equal, Greater, is_lt, is_eq}
+use Rattle.std.proofs.Common.{IsPermutation, is_lt, is_eq}
 use Rattle.std.specs.List.{AllByRecursion, IsDistinct}
-use Rattle.std.specs.Ordering.{ordering_reverse}
 use Rattle.std.proofs.lemmas.Map.Keys.{IsDistinct-IsPermutation}
 use Rattle.std.proofs.lemmas.Cmp.{tied_itself}
 use Rattle.std.proofs.lemmas.List.{length-map}
 use Rattle.std.proofs.lemmas.List.Sorted.{IsPermutation-map, IsPermutation-trans, IsPermutation-sym, length_permutation}
+use Rattle.desk_base.proofs.Orders.{is_eq-reverse}
 use Rattle.sqlite_value.specs.declared.keys.Collation.TheVariants.{Binary}
 use Rattle.sqlite_value.specs.declared.keys.Key.{Key}
 use Rattle.sqlite_value.specs.declared.keys.Order.{Order}
@@ -59,11 +59,6 @@ AreApart ps = IsAscending (λ a b. is_eq (key_cmp 0 (keys ps) (picked ps a) (pic
 listed_in : (P : Table → Type 0) (tables : List Table) (place : ℕ) (t : Table)
     → slice_get tables place ≡ Some t → AllByRecursion P tables → P t
 listed_in P tables place t is all = all_has P tables t all (has_got tables place t is)
-
-is_eq-reverse : (o : Ordering) → is_eq (ordering_reverse o) ≡ is_eq o
-is_eq-reverse Less = refl
-is_eq-reverse Equal = refl
-is_eq-reverse Greater = refl
 
 apart_permuted : {X : Type 0} (e : X → X → Bool) → ((x y : X) → e x y ≡ e y x) → (xs ys : List X)
     → IsPermutation xs ys → IsAscending (λ a b. e a b ≡ false) xs

@@ -6,7 +6,7 @@ use Rattle.std.specs.Prelude.{◌&&◌}
 use Rattle.std.specs.List.{AllByRecursion}
 use Rattle.std.specs.declared.cmp.Ordering.{Ordering}
 use Rattle.std.specs.Ordering.{ordering_then}
-use Rattle.std.proofs.lemmas.Bool.{and_parts}
+use Rattle.std.proofs.lemmas.Bool.{and_parts, false_from_ne_true}
 use Rattle.sqlite_value.specs.declared.keys.Collation.TheVariants.{Binary}
 use Rattle.sqlite_value.specs.declared.keys.Key.{Key}
 use Rattle.sqlite_value.specs.declared.value.Value.{Value}
@@ -25,6 +25,7 @@ use Rattle.sqlite_rules.proofs.ListLemmas.{some_from, all_has}
 use Rattle.desk_model.specs.Lists.{IsIn}
 use Rattle.desk_history.specs.Laws.{Ascends}
 use Rattle.desk_sql_layout.proofs.Casts.{truth_is}
+use Rattle.desk_sql_layout.proofs.Apart.{differ_is}
 
 -- ---- values of keys
 
@@ -54,19 +55,6 @@ tied (Int m) (Blob x) p q h = absurd (true≢false (sym q))
 tied (Text m) Null p q h = absurd (true≢false (sym q))
 tied (Text m) (Real x) p q h = absurd (true≢false (sym q))
 tied (Text m) (Blob x) p q h = absurd (true≢false (sym q))
-
-below_differ : (a b : Value) → is_int a ≡ true → is_int b ≡ true → value_cmp a b ≡ Less
-    → differ a b ≡ true
-unfolding binary
-below_differ (Int m) (Int n) p q h = rw h refl
-below_differ Null b p q h = absurd (true≢false (sym p))
-below_differ (Real x) b p q h = absurd (true≢false (sym p))
-below_differ (Text x) b p q h = absurd (true≢false (sym p))
-below_differ (Blob x) b p q h = absurd (true≢false (sym p))
-below_differ (Int m) Null p q h = absurd (true≢false (sym q))
-below_differ (Int m) (Real x) p q h = absurd (true≢false (sym q))
-below_differ (Int m) (Text x) p q h = absurd (true≢false (sym q))
-below_differ (Int m) (Blob x) p q h = absurd (true≢false (sym q))
 
 -- ---- rows of keys
 
@@ -146,10 +134,6 @@ ascends {X} below (x ∷ xs) up = (all xs (λ y there. there), ascends below xs 
 
 -- ---- the stored rows
 
-false_or : (b : Bool) → (b ≡ true → ⊥) → b ≡ false
-false_or true h = absurd (h refl)
-false_or false h = refl
-
 -- no two rows of a table tie by a key that is declared unique
 pub apart_by : (ps : List ℕ) (stored : List Row) → IsTable stored
     → AllByRecursion (λ r. is_int (rowid r) ≡ true) stored
@@ -160,13 +144,13 @@ apart_by ps stored rising ints are unique = ascending_among _ _ stored two risin
   where
     two : (a b : Row) → Has stored a → Has stored b → value_cmp (rowid a) (rowid b) ≡ Less
         → is_eq (key_cmp 0 (keys ps) (picked ps a) (picked ps b)) ≡ false
-    two a b ha hb less = false_or _ (λ same.
+    two a b ha hb less = false_from_ne_true _ (λ same.
         let ia = all_has _ stored a ints ha in
         let ib = all_has _ stored b ints hb in
         let ka = all_has _ stored a are ha in
         let kb = all_has _ stored b are hb in
         let both : (agree plain ps a ps b && differ (rowid a) (rowid b)) ≡ true =
-        rw (tied_agree ps a b ka kb same, below_differ (rowid a) (rowid b) ia ib less) refl in
+        rw (tied_agree ps a b ka kb same, differ_is (rowid a) (rowid b) ia ib less) refl in
         true≢false (sym (some_from _ stored a ha both) ∙ unique b hb))
 
 below_apart : (o : Ordering) → o ≡ Less → is_eq (ordering_then o Equal) ≡ false

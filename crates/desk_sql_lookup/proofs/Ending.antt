@@ -6,6 +6,7 @@ use Rattle.std.specs.Prelude.{◌==◌}
 use Rattle.std.specs.List.{AllByRecursion}
 use Rattle.std.proofs.lemmas.Bool.Decides.{nat_tests}
 use Rattle.std.proofs.lemmas.Cmp.{tied_itself}
+use Rattle.desk_base.proofs.Numbers.{numbers_equal}
 use Rattle.sqlite_value.specs.Order.{Row}
 use Rattle.sqlite_value.specs.declared.value.Value.TheVariants.{Text}
 use Rattle.sqlite_trees.specs.Tree.{IsAscending}
@@ -20,7 +21,6 @@ use Rattle.desk_sql_layout.specs.Shown.{EndsOnDay, ending_cells}
 use Rattle.desk_sql_lookup.specs.Waivers.{AreSteps, waivers_in, taken}
 use Rattle.desk_sql_layout.specs.Causes.{HasLastDay, IsRow}
 use Rattle.desk_sql_layout.proofs.Causes.{filter_written}
-use Rattle.desk_sql_layout.proofs.Keyed.{same_number}
 use Rattle.desk_sql_layout.proofs.Ties.{keys, ascending_among}
 
 filters_swap : {X : Type 0} (p q : X → Bool) (xs : List X)
@@ -77,10 +77,10 @@ are_steps duty changes apart = ascending_among _ _ (filter (is_change_of duty) c
         go : (t : Bool) → (a.step == b.step) ≡ t → t ≡ false
         go false e = refl
         go true e =
-            let da = same_number a.duty duty (has_filtered (is_change_of duty) changes a ha).1 in
-            let db = same_number b.duty duty (has_filtered (is_change_of duty) changes b hb).1 in
+            let da = numbers_equal a.duty duty (has_filtered (is_change_of duty) changes a ha).1 in
+            let db = numbers_equal b.duty duty (has_filtered (is_change_of duty) changes b hb).1 in
             let same : (number a.duty ∷ number a.step ∷ []) ≡ (number b.duty ∷ number b.step ∷ []) =
-            rw (da, db, same_number a.step b.step e) refl in
+            rw (da, db, numbers_equal a.step b.step e) refl in
             let tie : is_eq (key_cmp 0 (keys (1 ∷ 2 ∷ [])) (number a.duty ∷ number a.step ∷ [])
             (number b.duty ∷ number b.step ∷ [])) ≡ true =
             subst (λ k. is_eq (key_cmp 0 (keys (1 ∷ 2 ∷ [])) k (number b.duty ∷ number b.step ∷ []))

@@ -3,6 +3,8 @@ use Rattle.std.proofs.Common.{◌≡◌, ℕ, true, List, [], ◌∷◌, filter,
 use Rattle.std.specs.Prelude.{◌&&◌, ◌==◌, bytes_eq}
 use Rattle.sqlite_value.specs.declared.value.Value.TheVariants.{Text}
 use Rattle.std.proofs.lemmas.Bool.{and_parts}
+use Rattle.desk_base.proofs.Numbers.{numbers_equal}
+use Rattle.desk_base.proofs.Texts.{texts_equal}
 use Rattle.sqlite_sql.specs.Term.{col}
 use Rattle.sqlite_tied.specs.Compute.{everything}
 use Rattle.sqlite.specs.Listing.{understood}
@@ -15,7 +17,7 @@ use Rattle.desk_model.specs.declared.row.RuleRow.{RuleRow}
 use Rattle.desk_sql_layout.specs.Cells.{conclusion_cells, number, rule_cells}
 use Rattle.desk_sql_layout.proofs.Casts.{same}
 use Rattle.desk_sql_layout.proofs.Finding.{FindsRows, finds_all, finds_one}
-use Rattle.desk_sql_layout.proofs.Keyed.{adoptions_sorted, conclusions_sorted, same_number, same_text}
+use Rattle.desk_sql_layout.proofs.Keyed.{adoptions_sorted, conclusions_sorted}
 use Rattle.desk_sql_layout.proofs.Selecting.{IsSelect}
 use Rattle.desk_sql_layout.proofs.Selects.{order_by}
 use Rattle.desk_sql_layout.proofs.Tests.{equals, last_text_test, number_test, number_text_key, number_then, text_then}
@@ -136,7 +138,11 @@ rule_key : (revision : ℕ) (term form : List ℕ) (x : RuleRow)
 rule_key revision term form x h =
     let a = and_parts (x.revision == revision) (bytes_eq x.term term && bytes_eq x.form form) h in
     let b = and_parts (bytes_eq x.term term) (bytes_eq x.form form) a.1 in
-    rw (same_number x.revision revision a.0, same_text x.term term b.0, same_text x.form form b.1)
+    rw (
+      numbers_equal x.revision revision a.0,
+      texts_equal x.term term b.0,
+      texts_equal x.form form b.1,
+    )
     refl
 
 pub rule_finds : (revision : ℕ) (term form : List ℕ)

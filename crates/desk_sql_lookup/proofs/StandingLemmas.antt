@@ -1,7 +1,8 @@
 -- The standings of duties, one after another.
-use Rattle.std.proofs.Common.{◌≡◌, ◌<◌, ◌≤◌, ◌+◌, ◌-◌, slice_get, ℕ, zero, suc, Bool, true, false}
+use Rattle.std.proofs.Common.{◌≡◌, ◌<◌, ◌+◌, ◌-◌, slice_get, ℕ, zero, suc, Bool, true, false}
 use Rattle.std.proofs.Common.{List, [], ◌∷◌, ◌++◌, map, filter, take, length, get_or, Option, Some}
 use Rattle.std.proofs.Common.{None, refl, sym, ap, ◌∙◌, arith, add-one}
+use Rattle.std.proofs.lemmas.List.{map_push}
 use Rattle.std.specs.Prelude.{bytes_eq}
 use Rattle.std.specs.List.{filter_map, last_or}
 use Rattle.desk_history.specs.FromTables.{standing_found, ends}
@@ -22,15 +23,10 @@ take_suc [] i x low is = absurd (omega arith)
 take_suc (y ∷ xs) zero x low is = ap (λ z. z ∷ []) (sym is)
 take_suc (y ∷ xs) (suc i) x low is = ap (λ l. y ∷ l) (take_suc xs i x (omega arith) is)
 
-map_last : {X Y : Type 0} (f : X → Y) (xs : List X) (x : X)
-    → map f (xs ++ x ∷ []) ≡ map f xs ++ f x ∷ []
-map_last f [] x = refl
-map_last f (y ∷ xs) x = ap (λ l. f y ∷ l) (map_last f xs x)
-
 pub map_more : {X Y : Type 0} (f : X → Y) (xs : List X) (i : ℕ) (x : X) → i < length xs
     → x ≡ get_or xs i x → map f (take (i + 1) xs) ≡ map f (take i xs) ++ f x ∷ []
 map_more f xs i x low is = ap (λ n. map f (take n xs)) (add-one i)
-    ∙ ap (map f) (take_suc xs i x low is) ∙ map_last f (take i xs) x
+    ∙ ap (map f) (take_suc xs i x low is) ∙ map_push f (take i xs) x
 
 some_last : {X Y : Type 0} (f : X → Option Y) (xs : List X) (x : X) (y : Y) → f x ≡ Some y
     → filter_map f (xs ++ x ∷ []) ≡ filter_map f xs ++ y ∷ []
@@ -62,12 +58,6 @@ some_more f xs i x low is = ap (λ n. filter_map f (take n xs)) (add-one i)
         → filter_map f (take i xs ++ x ∷ []) ≡ and_some (filter_map f (take i xs)) (f x)
     go None e = none_last f (take i xs) x e ∙ ap (and_some (filter_map f (take i xs))) (sym e)
     go (Some y) e = some_last f (take i xs) x y e ∙ ap (and_some (filter_map f (take i xs))) (sym e)
-
-pub all_taken : {X : Type 0} (xs : List X) (i : ℕ) → length xs ≤ i → take i xs ≡ xs
-all_taken [] zero h = refl
-all_taken [] (suc i) h = refl
-all_taken (x ∷ xs) zero h = absurd (omega arith)
-all_taken (x ∷ xs) (suc i) h = ap (λ l. x ∷ l) (all_taken xs i (omega arith))
 
 last_at : (before : Option ChangeRow) (row : ChangeRow) (rows : List ChangeRow)
     → slice_get (row ∷ rows) (length rows) ≡ last_or before (row ∷ rows)

@@ -7,11 +7,11 @@ use Rattle.std.proofs.lemmas.Bool.Decides.{nat_tests}
 use Rattle.std.proofs.lemmas.List.{get_or-set_other, get_or-set_same, length-append, length-set}
 use Rattle.std.proofs.lemmas.List.Elements.{filter-append}
 use Rattle.std.proofs.lemmas.List.Filters.{length-filter_both}
+use Rattle.desk_base.proofs.Numbers.{numbers_equal, same_number, unequal}
 use Rattle.desk_model.specs.Keys.{is_change_of}
 use Rattle.desk_model.specs.Tables.{Tables}
 use Rattle.desk_model.specs.declared.row.ChangeRow.{ChangeRow}
 use Rattle.desk_sql_lookup.specs.Steps.{AreCounts, HaveSteps, is_change_within}
-use Rattle.desk_sql_layout.proofs.Keyed.{same_number}
 
 -- a number outside the range isn't in the run
 within_run : (first last i n : ℕ) → first + i ≤ last → (nat_le first n && nat_le n last) ≡ false
@@ -67,14 +67,8 @@ zeros_more (x ∷ xs) are (suc i) = zeros_more xs (λ k. are (suc k)) i
 few : (p : ℕ → Bool) (xs : List ℕ) → length (filter p xs) ≤ length xs
 few p xs = let both = length-filter_both p (λ n. not (p n)) (λ n. refl) xs in omega (arith, both)
 
-same : (n : ℕ) → (n == n) ≡ true
-same n = grind (arith, nat_tests)
-
 unlike : (n m : ℕ) → n ≡ m → (n == m) ≡ false → ⊥
-unlike n m is not_ = true≢false (sym (same n) ∙ (ap (λ k. n == k) is ∙ not_))
-
-other : (n m : ℕ) → (n ≡ m → ⊥) → (n == m) ≡ false
-other n m not_ = grind (arith, nat_tests)
+unlike n m is not_ = true≢false (sym (same_number n) ∙ (ap (λ k. n == k) is ∙ not_))
 
 one_more : (p : ℕ → Bool) (xs : List ℕ) (n : ℕ) → p n ≡ true
     → length (filter p (xs ++ n ∷ [])) ≡ length (filter p xs) + 1
@@ -91,7 +85,7 @@ module _ (first : ℕ) (counts numbers : List ℕ) (n : ℕ) (are : AreCounts fi
       → AreCounts first (numbers ++ n ∷ []) counts
   counts_past out i in_ = are i in_
       ∙ sym (none_more (λ k. k == first + i) numbers n
-      (other n (first + i) (λ is. past out i in_ is)))
+      (unequal n (first + i) (λ is. past out i in_ is)))
     where
       past : (n < first) ⊎ (length counts ≤ n - first) → (i : ℕ) → i < length counts → n ≡ first + i
           → ⊥
@@ -110,7 +104,7 @@ module _ (first : ℕ) (counts numbers : List ℕ) (n : ℕ) (are : AreCounts fi
       go : (b : Bool) → (i == at) ≡ b
           → slice_index_or (slice_set counts at more) i 0
           ≡ length (filter (λ k. k == first + i) (numbers ++ n ∷ []))
-      go true here = rw (same_number i at here) (
+      go true here = rw (numbers_equal i at here) (
           let here_n : n ≡ first + at = omega (arith, low) in
           let was = are at in_ in
           let bound : length (filter (λ k. k == first + at) numbers) < 2 ^ 63 =
@@ -118,9 +112,9 @@ module _ (first : ℕ) (counts numbers : List ℕ) (n : ℕ) (are : AreCounts fi
           get_or-set_same counts at more 0 in_
           ∙ (is (rw was bound) ∙ (ap (λ k. k + 1) was
           ∙ sym (one_more (λ k. k == first + at) numbers n
-          (subst (λ k. (n == k) ≡ true) here_n (same n))))))
+          (subst (λ k. (n == k) ≡ true) here_n (same_number n))))))
       go false there =
           get_or-set_other counts at i more 0 (λ e. unlike i at e there)
           ∙ (are i (subst (λ l. i < l) (length-set counts at more) inside)
           ∙ sym (none_more (λ k. k == first + i) numbers n
-          (other n (first + i) (λ e. unlike i at (omega (arith, e, low)) there))))
+          (unequal n (first + i) (λ e. unlike i at (omega (arith, e, low)) there))))

@@ -10,11 +10,12 @@ use Rattle.sqlite.specs.Steps.{FailsToCommit}
 use Rattle.sqlite.proofs.StateLemmas.{survives_then}
 use Rattle.desk_model.specs.declared.command.Fault.{Fault}
 use Rattle.desk_sql_layout.specs.Held.{HasRows}
+use Rattle.desk_sql_layout.proofs.Clean.{clean_before}
 use Rattle.desk_sql_adopt.specs.Older.{IsOlderContent, migrated, older_schema}
 use Rattle.desk_sql_adopt.specs.Reading.{HasStayed, IsSpared}
 use Rattle.desk_sql_adopt.specs.declared.older.OlderVersion.{OlderVersion}
 use Rattle.desk_sql_adopt.specs.declared.older.OlderContent.TheVariants as content
-use Rattle.desk_sql_adopt.proofs.Spared.{clean_before, spared_then}
+use Rattle.desk_sql_adopt.proofs.Spared.{spared_then}
 use Rattle.desk_snapshot.specs.declared.fault.AuditReport.{AuditReport}
 use Rattle.desk_snapshot.specs.declared.fault.AuditReport.TheVariants.{Sound, Unsound}
 use Rattle.desk_sql_migrate.specs.Migrating.{Ends, IsLeft, IsReason, IsReportOn, IsUndone, Leaves}

@@ -29,7 +29,8 @@ use Rattle.desk_snapshot.specs.declared.fault.AuditReport.TheVariants.{Sound, Un
 use Rattle.desk_snapshot.specs.declared.snapshot.Snapshot.{Snapshot}
 use Rattle.desk_sql_migrate.specs.Steps.{Becomes}
 
-is_sound : (w : Readings) (s : Snapshot) (report : AuditReport) → ((f : AuditFault) → Meets w s f)
+pub is_sound : (w : Readings) (s : Snapshot) (report : AuditReport)
+    → ((f : AuditFault) → Meets w s f)
     → IsReport w s report → report ≡ Sound
 is_sound w s Sound all it = refl
 is_sound w s (Unsound f) all it = absurd (it.0 (all f))

@@ -1,11 +1,11 @@
 -- One more table is declared, and the rows of the others stay.
-use Rattle.std.proofs.Common.{◌≡◌, ◌∙◌, ℕ, false, true, List, [], ◌∷◌, ◌++◌, IsTrue, Ok, Err}
-use Rattle.std.proofs.Common.{Result, refl, sym, subst, arith}
+use Rattle.std.proofs.Common.{◌≡◌, ◌∙◌, ℕ, false, List, [], ◌∷◌, ◌++◌, IsTrue, Ok, Err}
+use Rattle.std.proofs.Common.{Result, refl, sym, subst}
 use Rattle.std.specs.Prelude.{◌==◌}
 use Rattle.std.specs.List.{AllByRecursion}
 use Rattle.std.proofs.lemmas.List.Sorted.{IsPermutation-refl}
-use Rattle.std.proofs.lemmas.Bool.Decides.{nat_tests}
 use Rattle.std.specs.Result.{IsErr}
+use Rattle.desk_base.proofs.Numbers.{same_number}
 use Rattle.sqlite_value.specs.Order.{Row}
 use Rattle.sqlite_tied.specs.Compute.{everything}
 use Rattle.sqlite_trees.specs.Tree.{Trees}
@@ -18,10 +18,11 @@ use Rattle.sqlite.proofs.InsideLemmas.{keeps_then}
 use Rattle.desk_model.specs.declared.command.Fault.{Fault}
 use Rattle.desk_sql_layout.specs.Layout as d
 use Rattle.desk_sql_layout.specs.Stored.{AllStored, AreStored}
+use Rattle.desk_sql_layout.proofs.Clean.{clean_before}
 use Rattle.desk_sql_write.specs.Declaring.{Declares}
 use Rattle.desk_sql_write.specs.Written.{Ran}
 use Rattle.desk_sql_write.proofs.Declared.{creates}
-use Rattle.desk_sql_write.proofs.Inside.{clean_before, survives_both}
+use Rattle.desk_sql_write.proofs.Inside.{survives_both}
 use Rattle.desk_sql_adopt.specs.Older.{older_schema}
 use Rattle.desk_sql_adopt.specs.declared.older.OlderVersion.TheVariants.{One, Two}
 use Rattle.desk_sql_migrate.specs.Steps.{Gained, Gains, IfDone, IsStep, with_none, with_no_readings, with_no_waivers}
@@ -33,16 +34,13 @@ none_is last = record { rising = tt; keyed = tt; same = IsPermutation-refl [] }
 abbrev IsFresh : ℕ → List Table → Type 0
 IsFresh tree tables = AllByRecursion (λ t. (t.tree == tree) ≡ false) tables
 
-same_tree : (n : ℕ) → (n == n) ≡ true
-same_tree n = grind (arith, nat_tests)
-
 stored_more : (tables : List Table) (rows : ℕ → List Row) (old new : Trees) (last : Table)
     → IsFresh last.tree tables → KeepsRows tables old new
     → AllByRecursion (λ t. AreStored t (rows t.tree) (old t.tree)) tables
     → new last.tree ≡ [] → AllByRecursion
     (λ t. AreStored t (with_none last.tree rows t.tree) (new t.tree)) (tables ++ last ∷ [])
 stored_more [] rows old new last fresh kept stored none = (
-  rw (same_tree last.tree, none) (none_is last),
+  rw (same_number last.tree, none) (none_is last),
   tt,
 )
 stored_more (t ∷ ts) rows old new last fresh kept stored none = (

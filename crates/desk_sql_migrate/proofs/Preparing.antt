@@ -10,7 +10,8 @@ use Rattle.desk_model.specs.declared.command.Command.{Command}
 use Rattle.desk_model.specs.declared.command.Fault.{Fault}
 use Rattle.desk_sql_layout.specs.Held.{HasRows, Holds}
 use Rattle.desk_sql_layout.specs.Layout.{desk_schema}
-use Rattle.desk_sql_write.proofs.Inside.{clean_before, survives_both}
+use Rattle.desk_sql_layout.proofs.Clean.{clean_before}
+use Rattle.desk_sql_write.proofs.Inside.{survives_both}
 use Rattle.desk_sql_adopt.specs.Older.{HoldsOlder, migrated}
 use Rattle.desk_sql_adopt.specs.declared.older.OlderVersion.{OlderVersion}
 use Rattle.desk_snapshot.specs.declared.fault.AuditReport.{AuditReport}

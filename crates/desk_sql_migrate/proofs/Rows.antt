@@ -2,7 +2,6 @@
 use Rattle.std.proofs.Common.{◌≡◌, ◌∙◌, ℕ, ℤ, pos, true, not, List, [], ◌∷◌, ◌++◌, map, filter}
 use Rattle.std.proofs.Common.{codes, slice_get, Option, Some, None, Ok, Err, Result, inl, inr, refl}
 use Rattle.std.proofs.Common.{sym, ap, subst, subst₂, IsPermutation}
-use Rattle.std.specs.List.{AllByRecursion}
 use Rattle.std.proofs.lemmas.List.Sorted.{IsPermutation-refl, IsPermutation-map}
 use Rattle.std.proofs.lemmas.List.Sorted.{IsPermutation-trans, IsPermutation-append}
 use Rattle.sqlite_value.specs.declared.value.Value.{Value}
@@ -50,6 +49,7 @@ use Rattle.desk_sql_layout.proofs.Steps.{Stepped, at, same_value, went, inserts,
 use Rattle.desk_sql_layout.proofs.Writes.{Shows, after_insert}
 use Rattle.desk_sql_write.specs.Written.{Ran}
 use Rattle.desk_sql_adopt.specs.Older.{first_readings}
+use Rattle.desk_sql_adopt.proofs.Olders.{each}
 use Rattle.desk_sql_migrate.specs.Steps.{Gained, IfDone, with_readings, with_version, without_version}
 
 -- what a statement has made of the tables of a desk
@@ -160,10 +160,6 @@ pub version_dropped : (old new : State) (r : Result (Unit {0}) Fault) → Ran dr
 version_dropped = gained_by drop_text [] without_version version_dropped_schema version_dropped_in
 
 -- ---- the profiles
-
-each : {X : Type 0} (xs : List X) → AllByRecursion (λ x. true ≡ true) xs
-each [] = tt
-each (x ∷ xs) = (refl, each xs)
 
 module _ (name : List ℕ) (tree : ℕ) (columns : List Column) (key : Option ℕ) (primary : List ℕ)
     (uniques : List (List ℕ)) (orders : List Order) where

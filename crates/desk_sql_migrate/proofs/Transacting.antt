@@ -1,5 +1,6 @@
 -- A migration's transaction, from its beginning to its end.
 use Rattle.std.proofs.Common.{◌≡◌, true, false, IsTrue, Ok, sym, subst}
+use Rattle.desk_sql_layout.proofs.Clean.{clean_before}
 use Rattle.sqlite_trees.specs.declared.store.Store.{Ghosts}
 use Rattle.sqlite.specs.declared.error.Error.{Error}
 use Rattle.sqlite.specs.Held.{Held, state}
@@ -9,7 +10,6 @@ use Rattle.sqlite.proofs.Callers.{survives_begin}
 use Rattle.desk_sql_adopt.specs.Older.{older_schema}
 use Rattle.desk_sql_adopt.specs.Reading.{IsSpared}
 use Rattle.desk_sql_adopt.specs.declared.older.OlderVersion.{OlderVersion}
-use Rattle.desk_sql_adopt.proofs.Spared.{clean_before}
 use Rattle.desk_snapshot.specs.declared.fault.AuditFault.{AuditFault}
 use Rattle.desk_snapshot.specs.declared.fault.AuditReport.{AuditReport}
 use Rattle.desk_snapshot.specs.declared.fault.AuditReport.TheVariants.{Sound, Unsound}

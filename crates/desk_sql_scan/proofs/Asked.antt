@@ -1,5 +1,6 @@
 -- What one request for rows after another does.
 use Rattle.std.proofs.Common.{◌≡◌, ◌⊎◌, inl, inr, ◌∙◌, Ok, Err, Result, IsTrue, List, ℕ, sym}
+use Rattle.desk_sql_layout.proofs.Clean.{clean_before}
 use Rattle.sqlite_value.specs.Order.{Row}
 use Rattle.sqlite.specs.declared.error.Error.{Error}
 use Rattle.sqlite.specs.State.{State, HasCleanDisk, FailsToQuery, IsRolledBack, IsTooLate}
@@ -7,7 +8,6 @@ use Rattle.sqlite.specs.State.{IsUnchanged, KeepsCommit, Survives}
 use Rattle.sqlite.proofs.InsideLemmas.{keeps_then}
 use Rattle.sqlite.proofs.StateLemmas.{survives_then}
 use Rattle.desk_model.specs.declared.command.Fault.{Fault}
-use Rattle.desk_sql_adopt.proofs.Spared.{clean_before}
 use Rattle.desk_sql_adopt.specs.Reading.{Asks, HasRead}
 use Rattle.desk_sql_adopt.proofs.Asking.{failed_so}
 use Rattle.desk_sql_adopt.specs.Reading as reading

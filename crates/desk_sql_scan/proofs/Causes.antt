@@ -10,8 +10,8 @@ use Rattle.desk_sql_layout.specs.Faults.{fault_by}
 use Rattle.desk_sql_layout.specs.Held.{Holds}
 use Rattle.desk_sql_layout.specs.Causes.{HasCause, IsAsked}
 use Rattle.desk_sql_layout.proofs.Causes.{caused}
+use Rattle.desk_sql_layout.proofs.Clean.{clean_before}
 use Rattle.desk_sql_adopt.specs.Reading.{Asks}
-use Rattle.desk_sql_adopt.proofs.Spared.{clean_before}
 use Rattle.desk_sql_scan.specs.Asked.{HasAsked}
 use Rattle.desk_sql_scan.specs.Causes.{ScanFailsFor}
 use Rattle.desk_sql_scan.proofs.Asked.{Stays}

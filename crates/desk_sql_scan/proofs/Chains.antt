@@ -1,10 +1,10 @@
 -- What reading tables does, one part after another.
 use Rattle.std.proofs.Common.{◌≡◌, ◌∙◌, Ok, Err, Result}
 use Rattle.std.specs.Result.{IsErrAnd}
+use Rattle.desk_sql_layout.proofs.Clean.{clean_before}
 use Rattle.sqlite.specs.Effect.{Database}
 use Rattle.desk_model.specs.Tables.{Tables}
 use Rattle.desk_model.specs.declared.command.Fault.{Fault}
-use Rattle.desk_sql_adopt.proofs.Spared.{clean_before}
 use Rattle.desk_sql_scan.specs.Asked.{IsSpared}
 use Rattle.desk_sql_scan.specs.Causes.{ScanFailsFor}
 use Rattle.desk_sql_scan.specs.Scanning.{Scans}

@@ -3,7 +3,7 @@ use Rattle.std.proofs.Common.{◌≡◌, ℕ, pos, Bool, false, List, [], ◌∷
 use Rattle.std.specs.Prelude.{◌&&◌, ◌||◌, ◌==◌, nat_lt}
 use Rattle.std.specs.Cmp.{IsTotalOrder}
 use Rattle.std.specs.Cmp.Lexicographic.{slice_cmp}
-use Rattle.std.specs.Ordering.{nat_cmp, int_cmp, ordering_then}
+use Rattle.std.specs.Ordering.{nat_cmp, int_cmp}
 use Rattle.std.specs.declared.cmp.Ordering.{Ordering}
 use Rattle.std.proofs.lemmas.Bool.Decides.{nat_tests}
 use Rattle.std.proofs.lemmas.Cmp.{on_total, then_total, nat_cmp_total, nat_list_cmp_total}
@@ -13,6 +13,7 @@ use Rattle.sqlite_trees.proofs.ListLemmas.{ascending_weaker}
 use Rattle.desk_history.specs.Laws.{Ascends, Rises, rule_row_order, extracted_order}
 use Rattle.desk_sql_layout.specs.Held.{package_below}
 use Rattle.desk_sql_layout.proofs.Ties.{ascends}
+use Rattle.desk_sql_layout.proofs.Keyed.{lower, two_lower}
 use Rattle.desk_model.specs.Keys.{below_by, attached_order, choice_order, frozen_order}
 use Rattle.desk_model.specs.Keys.{conclusion_order, adoption_order, change_below, release_below}
 use Rattle.desk_model.specs.declared.row.AdoptionRow.{AdoptionRow}
@@ -36,13 +37,6 @@ use Rattle.desk_sql_scan.specs.Orders as here
 
 whole : (a b : ℕ) → int_cmp (pos a) (pos b) ≡ nat_cmp a b
 whole a b = grind (arith, ints, nat_tests)
-
-lower : (a b : ℕ) → is_lt (nat_cmp a b) ≡ nat_lt a b
-lower a b = grind (arith, nat_tests)
-
-two_lower : (a b : ℕ) (o : Ordering)
-    → is_lt (ordering_then (nat_cmp a b) o) ≡ (nat_lt a b || ((a == b) && is_lt o))
-two_lower a b o = grind (arith, nat_tests)
 
 -- ---- lists
 

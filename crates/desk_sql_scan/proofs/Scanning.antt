@@ -5,6 +5,8 @@ use Rattle.std.specs.Cmp.{IsTotalOrder}
 use Rattle.std.specs.List.{AllByRecursion}
 use Rattle.std.proofs.lemmas.Cmp.{on_total}
 use Rattle.std.proofs.lemmas.List.Sorted.{IsPermutation-map, IsPermutation-sym}
+use Rattle.desk_history.proofs.Rows.{map_same}
+use Rattle.desk_sql_adopt.proofs.Olders.{each}
 use Rattle.sqlite_value.specs.declared.keys.Key.{Key}
 use Rattle.sqlite_value.specs.declared.value.Value.{Value}
 use Rattle.sqlite_value.specs.declared.value.Value.TheVariants.{Null, Int, Real, Text, Blob}
@@ -42,14 +44,6 @@ use Rattle.desk_sql_scan.specs.Scans.{IsScan}
 fixed : {X : Type 0} (f : X → X) (xs : List X) → AllByRecursion (λ x. f x ≡ x) xs → map f xs ≡ xs
 fixed f [] h = refl
 fixed f (x ∷ xs) h = ap₂ (λ a l. a ∷ l) h.0 (fixed f xs h.1)
-
-each : {X : Type 0} (xs : List X) → AllByRecursion (λ x. true ≡ true) xs
-each [] = tt
-each (x ∷ xs) = (refl, each xs)
-
-same_map : {X Y : Type 0} (f g : X → Y) → ((x : X) → f x ≡ g x) → (xs : List X)
-    → map f xs ≡ map g xs
-same_map f g same xs = λ i. map (λ x. same x i) xs
 
 -- the order of columns, the first of which is written as `+column`: so it isn't taken from an
 -- index, by which rows are sought one by one
@@ -128,7 +122,7 @@ module _ (table : Table) where
         let second = λ (o : Output). o.1 in
         let left : map second (map out (db.trees table.tree)) ≡ map (cells this) (db.trees
         table.tree) = map-map second out (db.trees table.tree)
-        ∙ same_map (λ r. second (out r)) (cells this) (λ r. ap second (acts r))
+        ∙ map_same (λ r. second (out r)) (cells this) (λ r. ap second (acts r))
         (db.trees table.tree) in
         let right : map second answer.ordered ≡ rows = sym (ap (map second) ordered_are)
         ∙ map-map second of_cells rows
@@ -149,7 +143,7 @@ module _ (table : Table) where
         let second = λ (o : Output). o.1 in
         let left : map second (map out (db.trees table.tree)) ≡ map (cells this) (db.trees
         table.tree) = map-map second out (db.trees table.tree)
-        ∙ same_map (λ r. second (out r)) (cells this) (λ r. ap second (acts r))
+        ∙ map_same (λ r. second (out r)) (cells this) (λ r. ap second (acts r))
         (db.trees table.tree) in
         subst₂ (λ a b. IsPermutation a b) left (sym answer.shown)
         (IsPermutation-map second _ _ outs_are)

@@ -13,8 +13,8 @@ use Rattle.desk_sql_layout.specs.Layout.{desk_schema}
 use Rattle.desk_model.specs.Tables.{Tables}
 use Rattle.desk_model.specs.declared.command.Fault.{Fault}
 use Rattle.desk_sql_layout.specs.Causes.{AreWritten, IsAsked}
+use Rattle.desk_sql_layout.proofs.Clean.{clean_before}
 use Rattle.desk_sql_adopt.specs.Reading.{Asks}
-use Rattle.desk_sql_adopt.proofs.Spared.{clean_before}
 use Rattle.desk_sql_scan.specs.Asked.{HasAsked}
 use Rattle.desk_sql_scan.specs.Causes.{AreCells, ScanFailsFor, ScanFailsIf}
 use Rattle.desk_sql_scan.specs.Cells.{columns_of}

@@ -41,11 +41,11 @@ use Rattle.desk_sql_write.specs.Declaring.{schema_after, IsBare, Left, Went}
 use Rattle.desk_sql_write.specs.Taking.{IsCaused, RanInto}
 use Rattle.desk_sql_write.proofs.Causes.{first_caused}
 use Rattle.desk_sql_write.proofs.Failing.{caused}
-use Rattle.desk_sql_write.proofs.Inside.{clean_before}
 use Rattle.desk_sql_write.proofs.Storable.{no_reals}
 use Rattle.desk_sql_layout.specs.Faults.{fault_by}
 use Rattle.desk_sql_write.specs.Written.{Ran}
 use Rattle.desk_sql_layout.proofs.Steps.{same_value, went}
+use Rattle.desk_sql_layout.proofs.Clean.{clean_before}
 
 pub creates : (text : List ℕ) (table : Table) (schema : Schema) (old new : State) (count : ℕ)
     → Declares text table schema → old.now.schema ≡ schema → Executes text [] old new (Ok count)

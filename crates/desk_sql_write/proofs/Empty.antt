@@ -33,6 +33,7 @@ use Rattle.desk_sql_layout.specs.Cells.{number, meta_cells}
 use Rattle.desk_sql_layout.specs.Held.{HasRows, AreOrderly, Stands, rows_of}
 use Rattle.desk_sql_layout.specs.Stored.{AreStored}
 use Rattle.desk_sql_layout.proofs.Casts.{cast_null, cast_int}
+use Rattle.desk_sql_layout.proofs.Clean.{clean_before}
 use Rattle.sqlite_schema.specs.declared.schema.Table.{Table}
 use Rattle.desk_sql_write.specs.Declaring.{IsBare, DeclareFails, Left, Went}
 use Rattle.desk_sql_write.specs.Taking.{IsCaused, StandsOnce, CanStand, LeavesRoom, HasRoom, RanInto, in_cells}
@@ -41,7 +42,6 @@ use Rattle.desk_sql_write.proofs.Causes.{first_caused, later_caused, ends_caused
 use Rattle.desk_sql_write.proofs.Failing.{Reads}
 use Rattle.desk_sql_write.proofs.Inserting.{inserted_adds}
 use Rattle.desk_sql_write.proofs.Inserts.{AreAdded}
-use Rattle.desk_sql_write.proofs.Inside.{clean_before}
 use Rattle.desk_sql_write.proofs.Storable.{int_light, null_light}
 use Rattle.desk_sql_write.specs.Written.{Ran}
 use Rattle.desk_sql_write.specs.Creating.{no_tables, HasFounded, FoundFails, CreateFails, Founds, LeavesTables}

@@ -14,9 +14,10 @@ use Rattle.sqlite.proofs.InsideLemmas.{keeps_then}
 use Rattle.desk_model.specs.declared.command.Fault.{Fault}
 use Rattle.desk_model.specs.declared.command.Fault.TheVariants.{Memory}
 use Rattle.desk_sql_layout.specs.Layout.{desk_schema}
+use Rattle.desk_sql_layout.proofs.Clean.{clean_before}
 use Rattle.desk_sql_write.specs.Taking.{IsSmall, StandsOnce, CanStand, HasRoom, LeavesRoom, IsCaused, in_cells}
 use Rattle.desk_sql_write.specs.Turning.{Turns}
-use Rattle.desk_sql_write.proofs.Inside.{clean_before, survives_both}
+use Rattle.desk_sql_write.proofs.Inside.{survives_both}
 use Rattle.desk_sql_write.proofs.Lists.{count_both}
 use Rattle.desk_sql_write.proofs.Rooms.{fewer_left, front_all}
 

@@ -1,9 +1,9 @@
 -- What a statement does inside a transaction, and what several do one after another.
-use Rattle.std.proofs.Common.{◌⊎◌, inl, inr, List, ℕ, Err, arith}
+use Rattle.std.proofs.Common.{◌⊎◌, inl, inr, List, ℕ, Err}
 use Rattle.sqlite_value.specs.Order.{Row}
 use Rattle.sqlite.specs.declared.error.Error.{Error}
-use Rattle.sqlite.specs.State.{State, HasCleanDisk, Survives, ExecutesInside, IsUnchanged, IsRolledBack, KeepsCommit}
-use Rattle.sqlite_trees.specs.Tree.{Trees}
+use Rattle.sqlite.specs.State.{State, Survives, ExecutesInside, IsUnchanged, IsRolledBack}
+use Rattle.sqlite.specs.State.{KeepsCommit}
 use Rattle.sqlite.proofs.StateLemmas.{survives_then}
 
 moved : (old new : State) → IsUnchanged old new ⊎ IsRolledBack old new → KeepsCommit old new
@@ -17,10 +17,6 @@ pub lost : (sql : List ℕ) (params : Row) (old new : State) (e : Error)
     → ExecutesInside 0 sql params old new (Err e) → KeepsCommit old new
 lost sql params old new e (inl h) = moved old new h.1
 lost sql params old new e (inr h) = moved old new (inl h.2)
-
-pub clean_before : (a b : State) (P : Trees → Type 0) → Survives a b P → HasCleanDisk b
-    → HasCleanDisk a
-clean_before a b P s clean = omega (arith, s.clean)
 
 pub survives_both : (a b c : State) → Survives a b (λ _. ⊥) → Survives b c (λ _. ⊥)
     → Survives a c (λ _. ⊥)

@@ -6,8 +6,7 @@ use Rattle.std.proofs.Common.{subst, subst₂, arith}
 use Rattle.std.specs.Prelude.{if◌then◌else◌}
 use Rattle.std.specs.List.{AllByRecursion, list_all}
 use Rattle.std.specs.Ordering.{is_eq}
-use Rattle.std.specs.declared.cmp.Ordering.{Ordering}
-use Rattle.std.specs.declared.cmp.Ordering.TheVariants.{Less, Equal, Greater}
+use Rattle.std.specs.declared.cmp.Ordering.TheVariants.{Less}
 use Rattle.std.specs.List.Sorted.{IsPermutation}
 use Rattle.std.proofs.lemmas.Bool.{and_from, cases_Bool}
 use Rattle.std.proofs.lemmas.Cmp.{alike_right, tied_itself}
@@ -15,6 +14,7 @@ use Rattle.sqlite_value.proofs.OrderLemmas.{value_cmp_total}
 use Rattle.std.proofs.lemmas.List.Sorted.{IsPermutation-sym, IsPermutation-map}
 use Rattle.std.proofs.lemmas.List.Sorted.{IsPermutation-middle, IsPermutation-trans}
 use Rattle.std.proofs.lemmas.List.Sorted.{IsPermutation-append_right, length_permutation}
+use Rattle.desk_base.proofs.Orders.{equal_is}
 use Rattle.sqlite_value.specs.declared.keys.Order.{Order}
 use Rattle.sqlite_value.specs.declared.value.Value.TheVariants.{Int}
 use Rattle.sqlite_value.specs.Order.{Row, value_cmp}
@@ -67,11 +67,6 @@ use Rattle.desk_sql_write.proofs.Puts.{as_stored, IsRight, Suits, fitting}
 use Rattle.desk_sql_write.proofs.Refusing.{IsFree, rows_free, stored_with}
 
 -- ---- rowids that appear once
-
-equal_is : (o : Ordering) → is_eq o ≡ true → o ≡ Equal
-equal_is Less h = absurd (cc)
-equal_is Equal h = refl
-equal_is Greater h = absurd (cc)
 
 below_other : (id : ℤ) (a b : Row) → value_cmp (rowid a) (rowid b) ≡ Less → has_rowid id a ≡ true
     → has_rowid id b ≡ true → ⊥

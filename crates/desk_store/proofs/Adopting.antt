@@ -6,8 +6,9 @@ use Rattle.desk_model.specs.Tables.{Tables}
 use Rattle.desk_sql_layout.specs.Held.{seen_of}
 use Rattle.desk_sql_layout.specs.Causes.{AreWritten, HasCauseIf}
 use Rattle.desk_sql_layout.proofs.Causes.{cause_after}
+use Rattle.desk_sql_layout.proofs.Clean.{clean_before}
 use Rattle.desk_sql_adopt.specs.Reading.{HasStayed, IsSpared}
-use Rattle.desk_sql_adopt.proofs.Spared.{clean_before, kept}
+use Rattle.desk_sql_adopt.proofs.Spared.{kept}
 use Rattle.desk_store.specs.Causes.{AdoptFailsIf, IsCausedFault}
 use Rattle.desk_store.specs.declared.fault.AdoptFault.{AdoptFault}
 use Rattle.desk_store.specs.declared.fault.AdoptFault.TheVariants as adopt

@@ -5,6 +5,7 @@ use Rattle.std.specs.Prelude.{◌==◌}
 use Rattle.std.specs.Option.{option_map, option_and_then}
 use Rattle.std.specs.Result.{result_ok}
 use Rattle.std.proofs.lemmas.Bool.Decides.{nat_tests}
+use Rattle.std.proofs.lemmas.List.{length_push}
 use Rattle.desk_model.specs.History.{revisions, loaded, forms_in}
 use Rattle.desk_model.specs.Lists.{latest}
 use Rattle.desk_model.specs.Readings.{Readings}
@@ -12,7 +13,6 @@ use Rattle.desk_model.specs.Tables.{Tables, tables}
 use Rattle.desk_model.specs.declared.row.CatalogueRow.{CatalogueRow}
 use Rattle.desk_model.specs.declared.command.Command.{Command}
 use Rattle.desk_model.specs.declared.command.Command.TheVariants.{LoadCatalogue}
-use Rattle.desk_history.proofs.Lookups.{length-push}
 use Rattle.desk_sql_layout.specs.Held.{known_of}
 use Rattle.desk_sql_adopt.specs.Revisions.{is_revision, body_of}
 use Rattle.desk_store.specs.Adopting.{HasCounts, HasForms}
@@ -39,7 +39,7 @@ none_higher [] n more = refl
 none_higher (LoadCatalogue text ∷ h) n more =
     let last = row_of (length (revisions h) + 1) text in
     let long : length (revisions h ++ last ∷ []) ≡ length (revisions h) + 1 =
-    length-push (revisions h) last in
+    length_push (revisions h) last in
     let before : length (revisions h) < n = omega (arith, long) in
     let other : (length (revisions h) + 1 == n) ≡ false = grind (arith, nat_tests, long) in
     found_behind (is_revision n) (revisions h) last (none_higher h n before) ∙ rw other refl
@@ -52,7 +52,7 @@ last_body [] n is = refl
 last_body (LoadCatalogue text ∷ h) n is =
     let last = row_of (length (revisions h) + 1) text in
     let long : length (revisions h ++ last ∷ []) ≡ length (revisions h) + 1 =
-    length-push (revisions h) last in
+    length_push (revisions h) last in
     let before : length (revisions h) < n = omega (arith, long) in
     let same : (length (revisions h) + 1 == n) ≡ true = grind (arith, nat_tests, long) in
     ap (option_map (λ row. row.body))

@@ -5,10 +5,10 @@ use Rattle.sqlite.specs.State.{State, HasCleanDisk, Survives}
 use Rattle.sqlite.proofs.StateLemmas.{survives_then}
 use Rattle.desk_model.specs.Tables.{Tables}
 use Rattle.desk_sql_layout.specs.Held.{HasRows, Showing}
+use Rattle.desk_sql_layout.proofs.Clean.{clean_before}
 use Rattle.desk_sql_adopt.specs.Older.{HoldsOlder, migrated}
 use Rattle.desk_sql_adopt.specs.Reading.{IsSpared}
 use Rattle.desk_sql_adopt.specs.declared.older.OlderVersion.{OlderVersion}
-use Rattle.desk_sql_adopt.proofs.Spared.{clean_before}
 use Rattle.desk_snapshot.specs.declared.fault.AuditReport.TheVariants.{Sound}
 use Rattle.desk_sql_migrate.specs.Migrating.{IsLeft, IsReportOn, LeavesSome, Migrated}
 use Rattle.desk_sql_migrate.specs.Steps.{Becomes}

@@ -3,10 +3,11 @@ use Rattle.std.proofs.Common.{◌≡◌, Ok, Err, Result, IfErr, ap, subst, ◌�
 use Rattle.std.specs.Prelude.{IsTrue, OnOk}
 use Rattle.sqlite.specs.State.{State, HasCleanDisk, Survives}
 use Rattle.desk_sql_layout.specs.Layout.{desk_schema}
+use Rattle.desk_sql_layout.proofs.Clean.{clean_before}
 use Rattle.desk_sql_adopt.specs.Reading.{HasStayed}
 use Rattle.desk_sql_adopt.specs.Version.{IsContent}
 use Rattle.desk_sql_adopt.specs.declared.version.Content.TheVariants as content
-use Rattle.desk_sql_adopt.proofs.Spared.{clean_before, spared_then}
+use Rattle.desk_sql_adopt.proofs.Spared.{spared_then}
 use Rattle.desk_snapshot.specs.declared.fault.AuditReport.{AuditReport}
 use Rattle.desk_snapshot.specs.declared.fault.AuditReport.TheVariants as report
 use Rattle.desk_sql_scan.specs.Scans.{IsSnapshot}

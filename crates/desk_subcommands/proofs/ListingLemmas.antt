@@ -11,11 +11,7 @@ use Rattle.desk_expr.specs.declared.fault.ParseFault.{ParseFault}
 use Rattle.desk_expr.specs.Tree.{Tree}
 use Rattle.desk_expr.specs.Spelling.{SpellsWithinBy}
 use Rattle.desk_expr.specs.Printing.{printed_term}
-use Rattle.desk_expr.specs.Meaning.{IsMinimal}
-use Rattle.desk_alts.specs.Sets.{AreAlternatives, IsTermSet, set_order}
-use Rattle.desk_alts.specs.SetLaws.{set_total}
-use Rattle.desk_base.proofs.SortedOnce.{same_sorted}
-use Rattle.std.proofs.lemmas.List.Elements.{All-contains}
+use Rattle.desk_expr.proofs.ParseLemmas.{one_within}
 use Rattle.desk_subcommands.specs.declared.report.Report.TheVariants.{Fault}
 use Rattle.desk_subcommands.specs.declared.listing.Listing.{Listing}
 use Rattle.desk_subcommands.specs.declared.listing.Listing.TheVariants.{Sets, TooManyTerms, TooMany, Unread}
@@ -23,7 +19,7 @@ use Rattle.desk_subcommands.specs.Report.{text_of}
 use Rattle.desk_subcommands.specs.Listing.{IsListing, IsListingOf, set_text, sets_text}
 use Rattle.desk_subcommands.specs.Listing.{listing_text, listing_status, ListsOnce}
 use Rattle.desk_alts.proofs.TreeStops.{one_stop}
-use Rattle.desk_subcommands.proofs.OneAnswer.{one_tree}
+use Rattle.desk_alts.proofs.ListingExists.{one_listing}
 
 -- ---- the lines
 
@@ -77,25 +73,13 @@ sets_more ss i s old mid new within is so_far step last =
 
 -- ---- one listing
 
-one_list : (tree : Tree) (xs ys : List (List Term)) → AreAlternatives tree xs
-    → AreAlternatives tree ys → xs ≡ ys
-one_list tree xs ys a b =
-    let P = λ (s : List Term). IsTermSet s × IsMinimal s tree in
-    same_sorted set_order set_total xs ys a.ordered b.ordered
-    (λ s. (
-      (λ at. let own : IsTermSet s × IsMinimal s tree = All-contains P xs s a.only at in
-          b.every s own.0 own.1),
-      (λ at. let own : IsTermSet s × IsMinimal s tree = All-contains P ys s b.only at in
-          a.every s own.0 own.1),
-    ))
-
 abbrev SameListed : Listing → Listing → Type 0
 SameListed a b = (listing_text a ≡ listing_text b) × (listing_status a ≡ listing_status b)
 
 one_of_tree : (tree : Tree) (a b : Listing) → IsListingOf tree a → IsListingOf tree b
     → SameListed a b
 one_of_tree tree (Sets xs) (Sets ys) h k = (
-  ap sets_text (one_list tree xs.items ys.items h.1 k.1),
+  ap sets_text (one_listing tree xs.items ys.items h.1 k.1),
   refl,
 )
 one_of_tree tree (Sets xs) TooManyTerms h k = absurd (h.0.0 k)
@@ -117,7 +101,7 @@ module _ (profile : Profile) (expression : List ℕ) where
 
   one_spelled : (a b : Listing) → Listed a → Listed b → SameListed a b
   one_spelled a b (tree, spells, is) (tree', spells', is') =
-      let same : tree' ≡ tree = one_tree profile expression tree' tree spells' spells in
+      let same : tree' ≡ tree = one_within profile expression tree' tree spells' spells in
       one_of_tree tree a b is (subst (λ t. IsListingOf t b) same is')
 
   one_fault : (f g : ParseFault) → IsListing profile expression (Unread f)
@@ -140,12 +124,12 @@ module _ (profile : Profile) (expression : List ℕ) where
   from_unread f TooMany h k = absurd (h.0 k.0 k.1)
   from_unread f (Unread g) h k = one_fault f g h k
 
-  one_listing : (a b : Listing) → IsListing profile expression a → IsListing profile expression b
+  one_told : (a b : Listing) → IsListing profile expression a → IsListing profile expression b
       → SameListed a b
-  one_listing (Sets xs) b h k = from_spelled (Sets xs) b h k
-  one_listing TooManyTerms b h k = from_spelled TooManyTerms b h k
-  one_listing TooMany b h k = from_spelled TooMany b h k
-  one_listing (Unread f) b h k = from_unread f b h k
+  one_told (Sets xs) b h k = from_spelled (Sets xs) b h k
+  one_told TooManyTerms b h k = from_spelled TooManyTerms b h k
+  one_told TooMany b h k = from_spelled TooMany b h k
+  one_told (Unread f) b h k = from_unread f b h k
 
 pub lists_once : (profile : Profile) (expression : List ℕ) → ListsOnce profile expression
 lists_once profile expression text other status another (a, is, same, number) (
@@ -154,7 +138,7 @@ lists_once profile expression text other status another (a, is, same, number) (
   same',
   number',
 ) =
-    let both = one_listing profile expression a b is is' in
+    let both = one_told profile expression a b is is' in
     (same ∙ (both.0 ∙ sym same'), number ∙ (both.1 ∙ sym number'))
 
 -- ---- the steps of the code

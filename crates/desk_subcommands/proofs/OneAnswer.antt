@@ -10,7 +10,7 @@ use Rattle.desk_expr.specs.declared.term.Term.{Term}
 use Rattle.desk_expr.specs.Tree.{Tree}
 use Rattle.desk_expr.specs.Spelling.{SpellsWithinBy}
 use Rattle.desk_expr.specs.Meaning.{Holds, CanGo, IsFirst}
-use Rattle.desk_expr.proofs.ParseLemmas.{spells_once}
+use Rattle.desk_expr.proofs.ParseLemmas.{one_within}
 use Rattle.desk_expr.proofs.TermLemmas.{spells_term_once}
 use Rattle.desk_alts.proofs.Minimal.{holds_more, not_minimal_if_can_go}
 use Rattle.desk_subcommands.specs.Report.{IsBad, IsFirstBad, IsReport, IsVerdict, SpellTerms}
@@ -21,11 +21,6 @@ use Rattle.desk_alts.proofs.TreeStops.{one_stop}
 use Rattle.desk_alts.proofs.Splits.{Cuts, two_cuts}
 
 -- ---- the words
-
-pub one_tree : (profile : Profile) (text : List ℕ) (e f : Tree) → SpellsWithinBy profile text e
-    → SpellsWithinBy profile text f → e ≡ f
-one_tree profile text e f (short, ts, are, h, keeps) (short', us, are', k, keeps') = spells_once
-    profile text e f (ts, are, h) (us, are', k)
 
 same_terms : (words : List (List ℕ)) (ts us : List Term) → SpellTerms words ts → SpellTerms words us
     → ts ≡ us
@@ -123,7 +118,7 @@ module _ (profile : Profile) (expression : List ℕ) (words : List (List ℕ)) w
 
   one_judged : (a b : Report) → Judged a → Judged b → SameTold a b
   one_judged a b (tree, terms, spells, spell, is) (tree', terms', spells', spell', is') =
-      let same_tree : tree' ≡ tree = one_tree profile expression tree' tree spells' spells in
+      let same_tree : tree' ≡ tree = one_within profile expression tree' tree spells' spells in
       let same : terms' ≡ terms = same_terms words terms' terms spell' spell in
       one_verdict words terms tree a b is
       (subst (λ t. IsVerdict words terms t b) same_tree

@@ -1,5 +1,5 @@
 -- Reading words as terms, one word at a time.
-use Rattle.std.proofs.Common.{◌≡◌, ℕ, suc, ◌+◌, ◌<◌, List, [], ◌∷◌, ◌++◌, ◌⊎◌, inl, inr, length}
+use Rattle.std.proofs.Common.{◌≡◌, ℕ, suc, ◌+◌, ◌<◌, List, [], ◌∷◌, ◌++◌, ◌⊎◌, length}
 use Rattle.std.proofs.Common.{map, take, drop, get_or, Some, option_map, Bor, refl, sym, ap, subst}
 use Rattle.std.proofs.Common.{◌∙◌, arith}
 use Rattle.std.specs.Prelude.{slice_get, alloc_error}
@@ -14,6 +14,7 @@ use Rattle.desk_expr.specs.declared.fault.ParseFault.TheVariants.{Memory}
 use Rattle.desk_expr.specs.Tree.{Tree}
 use Rattle.desk_expr.specs.Grammar.{SpellsTree}
 use Rattle.desk_expr.specs.Spelling.{SpellsWithinBy, SpellsTermWithin, IsStopBy}
+use Rattle.desk_expr.proofs.FaultLemmas.{not_memory}
 use Rattle.desk_subcommands.specs.Report.{SpellTerms, IsBad, IsFirstBad, IsReport, IsVerdict, StopsWith}
 use Rattle.desk_subcommands.specs.declared.report.Report.{Report}
 use Rattle.desk_subcommands.specs.declared.report.Report.TheVariants.{Minimal, NotEnough, Superfluous, BadTerm, Fault}
@@ -87,13 +88,6 @@ pub text_at : (words : List (Bor (List ℕ))) (i : ℕ) (d : Bor (List ℕ)) →
     → slice_get (texts words) i ≡ Some (get_or words i d).now
 text_at words i d within = slice_get-map (λ w. w.now) words i
     ∙ ap (option_map (λ w. w.now)) (slice_get-get_or words i d within)
-
--- a fault that is not for lack of memory
-pub not_memory : {P : Type 0} (fault : ParseFault) → 0 < fault_number fault
-    → (fault ≡ Memory alloc_error) ⊎ P → P
-not_memory fault told (inl e) = let none : 0 < fault_number (Memory alloc_error) =
-    subst (λ f. 0 < fault_number f) e told in absurd (omega arith)
-not_memory fault told (inr p) = p
 
 -- a fault that is reported
 pub stops_with : (profile : Profile) (expression : List ℕ) (fault told : ParseFault) → told ≡ fault

@@ -5,10 +5,10 @@ use Rattle.std.specs.Prelude.{codes, All, IsTrue, ◌&&◌, ◌==◌}
 use Rattle.std.specs.List.{list_all}
 use Rattle.std.proofs.lemmas.List.Elements.{All-get_or, All-tail}
 use Rattle.std.proofs.lemmas.Bool.Decides.{nat_tests}
+use Rattle.desk_base.proofs.Lists.{test_all}
 use Rattle.hex.specs.Hex.{encode_with, encode_lower, lower_digits}
 use Rattle.hex.proofs.HexLemmas.{length-encode_with}
 use Rattle.desk_tagvalue.specs.Parts.{is_hex, is_sha1, sha1_digits}
-use Rattle.desk_tagvalue.proofs.TextTests.{test_all}
 
 digit_hex : (n : ℕ) → n < 16 → is_hex (get_or lower_digits n 0) ≡ true
 digit_hex n lt = All-get_or (λ b. IsTrue (is_hex b)) lower_digits n 0 lt

@@ -1,6 +1,6 @@
 -- What the check of a document knows.
 use Rattle.std.proofs.Common.{◌≡◌, ◌∙◌, ℕ, List, [], ◌∷◌, subst, ap, refl, Bool, true, false, cond}
-use Rattle.std.specs.Prelude.{◌||◌, ◌&&◌, not, reverse}
+use Rattle.std.specs.Prelude.{◌||◌, ◌&&◌, reverse}
 use Rattle.std.specs.List.{list_any}
 use Rattle.std.specs.Str.{bytes_eq}
 use Rattle.std.specs.Ordering.{nat_cmp}
@@ -9,22 +9,14 @@ use Rattle.std.specs.BTreeSet.{BTreeSet, UpdatesBy}
 use Rattle.std.proofs.lemmas.Map.Text.{is_eq-slice_cmp}
 use Rattle.std.proofs.lemmas.List.{reverse-append}
 use Rattle.std.proofs.lemmas.List.Folds.{list_any-append}
+use Rattle.std.proofs.Math.Bool.{or_comm}
+use Rattle.desk_base.proofs.Bools.{cond_or}
 use denote.Ref.{Bor}
 use Rattle.desk_fields.specs.declared.tag.Tag.{Tag}
 use Rattle.desk_tagvalue.specs.Entries.{EntryText}
 use Rattle.desk_tagvalue.specs.Sections.{once_in_document, once_in_section, is_placed}
 use Rattle.desk_tagvalue.specs.Faults.{has_tag, kind_of, section, is_again}
 use Rattle.desk_tagvalue.specs.Seen.{has_key}
-
-either : (b c : Bool) → cond b true c ≡ (b || c)
-either true c = refl
-either false c = refl
-
-or_swap : (a b : Bool) → (a || b) ≡ (b || a)
-or_swap true true = refl
-or_swap true false = refl
-or_swap false true = refl
-or_swap false false = refl
 
 -- one more identifier
 pub one_more : (v : Bor (List ℕ)) (s n : BTreeSet (Bor (List ℕ)))
@@ -33,15 +25,7 @@ pub one_more : (v : Bor (List ℕ)) (s n : BTreeSet (Bor (List ℕ)))
 one_more v s n h q =
     let rest = has_key q s in
     h.0 (record v { now = q }) ∙ ap (λ b. cond b true rest) (is_eq-slice_cmp v.now q)
-    ∙ either (bytes_eq v.now q) rest
-
-pub fresh : (added b : Bool) → added ≡ not b → added ≡ true → b ≡ false
-fresh added true e h = cc
-fresh added false e h = refl
-
-pub taken : (added b : Bool) → added ≡ not b → added ≡ false → b ≡ true
-taken added true e h = refl
-taken added false e h = cc
+    ∙ cond_or (bytes_eq v.now q) rest
 
 -- the order of fields doesn't matter for whether one of them passes
 pub any_reverse : {X : Type 0} (p : X → Bool) (xs : List X)
@@ -49,7 +33,7 @@ pub any_reverse : {X : Type 0} (p : X → Bool) (xs : List X)
 any_reverse p [] = refl
 any_reverse p (x ∷ xs) =
     ap (list_any p) (reverse-append (x ∷ []) xs) ∙ list_any-append p (reverse xs) (x ∷ [])
-    ∙ or_swap (list_any p (reverse xs)) (list_any p (x ∷ []))
+    ∙ or_comm (list_any p (reverse xs)) (list_any p (x ∷ []))
     ∙ ap (λ v. list_any p (x ∷ []) || v) (any_reverse p xs) ∙ one (p x) (list_any p xs)
   where
     one : (a b : Bool) → ((a || false) || b) ≡ (a || b)

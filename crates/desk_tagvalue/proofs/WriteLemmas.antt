@@ -33,7 +33,7 @@ no_reading t f m g (inr reads) other = (
 )
 
 -- no tag begins with a byte order mark
-mark_behind : (tag : Tag) (rest : List ℕ) → behind_mark rest ≡ rest
+pub mark_behind : (tag : Tag) (rest : List ℕ) → behind_mark rest ≡ rest
     → behind_mark (tag_name tag ++ rest) ≡ tag_name tag ++ rest
 mark_behind tags.ReadOver rest h = h
 mark_behind tags.Unknown rest h = h

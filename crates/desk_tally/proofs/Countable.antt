@@ -9,6 +9,7 @@ use Rattle.std.specs.List.{enumerate_from}
 use Rattle.std.specs.Option.{option_map, option_and_then}
 use Rattle.std.proofs.lemmas.Bool.Decides.{nat_tests}
 use Rattle.std.proofs.lemmas.List.{length-map}
+use Rattle.std.proofs.lemmas.Bool.{and_from}
 use Rattle.desk_base.specs.Day.{is_day}
 use Rattle.desk_base.specs.Limits as most
 use Rattle.desk_model.specs.Lists.{IsIn, or_else}
@@ -39,7 +40,6 @@ use Rattle.desk_tally.specs.declared.stand.Stand.{Stand}
 use Rattle.desk_tally.proofs.Bools.{within_low, within_high, within_from}
 use Rattle.desk_tally.proofs.Once.{releases-once}
 use Rattle.desk_base.proofs.Texts.{text_tells}
-use Rattle.desk_base.proofs.Bools.{both}
 
 -- A freeze is recorded only for a release that was opened, and if there is room for all duties.
 record IsFit (form : Option (List ℕ)) (old new : ℕ) : Type 0 where
@@ -133,7 +133,7 @@ all_placed : (count : ℕ) (releases : List ReleaseRow) (state : ℕ → DutySta
     (map (λ (d : ℕ × Owed). duty_row (state d.0) d) (enumerate_from n xs))) ≡ true
 all_placed count releases state n [] within = refl
 all_placed count releases state n (x ∷ xs) within =
-    both (is_within count (unwrap_or (place_found releases x.release) 0))
+    and_from (is_within count (unwrap_or (place_found releases x.release) 0))
     (are_placed count (map (stand_of releases)
     (map (λ (d : ℕ × Owed). duty_row (state d.0) d) (enumerate_from (n + 1) xs))))
     (within x (inl refl)) (all_placed count releases state (n + 1) xs (λ d m. within d (inr m)))
@@ -150,7 +150,7 @@ all_numbered : (state : ℕ → DutyState) (n : ℕ) (xs : List Owed)
     → are_numbered n (map (λ (d : ℕ × Owed). duty_row (state d.0) d) (enumerate_from n xs)) ≡ true
 all_numbered state n [] = refl
 all_numbered state n (x ∷ xs) =
-    both (n == n) (are_numbered (n + 1)
+    and_from (n == n) (are_numbered (n + 1)
     (map (λ (d : ℕ × Owed). duty_row (state d.0) d) (enumerate_from (n + 1) xs)))
     (grind (arith, nat_tests)) (all_numbered state (n + 1) xs)
 
@@ -170,11 +170,11 @@ countable w h ok =
     length-map (duties w h) (stand_of (release_rows h))
     ∙ length-numbered (place w h) 1 (raised w h) in
     let limited : length all ≤ most.duties = omega (arith, number, few w h ok) in
-    both (are_numbered 1 (duties w h)) (can_count places all)
+    and_from (are_numbered 1 (duties w h)) (can_count places all)
     (all_numbered (place w h) 1 (raised w h))
-    (both (nat_le (length all) most.duties)
+    (and_from (nat_le (length all) most.duties)
     (are_placed (length places) all && are_places (length places) (λ place. false) places)
     (grind (arith, nat_tests, limited))
-    (both (are_placed (length places) all) (are_places (length places) (λ place. false) places)
+    (and_from (are_placed (length places) all) (are_places (length places) (λ place. false) places)
     (ap (λ k. are_placed k all) count ∙ duties-placed w h ok)
     (ap (λ k. are_places k (λ place. false) places) count ∙ releases-once w h ok)))

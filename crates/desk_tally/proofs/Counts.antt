@@ -6,6 +6,7 @@ use Rattle.std.specs.Prelude.{count_by, ◌&&◌, ◌==◌, ◌⊎◌, slice_get
 use Rattle.std.proofs.lemmas.List.Sums.{sum_by-cons, sum_by-append, count_by-le-length}
 use Rattle.std.proofs.lemmas.List.Folds.{sum_by-replicate, list_all-append}
 use Rattle.std.proofs.lemmas.Bool.Decides.{nat_tests}
+use Rattle.std.proofs.lemmas.Bool.{and_from}
 use Rattle.desk_model.specs.States.{is_open, is_met, is_waived, is_withdrawn}
 use Rattle.desk_model.specs.declared.state.DutyState.{DutyState}
 use Rattle.desk_model.specs.declared.state.DutyState.TheVariants.{IsOpen, Met, Waived, Withdrawn}
@@ -18,7 +19,7 @@ use Rattle.desk_tally.specs.declared.stand.Shift.{Shift}
 use Rattle.desk_tally.specs.declared.stand.Stand.{Stand}
 use Rattle.desk_tally.specs.declared.tally.Tally.{Tally}
 use Rattle.desk_tally.proofs.Bools.{within_low, within_high, within_from}
-use Rattle.desk_base.proofs.Bools.{and_left, and_right, both}
+use Rattle.desk_base.proofs.Bools.{and_left, and_right}
 
 pub count-cons : {A : Type 0} (test : A → Bool) (x : A) (xs : List A)
     → count_by test (x ∷ xs) ≡ one_if (test x) + count_by test xs
@@ -153,7 +154,7 @@ pub placed-open : (n : ℕ) (all : List Stand) → are_placed n all ≡ true
 placed-open n [] e = refl
 placed-open n (x ∷ xs) e =
     let here = and_left (is_within n x.place) (are_placed n xs) e in
-    both (is_within (n + 1) x.place) (are_placed (n + 1) xs)
+    and_from (is_within (n + 1) x.place) (are_placed (n + 1) xs)
     (within_from (n + 1) x.place (within_low n x.place here)
     (omega (arith, within_high n x.place here)))
     (placed-open n xs (and_right (is_within n x.place) (are_placed n xs) e))
@@ -246,11 +247,12 @@ pub placed-raised : (count n place : ℕ) (all : List Stand) → is_within count
     → are_placed count all ≡ true → are_placed count (all ++ replicate n (open_at place)) ≡ true
 placed-raised count n place all within placed =
     list_all-append (λ stand. is_within count stand.place) all (replicate n (open_at place))
-    ∙ both (are_placed count all) (are_placed count (replicate n (open_at place))) placed (each n)
+    ∙ and_from (are_placed count all) (are_placed count (replicate n (open_at place))) placed
+    (each n)
   where
     each : (k : ℕ) → are_placed count (replicate k (open_at place)) ≡ true
     each zero = refl
-    each (suc k) = both (is_within count place) (are_placed count (replicate k (open_at place)))
+    each (suc k) = and_from (is_within count place) (are_placed count (replicate k (open_at place)))
         within (each k)
 
 -- a release has no more duties than there are in all

@@ -4,6 +4,7 @@ use Rattle.std.proofs.Common.{◌++◌, length, map, replicate, Some, refl, ap, 
 use Rattle.std.specs.Prelude.{if◌then◌else◌, ◌&&◌, ◌==◌, unwrap_or}
 use Rattle.std.specs.Str.{bytes_eq}
 use Rattle.std.proofs.lemmas.Bool.Decides.{nat_tests}
+use Rattle.std.proofs.lemmas.Bool.{and_from}
 use Rattle.desk_model.specs.Lists.{updated}
 use Rattle.desk_model.specs.Keys.{is_duty}
 use Rattle.desk_model.specs.States.{is_open, state_after}
@@ -19,7 +20,7 @@ use Rattle.desk_tally.specs.Kept.{place_found, stand_of, are_raised}
 use Rattle.desk_tally.specs.declared.stand.Stand.{Stand}
 use Rattle.desk_tally.proofs.Bools.{within_low}
 use Rattle.desk_base.proofs.Numbers.{numbers_equal}
-use Rattle.desk_base.proofs.Bools.{and_left, and_right, both}
+use Rattle.desk_base.proofs.Bools.{and_left, and_right}
 use Rattle.desk_base.proofs.Texts.{texts_equal}
 
 -- no duty has a number below the first
@@ -72,9 +73,9 @@ numbered-updated state q n (row ∷ rows) e =
     elim (row.number == q) as (λ b. are_numbered n
     ((if b then with_duty_state state row else row)
     ∷ updated (is_duty q) (with_duty_state state) rows) ≡ true) [
-      | true ↦ both (row.number == n)
+      | true ↦ and_from (row.number == n)
           (are_numbered (n + 1) (updated (is_duty q) (with_duty_state state) rows)) here rest
-      | false ↦ both (row.number == n)
+      | false ↦ and_from (row.number == n)
           (are_numbered (n + 1) (updated (is_duty q) (with_duty_state state) rows)) here rest
     ]
 
@@ -110,7 +111,7 @@ pub numbered-append : (n : ℕ) (rows more : List DutyRow) → are_numbered n ro
 numbered-append n [] more e f = subst (λ k. are_numbered k more ≡ true)
     (let z : n + 0 ≡ n = omega arith in z) f
 numbered-append n (row ∷ rows) more e f =
-    both (row.number == n) (are_numbered (n + 1) (rows ++ more))
+    and_from (row.number == n) (are_numbered (n + 1) (rows ++ more))
     (and_left (row.number == n) (are_numbered (n + 1) rows) e)
     (numbered-append (n + 1) rows more (and_right (row.number == n) (are_numbered (n + 1) rows) e)
     (subst (λ k. are_numbered k more ≡ true)
@@ -122,7 +123,7 @@ raised_numbered n release [] e = refl
 raised_numbered n release (row ∷ rows) e =
     let here = and_left ((row.number == n) && (bytes_eq row.release release && is_open row.state))
     (are_raised (n + 1) release rows) e in
-    both (row.number == n) (are_numbered (n + 1) rows)
+    and_from (row.number == n) (are_numbered (n + 1) rows)
     (and_left (row.number == n) (bytes_eq row.release release && is_open row.state) here)
     (raised_numbered (n + 1) release rows
     (and_right ((row.number == n) && (bytes_eq row.release release && is_open row.state))

@@ -3,6 +3,7 @@ use Rattle.std.proofs.Common.{◌≡◌, ℕ, ◌+◌, ◌≤◌, Bool, true, fa
 use Rattle.std.proofs.Common.{sym, ap, ◌∙◌, arith}
 use Rattle.std.specs.Prelude.{if◌then◌else◌, ◌&&◌, ◌||◌, ◌==◌, not}
 use Rattle.std.proofs.lemmas.Bool.Decides.{nat_tests}
+use Rattle.std.proofs.lemmas.Bool.{and_from}
 use Rattle.desk_model.specs.Lists.{put}
 use Rattle.desk_model.specs.Keys.{release_below}
 use Rattle.desk_model.specs.Readings.{Readings}
@@ -15,9 +16,11 @@ use Rattle.desk_model.specs.declared.command.Command.{Command}
 use Rattle.desk_model.specs.declared.command.Command.TheVariants.{OpenRelease}
 use Rattle.desk_history.proofs.Steps.{recorded-rows}
 use Rattle.desk_history.proofs.Lookups.{length-releases}
+use Rattle.desk_history.proofs.Rows.{swap_or}
 use Rattle.desk_tally.specs.Stands.{is_within, are_places}
 use Rattle.desk_tally.proofs.Bools.{within_low, within_high, within_from}
-use Rattle.desk_base.proofs.Bools.{and_left, and_right, both}
+use Rattle.desk_base.proofs.Bools.{and_left, and_right}
+use Rattle.desk_base.proofs.Numbers.{equal_turned}
 
 -- two places can be taken in either order
 swapped : (wa wb ta tb same rest : Bool)
@@ -35,15 +38,6 @@ swapped false true ta true same rest = refl
 swapped false true ta false same rest = refl
 swapped false false ta tb same rest = refl
 
-turned : (a b : ℕ) → (a == b) ≡ (b == a)
-turned a b = grind (arith, nat_tests)
-
-either_taken : (x y z : Bool) → (x || (y || z)) ≡ (y || (x || z))
-either_taken true true z = refl
-either_taken true false z = refl
-either_taken false true z = refl
-either_taken false false z = refl
-
 swap-places : (count : ℕ) (taken : ℕ → Bool) (a b : ℕ) (places : List ℕ)
     → are_places count taken (a ∷ b ∷ places) ≡ are_places count taken (b ∷ a ∷ places)
 swap-places count taken a b places =
@@ -52,10 +46,11 @@ swap-places count taken a b places =
     ap (λ rest. is_within count a
     && (not (taken a) && (is_within count b && (not ((b == a) || taken b) && rest))))
     (ap (λ (t : ℕ → Bool). are_places count t places)
-    (λ i other. either_taken (other == b) (other == a) (taken other) i))
+    (λ i other. swap_or (other == b) (other == a) (taken other) i))
     ∙ (swapped (is_within count a) (is_within count b) (taken a) (taken b) (b == a) later
     ∙ ap (λ same. is_within count b
-    && (not (taken b) && (is_within count a && (not (same || taken a) && later)))) (turned b a))
+    && (not (taken b) && (is_within count a && (not (same || taken a) && later))))
+    (equal_turned b a))
 
 -- a release that is put in its place by name takes its own place among the places
 places-put : (count : ℕ) (taken : ℕ → Bool) (x : ReleaseRow) (rows : List ReleaseRow)
@@ -90,10 +85,10 @@ one_more count taken more same (p ∷ ps) all =
     and_left (is_within count p) (not (taken p) && left) all in
     let rest : (not (taken p) && left) ≡ true =
     and_right (is_within count p) (not (taken p) && left) all in
-    both (is_within (count + 1) p) (not (more p) && right)
+    and_from (is_within (count + 1) p) (not (more p) && right)
     (within_from (count + 1) p (within_low count p within)
     (omega (arith, within_high count p within)))
-    (both (not (more p)) right
+    (and_from (not (more p)) right
     (ap not (same p (within_high count p within)) ∙ and_left (not (taken p)) left rest)
     (one_more count (λ other. (other == p) || taken other) (λ other. (other == p) || more other)
     (λ n le. ap (λ b. (n == p) || b) (same n le)) ps (and_right (not (taken p)) left rest)))
@@ -101,7 +96,7 @@ one_more count taken more same (p ∷ ps) all =
 with_next : (count : ℕ) (places : List ℕ) → are_places count (λ place. false) places ≡ true
     → are_places (count + 1) (λ place. false) ((count + 1) ∷ places) ≡ true
 with_next count places all =
-    both (is_within (count + 1) (count + 1))
+    and_from (is_within (count + 1) (count + 1))
     (are_places (count + 1) (λ other. (other == count + 1) || false) places)
     (within_from (count + 1) (count + 1) (omega arith) (omega arith))
     (one_more count (λ place. false) (λ other. (other == count + 1) || false) (λ n le. another n le)

@@ -7,6 +7,7 @@ use Rattle.std.specs.Option.{option_map}
 use Rattle.std.specs.Str.{bytes_eq}
 use Rattle.std.proofs.lemmas.Bool.Decides.{nat_tests}
 use Rattle.std.proofs.lemmas.List.{length-map}
+use Rattle.std.proofs.lemmas.Bool.{not-true}
 use Rattle.desk_model.specs.Keys.{is_release}
 use Rattle.desk_model.specs.Tables.{Tables}
 use Rattle.desk_model.specs.declared.row.ReleaseRow.{ReleaseRow}
@@ -52,10 +53,6 @@ place_next count i place marks places all split within free lt before =
     ∙ (sym (rw (within, free) refl)
     ∙ (ap (are_places count (λ other. get_or marks other false)) (sym split) ∙ before))
 
-not_taken : (b : Bool) → not b ≡ true → b ≡ false
-not_taken true e = cc
-not_taken false e = refl
-
 -- a place that is found is within the count, and wasn't taken before
 record IsFree (count : ℕ) (taken : ℕ → Bool) (place : ℕ) : Type 0 where
   within : is_within count place ≡ true
@@ -89,7 +86,7 @@ is_free count taken (x ∷ xs) name place all found =
           within = and_left (is_within count x.place)
               (not (taken x.place) && are_places count (λ other. (other == x.place) || taken other)
               (map (λ row. row.place) xs)) all;
-          free = not_taken (taken x.place)
+          free = not-true (taken x.place)
               (and_left (not (taken x.place))
               (are_places count (λ other. (other == x.place) || taken other)
               (map (λ row. row.place) xs)) rest);

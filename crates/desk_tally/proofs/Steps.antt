@@ -6,7 +6,8 @@ use Rattle.std.specs.Option.{option_map}
 use Rattle.std.specs.Str.{bytes_eq}
 use Rattle.std.proofs.lemmas.Bool.Decides.{nat_tests}
 use Rattle.std.proofs.lemmas.List.{length-map}
-use Rattle.desk_base.proofs.Bools.{and_left, and_right, both}
+use Rattle.std.proofs.lemmas.Bool.{and_from}
+use Rattle.desk_base.proofs.Bools.{and_left, and_right}
 use Rattle.desk_model.specs.Keys.{is_duty, is_duty_of}
 use Rattle.desk_model.specs.States.{is_open}
 use Rattle.desk_model.specs.Tables.{Tables}
@@ -29,9 +30,9 @@ raised_from : (n : ℕ) (release : List ℕ) (rows : List DutyRow) → are_numbe
     → are_open_of release rows ≡ true → are_raised n release rows ≡ true
 raised_from n release [] numbered fresh = refl
 raised_from n release (row ∷ rows) numbered fresh =
-    both ((row.number == n) && (bytes_eq row.release release && is_open row.state))
+    and_from ((row.number == n) && (bytes_eq row.release release && is_open row.state))
     (are_raised (n + 1) release rows)
-    (both (row.number == n) (bytes_eq row.release release && is_open row.state)
+    (and_from (row.number == n) (bytes_eq row.release release && is_open row.state)
     (and_left (row.number == n) (are_numbered (n + 1) rows) numbered)
     (and_left (is_duty_of release row && is_open row.state) (are_open_of release rows) fresh))
     (raised_from (n + 1) release rows
@@ -62,7 +63,7 @@ of_duties t [] numbered all = refl
 of_duties t (row ∷ rows) numbered all =
     let at = found_within 1 row.duty t.duty numbered
     (and_left (is_some (duty_found t row.duty)) (are_of_duties t rows) all) in
-    both (is_within (length t.duty) row.duty) (are_duties (length t.duty) (map shift_of rows))
+    and_from (is_within (length t.duty) row.duty) (are_duties (length t.duty) (map shift_of rows))
     (within_from (length t.duty) row.duty at.0 (omega (arith, at.1)))
     (of_duties t rows numbered (and_right (is_some (duty_found t row.duty)) (are_of_duties t rows)
     all))

@@ -18,6 +18,7 @@ use Rattle.desk_expr.specs.Meaning.{Holds, Without, CanGo, IsFirst, IsMinimal}
 use Rattle.desk_expr.specs.Occurring.{leaves, AreTermsOf}
 use Rattle.desk_alts.proofs.Minimal.{minimal_if_none_can_go, not_minimal_if_can_go}
 use Rattle.desk_alts.proofs.Choosing.{holds_on_leaves}
+use Rattle.desk_alts.proofs.GoLemmas.{push_end}
 use Rattle.desk_texts.specs.declared.choice.Kept.{Kept}
 use Rattle.desk_texts.specs.Choices.{AreAlike, AreFirst, AreKept, IsSlot}
 
@@ -28,10 +29,6 @@ get_old : {X : Type 0} (xs : List X) (y : X) (k : ℕ) (x : X)
 get_old [] y k x at = absurd (none-some x at)
 get_old (z ∷ zs) y zero x at = at
 get_old (z ∷ zs) y (suc k) x at = get_old zs y k x at
-
-get_new : {X : Type 0} (xs : List X) (y : X) → slice_get (xs ++ y ∷ []) (length xs) ≡ Some y
-get_new [] y = refl
-get_new (z ∷ zs) y = get_new zs y
 
 get_cases : {X : Type 0} (xs : List X) (y : X) (k : ℕ) (x : X)
     → slice_get (xs ++ y ∷ []) k ≡ Some x
@@ -93,7 +90,7 @@ module _ (own chosen kept : List Term) (places : List ℕ) (t : Term)
           | inr new ↦
               let last = index_new places n k (new.0 ∙ sym first.paired) in
               subst (λ j. slice_get (chosen ++ t ∷ []) j ≡ Some u) (sym last)
-              (get_new chosen t ∙ ap Some new.1)
+              (push_end chosen t ∙ ap Some new.1)
         ];
         ordered = λ j k upto within.
             let size = length_push places n in
@@ -123,7 +120,7 @@ module _ (own chosen kept : List Term) (places : List ℕ) (t : Term)
               (e.0, e.1, get_old kept t e.0 e.1 e.2, rw (index_old places n e.0 within) e.3, e.4)
           | inr new ↦
               let last = index_new places n (length kept) (sym first.paired) in
-              (length kept, t, get_new kept t, rw last (omega (arith, new.0)), inl (sym new.1))
+              (length kept, t, push_end kept t, rw last (omega (arith, new.0)), inl (sym new.1))
         ];
       }
 
@@ -244,7 +241,7 @@ kept_more own chosen old new t slot place within unset slots terms places at is 
           elim (cases_eq other slot) [
             | inl same ↦
                 let there = ap (λ (ts : List Term). slice_get ts (length before)) terms in
-                (length before, t, there ∙ get_new before t, subst (IsSlot own t) (sym same) is)
+                (length before, t, there ∙ push_end before t, subst (IsSlot own t) (sym same) is)
             | inr differs ↦
                 let kept_mark = get_or-set_other marks slot other true false differs in
                 let marked = ap (λ (ms : List Bool). get_or ms other false) slots in

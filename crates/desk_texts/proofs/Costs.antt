@@ -14,12 +14,13 @@ use Rattle.std.proofs.lemmas.List.Elements.{All-contains, Contains-get_or}
 use Rattle.std.proofs.lemmas.List.Sums.{sum_by-cons}
 use Rattle.std.proofs.lemmas.Map.Keys.{sorted_tail}
 use Rattle.std.proofs.lemmas.Option.{slice_get_within, get_or_from_slice_get, slice_get_read, slice_get_past}
+use Rattle.std.proofs.lemmas.Simd.{map-map}
 use Rattle.desk_expr.specs.declared.term.Term.{Term}
 use Rattle.desk_expr.specs.Tree.{Tree}
 use Rattle.desk_expr.specs.Meaning.{Holds, IsSubset}
 use Rattle.desk_expr.specs.Occurring.{term_order, AreTermsOf}
 use Rattle.desk_expr.specs.Printing.{printed_term}
-use Rattle.desk_alts.proofs.SameTerms.{contains_cases, contains_here, contains_there, same_term}
+use Rattle.desk_alts.proofs.SameTerms.{contains_cases, contains_here, same_term}
 use Rattle.desk_alts.proofs.TableLemmas.{same_rank, ranks_with_itself}
 use Rattle.desk_alts.specs.Sets.{IsTermSet}
 use Rattle.desk_alts.specs.Costs.{HasCosts, set_cost, IsCheapest, HasNoCosts}
@@ -29,6 +30,7 @@ use Rattle.desk_alts.proofs.Choosing.{holds_on_leaves, is_listed}
 use Rattle.desk_model.specs.Listings.{IsCost, at_most}
 use Rattle.desk_alts.specs.Faults.{IsListable}
 use Rattle.desk_base.specs.declared.profile.Profile.{Profile}
+use Rattle.desk_base.proofs.SortedOnce.{is_later}
 use Rattle.desk_texts.specs.Expressions.{IsExpression}
 use Rattle.desk_texts.specs.Listings.{cost_at, cost_of, cost_within, AreTermTexts, IsPriced}
 
@@ -57,11 +59,11 @@ part_of ts (x ∷ xs) =
           (λ at. elim (contains_cases x rest.few t at) [
             | inl is ↦ (contains_here x xs t is, subst (λ (u : Term). Contains ts u) is here)
             | inr inside ↦ let both = (rest.both t).0 inside in
-                (contains_there x xs t both.0, both.1)
+                (is_later x xs t both.0, both.1)
           ]),
           (λ h. elim (contains_cases x xs t h.0) [
             | inl is ↦ contains_here x rest.few t is
-            | inr inside ↦ contains_there x rest.few t ((rest.both t).1 (inside, h.1))
+            | inr inside ↦ is_later x rest.few t ((rest.both t).1 (inside, h.1))
           ]),
         );
         ordered = λ up. sorted_consed x rest.few (rest.ordered (sorted_tail term_order x xs up))
@@ -70,7 +72,7 @@ part_of ts (x ∷ xs) =
       | inr none ↦ record {
         few = rest.few;
         both = λ t. (
-          (λ at. let both = (rest.both t).0 at in (contains_there x xs t both.0, both.1)),
+          (λ at. let both = (rest.both t).0 at in (is_later x xs t both.0, both.1)),
           (λ h. elim (contains_cases x xs t h.0) [
             | inl is ↦ absurd (none (subst (λ (u : Term). Contains ts u) (sym is) h.1))
             | inr inside ↦ (rest.both t).1 (inside, h.1)
@@ -86,7 +88,7 @@ same_sum : (f g : Term → ℕ) (s : List Term) → ((t : Term) → Contains s t
     → sum_by f s ≡ sum_by g s
 same_sum f g [] same = refl
 same_sum f g (x ∷ xs) same =
-    let rest = same_sum f g xs (λ t at. same t (contains_there x xs t at)) in
+    let rest = same_sum f g xs (λ t at. same t (is_later x xs t at)) in
     let here = same x (contains_here x xs x refl) in
     let left = sum_by-cons f x xs in
     let right = sum_by-cons g x xs in
@@ -206,7 +208,7 @@ no_cost [] costs t none = refl
 no_cost (x ∷ xs) [] t none = refl
 no_cost (x ∷ xs) (c ∷ cs) t none =
     rw (differs x t (λ is. none (contains_here x xs t is)))
-    (no_cost xs cs t (λ at. none (contains_there x xs t at)))
+    (no_cost xs cs t (λ at. none (is_later x xs t at)))
 
 own_cost : (f : Term → Option ℕ) (ts : List Term) (t : Term) → Contains ts t
     → cost_at ts (map f ts) t ≡ f t
@@ -225,16 +227,11 @@ within_bound (Some n) h = ap Some (small n h)
     small : (n : ℕ) → n ≤ 1000000 → at_most 1000000 n ≡ n
     small n le = let less : nat_lt 1000000 n ≡ false = grind (arith, nat_tests) in rw less refl
 
-same_map : {A B C : Type 0} (f : B → C) (g : A → B) (xs : List A)
-    → map f (map g xs) ≡ map (λ x. f (g x)) xs
-same_map f g [] = refl
-same_map f g (x ∷ xs) = ap (λ ys. f (g x) ∷ ys) (same_map f g xs)
-
 module _ (cost : List ℕ → Option ℕ) (bounded : IsCost cost) (e : Tree) (ts : List Term)
     (are : AreTermsOf e ts) (costs : List (Option ℕ))
     (given : costs ≡ map cost (map printed_term ts)) where
   by_places : costs ≡ map (cost_of cost) ts
-  by_places = given ∙ same_map cost printed_term ts
+  by_places = given ∙ map-map cost printed_term ts
 
   agrees : (t : Term) → Contains ts t → cost_within ts costs t ≡ cost_of cost t
   agrees t at =

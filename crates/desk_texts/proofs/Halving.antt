@@ -4,9 +4,11 @@ use Rattle.std.proofs.Common.{length, map, take, drop, get_or, Bor, sym, refl, a
 use Rattle.std.proofs.Common.{arith}
 use Rattle.std.specs.Prelude.{if◌then◌else◌}
 use Rattle.std.specs.Str.{bytes_eq}
-use Rattle.std.proofs.lemmas.List.{take-append-drop, map-append, length-map}
+use Rattle.std.proofs.lemmas.List.{take-append-drop, map-append, length-map, drop-map, take-map}
 use Rattle.std.proofs.Math.ListN.{get_or-map}
 use Rattle.std.proofs.lemmas.Slice.Eq.{bytes_eq-Decides}
+use Rattle.std.proofs.lemmas.Bool.{false_from_ne_true}
+use Rattle.std.proofs.lemmas.Simd.{map-map}
 use Rattle.desk_model.specs.Texts.{text_below}
 use Rattle.desk_texts.specs.Documents.{put_by, sorted_by}
 use Rattle.desk_texts.specs.Rising.{Each, Rises, IsLower, is_below_first}
@@ -52,13 +54,9 @@ none_below_from (x ∷ xs) id zero d up within e = (e, none_below x id xs e up.0
 none_below_from (x ∷ xs) id (suc m) d up within e = none_below_from xs id m d up.1
     (omega (arith, within)) e
 
-untrue : (b : Bool) → (b ≡ true → ⊥) → b ≡ false
-untrue true never = absurd (never refl)
-untrue false _ = refl
-
 -- a text that is below another is a different one
 pub other_text : (a b : List ℕ) → text_below b a ≡ true → bytes_eq a b ≡ false
-other_text a b e = untrue (bytes_eq a b)
+other_text a b e = false_from_ne_true (bytes_eq a b)
     (λ same. let is : a ≡ b = (bytes_eq-Decides a b).0 same in
     true_false (sym e ∙ below_self a (text_below b a) (ap (λ c. text_below c a) is)))
   where
@@ -97,12 +95,6 @@ put_same id x (y ∷ ys) each e =
     ap (λ b. if b then x ∷ y ∷ ys
     else (if bytes_eq (id x) (id y) then y ∷ ys else y ∷ put_by id x ys)) e
     ∙ ap (λ b. if b then y ∷ ys else y ∷ put_by id x ys) found
-
-drop-map : {A B : Type 0} (f : A → B) (n : ℕ) (xs : List A) → drop n (map f xs) ≡ map f (drop n xs)
-drop-map f zero [] = refl
-drop-map f zero (x ∷ xs) = refl
-drop-map f (suc n) [] = refl
-drop-map f (suc n) (x ∷ xs) = drop-map f n xs
 
 -- a part whose id isn't there goes in at its place
 pub put_new : {A : Type 0} (id : A → List ℕ) (x : A) (xs : List A) (n : ℕ)
@@ -199,17 +191,6 @@ first_at_end id x [] (suc n) e = refl
 first_at_end id x (y ∷ ys) zero e = absurd (omega (arith, e))
 first_at_end id x (y ∷ ys) (suc n) e = first_at_end id x ys n (omega (arith, e))
 
-pub map_map : {A B C : Type 0} (f : B → C) (g : A → B) (xs : List A)
-    → map f (map g xs) ≡ map (λ x. f (g x)) xs
-map_map f g [] = refl
-map_map f g (x ∷ xs) = ap (λ l. f (g x) ∷ l) (map_map f g xs)
-
-take-map : {A B : Type 0} (f : A → B) (n : ℕ) (xs : List A) → take n (map f xs) ≡ map f (take n xs)
-take-map f zero [] = refl
-take-map f zero (x ∷ xs) = refl
-take-map f (suc n) [] = refl
-take-map f (suc n) (x ∷ xs) = ap (λ l. f x ∷ l) (take-map f n xs)
-
 -- an item inserted into a list, seen through a map
 pub map_insert : {A B : Type 0} (f : A → B) (xs : List A) (n : ℕ) (x : A)
     → map f (take n xs ++ x ∷ drop n xs) ≡ take n (map f xs) ++ f x ∷ drop n (map f xs)
@@ -227,7 +208,7 @@ module _ {P : Type 0} (id : P → List ℕ) where
   lent xs = map (λ p. p.now) xs
 
   ids_of_lent : (xs : List (Bor P)) → lent_ids xs ≡ map id (lent xs)
-  ids_of_lent xs = sym (map_map id (λ p. p.now) xs)
+  ids_of_lent xs = sym (map-map id (λ p. p.now) xs)
 
   pub lent_new : (x : Bor P) (xs : List (Bor P)) (n : ℕ) → IsLower (lent_ids xs) (id x.now) n
       → is_below_first (id x.now) (drop n (lent_ids xs)) ≡ true
@@ -312,7 +293,7 @@ pub lent_sorted : {A B C : Type 0} (f : A → B) (g : B → C) (id : B → List 
     (ys : List (Bor A)) → map (λ p. p.now) ys ≡ sorted_by (λ a. id (f a)) xs
     → map (λ p. g (f p.now)) ys ≡ map g (sorted_by id (map f xs))
 lent_sorted f g id xs ys e =
-    sym (map_map (λ a. g (f a)) (λ p. p.now) ys)
+    sym (map-map (λ a. g (f a)) (λ p. p.now) ys)
     ∙ (ap (map (λ a. g (f a))) e
-    ∙ (sym (map_map g f (sorted_by (λ a. id (f a)) xs))
+    ∙ (sym (map-map g f (sorted_by (λ a. id (f a)) xs))
     ∙ ap (map g) (sorted-map f id xs)))

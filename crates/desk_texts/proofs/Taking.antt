@@ -1,5 +1,5 @@
 -- Texts that are taken by their ids, each when it is first asked for.
-use Rattle.std.proofs.Common.{◌≡◌, ◌∙◌, ℕ, zero, suc, Bool, true, false, cond, List, [], ◌∷◌, ◌++◌}
+use Rattle.std.proofs.Common.{◌≡◌, ◌∙◌, ℕ, Bool, true, false, cond, List, [], ◌∷◌, ◌++◌}
 use Rattle.std.proofs.Common.{◌+◌, ◌<◌, length, get_or, take, map, Option, None, Some, sym, ap}
 use Rattle.std.proofs.Common.{refl, subst}
 use Rattle.std.specs.Prelude.{slice_get, unwrap_or}
@@ -10,6 +10,7 @@ use Rattle.std.specs.Ordering.{is_eq, nat_cmp}
 use Rattle.std.proofs.lemmas.List.{map-append, take_more}
 use Rattle.std.proofs.lemmas.Map.Text.{is_eq-slice_cmp}
 use Rattle.std.proofs.lemmas.Slice.Eq.{bytes_eq-Decides}
+use Rattle.desk_alts.proofs.GoLemmas.{push_before, push_end}
 use Rattle.desk_base.specs.Folded.{folded}
 use Rattle.desk_model.specs.declared.reading.LicenceText.{LicenceText}
 use Rattle.desk_texts.specs.Catalogues.{AreTaken, place_in, text_in}
@@ -51,16 +52,6 @@ none_asked texts taken found places left = record {
     never : {A : Type 0} {x : A} → None ≡ Some x → ⊥
     never e = cc
 
-get_front : {A : Type 0} (xs : List A) (x y : A) (n : ℕ) → slice_get xs n ≡ Some y
-    → slice_get (xs ++ x ∷ []) n ≡ Some y
-get_front [] x y n h = cc
-get_front (z ∷ xs) x y zero h = h
-get_front (z ∷ xs) x y (suc n) h = get_front xs x y n h
-
-get_last : {A : Type 0} (xs : List A) (x : A) → slice_get (xs ++ x ∷ []) (length xs) ≡ Some x
-get_last [] x = refl
-get_last (z ∷ xs) x = get_last xs x
-
 module _ (texts : List ℕ → Option LicenceText) (ids : List (List ℕ)) (id : List ℕ) (old new : Taken)
     (are : AreTaken texts ids old) (x : Option LicenceText)
     (put : new.found ≡ old.found ++ x ∷ []) where
@@ -71,7 +62,7 @@ module _ (texts : List ℕ → Option LicenceText) (ids : List (List ℕ)) (id :
       → slice_get new.found place ≡ Some (texts other)
   stays other place e = subst (λ (l : List (Option LicenceText)). slice_get l place
       ≡ Some (texts other)) (sym put)
-      (get_front old.found x (texts other) place (are.here other place e))
+      (push_before old.found x (texts other) place (are.here other place e))
 
   -- an id that was asked for before
   pub again : (place : ℕ) → place_in old.places id ≡ Some place
@@ -107,7 +98,7 @@ module _ (texts : List ℕ → Option LicenceText) (ids : List (List ℕ)) (id :
     here other place true b e =
         subst (λ (n : ℕ). slice_get new.found n ≡ Some (texts other)) (ap (λ o. unwrap_or o 0) e)
         (ap (λ (l : List (Option LicenceText)). slice_get l (length old.found)) put
-        ∙ get_last old.found x ∙ ap Some (fresh other (same_key other b)))
+        ∙ push_end old.found x ∙ ap Some (fresh other (same_key other b)))
     here other place false b e = stays other place e
 
     rest : (other : List ℕ) (b : Bool) → is_eq (slice_cmp nat_cmp key (folded other)) ≡ b

@@ -5,25 +5,13 @@ use Rattle.std.proofs.Common.{length-append}
 use Rattle.std.specs.Prelude.{IsTrue, All}
 use Rattle.std.proofs.lemmas.Bool.Decides.{nat_tests}
 use Rattle.std.proofs.lemmas.List.{append-nil}
+use Rattle.std.proofs.lemmas.List.Elements.{All-nil, All-cons, All-head, All-tail}
 use Rattle.desk_base.specs.declared.profile.Profile.{Profile}
 use Rattle.desk_tokens.specs.Words.{kind_by}
 use Rattle.desk_tokens.specs.Tokens.{is_parenthesis, is_run_byte, NoRunBegins, IsPiece, Lexeme, IsFirstToken, AreTokensBy}
 use Rattle.desk_base.specs.Bytes.{is_blank}
 
 -- ---- all of a list
-
-pub all_none : (P : ℕ → Type 0) → All P []
-all_none P k d within = absurd (omega arith)
-
-pub all_more : (P : ℕ → Type 0) (b : ℕ) (bs : List ℕ) → P b → All P bs → All P (b ∷ bs)
-all_more P b bs here rest zero d within = here
-all_more P b bs here rest (suc k) d within = rest k d (omega arith)
-
-pub all_head : (P : ℕ → Type 0) (b : ℕ) (bs : List ℕ) → All P (b ∷ bs) → P b
-all_head P b bs h = h zero b (omega arith)
-
-pub all_tail : (P : ℕ → Type 0) (b : ℕ) (bs : List ℕ) → All P (b ∷ bs) → All P bs
-all_tail P b bs h k d within = h (suc k) d (omega arith)
 
 abbrev Blank : ℕ → Type 0
 Blank b = IsTrue (is_blank b)
@@ -69,7 +57,7 @@ first_blanks : (bytes : List ℕ) → FirstBlanks bytes
 first_blanks [] = record {
   blanks = [];
   from = [];
-  only = all_none Blank;
+  only = All-nil Blank;
   cut = refl;
   stops = λ b bs is. absurd (cc);
 }
@@ -80,14 +68,14 @@ first_blanks (b ∷ bs) =
           record {
             blanks = b ∷ rest.blanks;
             from = rest.from;
-            only = all_more Blank b rest.blanks is_so rest.only;
+            only = All-cons Blank b rest.blanks is_so rest.only;
             cut = ap (λ l. b ∷ l) rest.cut;
             stops = rest.stops;
           }
       | inr is_not ↦ record {
         blanks = [];
         from = b ∷ bs;
-        only = all_none Blank;
+        only = All-nil Blank;
         cut = refl;
         stops = λ c cs is. let same : b ≡ c = cc in subst (λ x. is_blank x ≡ false) same is_not;
       }
@@ -101,7 +89,7 @@ record FirstRun (bytes : List ℕ) : Type 0 where
   stops : NoRunBegins rest
 
 first_run : (bytes : List ℕ) → FirstRun bytes
-first_run [] = record { run = []; rest = []; only = all_none RunByte; cut = refl; stops = tt }
+first_run [] = record { run = []; rest = []; only = All-nil RunByte; cut = refl; stops = tt }
 first_run (b ∷ bs) =
     elim (run_or_not b) [
       | inl is_so ↦
@@ -109,14 +97,14 @@ first_run (b ∷ bs) =
           record {
             run = b ∷ more.run;
             rest = more.rest;
-            only = all_more RunByte b more.run is_so more.only;
+            only = All-cons RunByte b more.run is_so more.only;
             cut = ap (λ l. b ∷ l) more.cut;
             stops = more.stops;
           }
       | inr is_not ↦ record {
         run = [];
         rest = b ∷ bs;
-        only = all_none RunByte;
+        only = All-nil RunByte;
         cut = refl;
         stops = is_not;
       }
@@ -137,7 +125,7 @@ first_piece b bs no_blank =
           record {
             text = b ∷ more.run;
             rest = more.rest;
-            piece = inr (all_more RunByte b more.run is_so more.only, more.stops);
+            piece = inr (All-cons RunByte b more.run is_so more.only, more.stops);
             cut = ap (λ l. b ∷ l) more.cut;
             some = omega arith;
           }
@@ -227,14 +215,14 @@ same_front : (test : ℕ → Bool) (xs ys x y : List ℕ) → All (λ b. IsTrue 
     → (xs ≡ ys) × (x ≡ y)
 same_front test [] [] x y only only' stops stops' is = (refl, is)
 same_front test [] (b ∷ ys) x y only only' stops stops' is = clash (test b)
-    (all_head (λ b. IsTrue (test b)) b ys only') (stops b (ys ++ y) is)
+    (All-head (λ b. IsTrue (test b)) b ys only') (stops b (ys ++ y) is)
 same_front test (b ∷ xs) [] x y only only' stops stops' is = clash (test b)
-    (all_head (λ b. IsTrue (test b)) b xs only) (stops' b (xs ++ x) (sym is))
+    (All-head (λ b. IsTrue (test b)) b xs only) (stops' b (xs ++ x) (sym is))
 same_front test (b ∷ xs) (c ∷ ys) x y only only' stops stops' is =
     let head : b ≡ c = cc in
     let tail : xs ++ x ≡ ys ++ y = cc in
-    let rest = same_front test xs ys x y (all_tail (λ b. IsTrue (test b)) b xs only)
-    (all_tail (λ b. IsTrue (test b)) c ys only') stops stops' tail in
+    let rest = same_front test xs ys x y (All-tail (λ b. IsTrue (test b)) b xs only)
+    (All-tail (λ b. IsTrue (test b)) c ys only') stops stops' tail in
     ((λ i. head i ∷ rest.0 i), rest.1)
 
 same_run : (xs ys x y : List ℕ) → All RunByte xs → All RunByte ys → NoRunBegins x → NoRunBegins y
@@ -246,7 +234,7 @@ same_run xs ys x y only only' free free' is =
 piece_no_blank : (text rest : List ℕ) → IsPiece text rest → NoBlankBegins (text ++ rest)
 piece_no_blank [] rest p = absurd p
 piece_no_blank (b ∷ bs) rest (inl (h, is)) = parenthesis_no_blank b h
-piece_no_blank (b ∷ bs) rest (inr (only, stops)) = run_no_blank b (all_head RunByte b bs only)
+piece_no_blank (b ∷ bs) rest (inr (only, stops)) = run_no_blank b (All-head RunByte b bs only)
 
 same_piece : (t u x y : List ℕ) → IsPiece t x → IsPiece u y → t ++ x ≡ u ++ y → (t ≡ u) × (x ≡ y)
 same_piece [] u x y p q is = absurd p
@@ -258,11 +246,11 @@ same_piece (b ∷ bs) (c ∷ cs) x y (inl (h, none)) (inl (k, none')) is =
     ((λ i. head i ∷ same i), sym (ap (λ l. l ++ x) none) ∙ tail ∙ ap (λ l. l ++ y) none')
 same_piece (b ∷ bs) (c ∷ cs) x y (inl (h, none)) (inr (only, stops)) is =
     let head : c ≡ b = cc in
-    clash (is_run_byte b) (subst (λ v. is_run_byte v ≡ true) head (all_head RunByte c cs only))
+    clash (is_run_byte b) (subst (λ v. is_run_byte v ≡ true) head (All-head RunByte c cs only))
     (parenthesis_no_run b h)
 same_piece (b ∷ bs) (c ∷ cs) x y (inr (only, stops)) (inl (k, none)) is =
     let head : b ≡ c = cc in
-    clash (is_run_byte c) (subst (λ v. is_run_byte v ≡ true) head (all_head RunByte b bs only))
+    clash (is_run_byte c) (subst (λ v. is_run_byte v ≡ true) head (All-head RunByte b bs only))
     (parenthesis_no_run c k)
 same_piece (b ∷ bs) (c ∷ cs) x y (inr (only, stops)) (inr (only', stops')) is = same_run (b ∷ bs)
     (c ∷ cs) x y only only' stops stops' is
@@ -288,8 +276,8 @@ no_token_of_blanks profile place bytes t rest only f = starts t.text f.piece f.c
   where
     behind : (front : List ℕ) (b : ℕ) (bs : List ℕ) → All Blank (front ++ b ∷ bs)
         → is_blank b ≡ true
-    behind [] b bs h = all_head Blank b bs h
-    behind (c ∷ front) b bs h = behind front b bs (all_tail Blank c (front ++ b ∷ bs) h)
+    behind [] b bs h = All-head Blank b bs h
+    behind (c ∷ front) b bs h = behind front b bs (All-tail Blank c (front ++ b ∷ bs) h)
 
     starts : (text : List ℕ) → IsPiece text rest → bytes ≡ f.blanks ++ (text ++ rest) → ⊥
     starts [] p cut = p

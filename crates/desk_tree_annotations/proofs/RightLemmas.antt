@@ -1,12 +1,9 @@
 -- Right readings agree.
-use Rattle.std.proofs.Common.{◌≡◌, ◌∙◌, ◌⊎◌, inl, inr, ℕ, ◌+◌, ◌<◌, Bool, true, false, List, ◌∷◌}
-use Rattle.std.proofs.Common.{◌++◌, [], length, get_or, take, drop, map, refl, sym, ap, arith}
+use Rattle.std.proofs.Common.{◌≡◌, ◌∙◌, ℕ, ◌+◌, ◌<◌, Bool, true, false, List, ◌∷◌}
+use Rattle.std.proofs.Common.{◌++◌, [], length, get_or, take, drop, map, refl, sym, ap}
 use Rattle.std.specs.List.{list_all}
-use Rattle.std.specs.Prelude.{◌&&◌, alloc_error}
+use Rattle.std.specs.Prelude.{◌&&◌}
 use Rattle.std.proofs.lemmas.List.{drop_more, take_more, map_push}
-use Rattle.desk_expr.specs.Faults.{fault_number}
-use Rattle.desk_expr.specs.declared.fault.ParseFault.{ParseFault}
-use Rattle.desk_expr.specs.declared.fault.ParseFault.TheVariants.{Memory}
 use Rattle.desk_tree_patterns.specs.declared.glob.Piece.{Piece}
 use Rattle.desk_tree_patterns.specs.Glob.{Spells}
 use Rattle.desk_tree_patterns.proofs.GlobOnce.{spells_once}
@@ -35,12 +32,6 @@ same_reading r s right other = λ i. record {
   is_expression = λ text. tells_once text (r.is_expression text) (s.is_expression text)
       (right.expressions text) (other.expressions text) i;
 }
-
--- a fault that isn't `Memory`: the other case is true
-pub not_memory : {P : Type 0} (fault : ParseFault) → 0 < fault_number fault
-    → (fault ≡ Memory alloc_error) ⊎ P → P
-not_memory fault some (inl is) = let zero = ap fault_number is in absurd (omega arith)
-not_memory fault some (inr p) = p
 
 -- an expression that is one, and one that isn't
 pub all_go : (test : List ℕ → Bool) (listed : List (List ℕ)) (i : ℕ) (v : List ℕ)

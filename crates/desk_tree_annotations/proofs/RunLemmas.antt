@@ -1,10 +1,11 @@
 -- The first run of some bytes.
-use Rattle.std.proofs.Common.{◌≡◌, ◌≢◌, ◌∙◌, ℕ, ◌+◌, ◌<◌, List, [], ◌∷◌, ◌++◌, length, get_or, drop}
+use Rattle.std.proofs.Common.{◌≡◌, ◌≢◌, ◌∙◌, ℕ, ◌+◌, ◌<◌, List, [], ◌++◌, length, get_or, drop}
 use Rattle.std.proofs.Common.{sym, subst, ap, refl, arith, append_assoc, append-nil, length-append}
 use Rattle.std.proofs.Common.{length-drop}
 use Rattle.std.specs.Prelude.{All, count_by, ◌==◌}
 use Rattle.std.proofs.Math.Seq.{drop-append_seam, drop-append-add}
 use Rattle.std.proofs.Math.ListN.{get_or-append}
+use Rattle.std.proofs.lemmas.List.{nil_from_length}
 use Rattle.desk_base.specs.declared.lines.LineEnd.{LineEnd}
 use Rattle.desk_base.specs.Lines.{IsLine, end_bytes}
 use Rattle.desk_tree_annotations.specs.Runs.{Lacks, IsUpTo, line_end, ignored, ignored_rest, IsRun, start, stop}
@@ -41,12 +42,8 @@ front_no_lf text before more h cut = λ k d lt.
     subst (λ v. v ≢ 10) (ap (λ t. get_or t k d) cut ∙ get_or-append before more d k lt)
     (h k d inside)
 
-pub nil_of : (xs : List ℕ) → length xs ≡ 0 → xs ≡ []
-nil_of [] h = refl
-nil_of (c ∷ xs) h = absurd (omega arith)
-
 pub drop_all : (xs ys : List ℕ) → ys ≡ drop (length xs) xs → ys ≡ []
-drop_all xs ys e = e ∙ nil_of (drop (length xs) xs)
+drop_all xs ys e = e ∙ nil_from_length (drop (length xs) xs)
     (let l = length-drop (length xs) xs in omega arith)
 
 append_nil_at : (xs none : List ℕ) → none ≡ [] → xs ++ none ≡ xs

@@ -1,12 +1,12 @@
 -- The tags of some runs.
 use Rattle.std.proofs.Common.{◌≡◌, ◌≢◌, ◌∙◌, ℕ, ◌<◌, List, [], ◌∷◌, ◌++◌, length, sym, subst, ap}
 use Rattle.std.proofs.Common.{refl, append_assoc, append-nil}
+use Rattle.std.proofs.lemmas.List.{nil_from_length}
 use Rattle.std.specs.Prelude.{Option, Some, None, IfNone, IfSome, MatchOption}
 use denote.Ref.{Bor}
 use Rattle.desk_tree_annotations.specs.Runs.{RunText, IsRun, Shows}
 use Rattle.desk_tree_annotations.specs.Tags.{TagText, Gives, onto, IsInfo, notice_tag, licence_tag}
 use Rattle.desk_tree_annotations.specs.Found.{Adds}
-use Rattle.desk_tree_annotations.proofs.RunLemmas.{nil_of}
 
 pub end_none : (s p : List ℕ) (r : Option (Bor (List ℕ)))
     → MatchOption r ((front : List ℕ) → s ≢ front ++ p) (λ x. s ≡ x.now ++ p)
@@ -73,6 +73,6 @@ pub completes_end : (file : List ℕ) (line : ℕ) (bytes : List ℕ) (noticed :
     → length bytes ≡ 0 → Completes file line bytes noticed notices licensed licences
     → IsInfo file notices licences
 completes_end file line bytes noticed notices licensed licences none inv =
-    let whole = inv [] [] [] (nil_of bytes none) refl refl in
+    let whole = inv [] [] [] (nil_from_length bytes none) refl refl in
     subst (λ k. IsInfo file k licences) (append-nil notices)
     (subst (λ k. IsInfo file (notices ++ []) k) (append-nil licences) whole)

@@ -27,6 +27,7 @@ use Rattle.desk_tree_gather.proofs.GatheredLemmas.{gathered_fails, gathered_foun
 use Rattle.desk_tree_gather.proofs.OwnedLemmas.{files_in}
 use Rattle.desk_base.specs.Results.{then_read, followed}
 use Rattle.desk_base.proofs.Results.{onto, onto-followed}
+use Rattle.desk_base.proofs.Texts.{same_text}
 
 -- ---- paths
 
@@ -57,9 +58,6 @@ below_longer (y ∷ ys) x more = ap (λ o. ordering_then o (slice_cmp nat_cmp ys
 apart : (a b : List ℕ) → IsBelow a b → bytes_eq b a ≡ false
 apart a b is = sym (is_eq-slice_cmp b a)
     ∙ ap is_eq (nat_list_cmp_total.antisymm b a ∙ ap ordering_reverse is)
-
-itself : (a : List ℕ) → bytes_eq a a ≡ true
-itself a = sym (is_eq-slice_cmp a a) ∙ ap is_eq (tied_itself nat_list_cmp_total a)
 
 -- ---- one file
 
@@ -99,7 +97,7 @@ module _ (r : Reader) (tomls : List TomlText) where
       (some_bytes (cond b (Some f.bytes) (bytes_at fs g.path)))) (apart f.path g.path below)
       ∙ sym (told_of-is g fs)
 
-  -- what is reported about the first is from itself and the others
+  -- what is reported about the first is from same_text and the others
   told_first : (f : SourceFile) (fs : List SourceFile)
       → told_of r tomls (f ∷ fs) f ≡ told_beside r tomls fs f
   told_first f fs =
@@ -107,7 +105,7 @@ module _ (r : Reader) (tomls : List TomlText) where
       ∙ ap (λ h. by_stated f (stated_in r h) (bytes_of (f ∷ fs) f.path))
       (holder_behind f f fs (below_longer f.path 46 (codes "license")))
       ∙ ap (λ b. by_stated f (stated_in r (holder fs f))
-      (some_bytes (cond b (Some f.bytes) (bytes_at fs f.path)))) (itself f.path)
+      (some_bytes (cond b (Some f.bytes) (bytes_at fs f.path)))) (same_text f.path)
 
   -- ---- all files
 

@@ -16,7 +16,10 @@ use Rattle.std.proofs.lemmas.List.Kept.{IsStrictlySortedBy-filter}
 use Rattle.std.proofs.lemmas.Map.Keys.{sorted_tail}
 use Rattle.std.proofs.lemmas.Map.Views.{All-after_first, All-insert_key}
 use Rattle.std.proofs.lemmas.Slice.Eq.{bytes_eq-Decides}
-use Rattle.desk_base.proofs.SortedOnce.{head_or_later, is_head, is_later, sorted_onto, head_first, same_sorted}
+use Rattle.std.proofs.Math.Bool.{or-true}
+use Rattle.desk_base.proofs.SortedOnce.{is_head, is_later, sorted_onto, head_first, same_sorted}
+use Rattle.desk_base.proofs.Lists.{contains_cases}
+use Rattle.desk_base.proofs.Texts.{texts_equal}
 use Rattle.desk_base.specs.TextSets.{is_among}
 use Rattle.desk_model.specs.Texts.{text_below, put_new, sorted_set}
 use Rattle.desk_tree_annotations.specs.declared.annotation.Annotation.{Annotation}
@@ -29,10 +32,6 @@ abbrev Texts : Type 0
 Texts = List (List ℕ)
 
 -- ---- tests
-
-pub or_false : (b : Bool) → (b || false) ≡ b
-or_false true = refl
-or_false false = refl
 
 or_again : (b c : Bool) → (b || c) ≡ (b || (b || c))
 or_again true c = refl
@@ -49,9 +48,6 @@ pub among-append : (xs ys : Texts) (t : List ℕ)
     → is_among (xs ++ ys) t ≡ (is_among xs t || is_among ys t)
 among-append xs ys t = list_any-append (λ u. bytes_eq u t) xs ys
 
-pub among_same : (u t : List ℕ) → bytes_eq u t ≡ true → u ≡ t
-among_same u t = (bytes_eq-Decides u t).0
-
 by_place : (x y t : List ℕ) (ys rest : Texts) (below same : Bool) → bytes_eq x y ≡ same
     → is_among rest t ≡ (bytes_eq x t || is_among ys t)
     → is_among (cond below (x ∷ y ∷ ys) (cond same (y ∷ ys) (y ∷ rest))) t
@@ -59,7 +55,7 @@ by_place : (x y t : List ℕ) (ys rest : Texts) (below same : Bool) → bytes_eq
 by_place x y t ys rest true same is step = refl
 by_place x y t ys rest false true is step =
     or_again (bytes_eq y t) (is_among ys t)
-    ∙ ap (λ z. bytes_eq z t || (bytes_eq y t || is_among ys t)) (sym (among_same x y is))
+    ∙ ap (λ z. bytes_eq z t || (bytes_eq y t || is_among ys t)) (sym (texts_equal x y is))
 by_place x y t ys rest false false is step =
     ap (λ b. bytes_eq y t || b) step ∙ or_moves (bytes_eq x t) (bytes_eq y t) (is_among ys t)
 
@@ -92,7 +88,7 @@ among-filter p [] t = refl
 among-filter p (x ∷ xs) t =
     test_moves t x (p x) (filter p xs)
     ∙ ap (λ b. cond (p x) (bytes_eq x t || b) b) (among-filter p xs t)
-    ∙ by_test (p x) (bytes_eq x t) (is_among xs t) (p t) (λ same. ap p (among_same x t same))
+    ∙ by_test (p x) (bytes_eq x t) (is_among xs t) (p t) (λ same. ap p (texts_equal x t same))
 
 -- ---- the set
 
@@ -100,20 +96,16 @@ among_to : (xs : Texts) (t : List ℕ) → is_among xs t ≡ true → Contains x
 among_to [] t is = absurd (false≢true is)
 among_to (x ∷ xs) t is =
     elim (cases_Bool (bytes_eq x t)) [
-      | inl here ↦ subst (λ u. Contains (x ∷ xs) u) (among_same x t here) (is_head x xs)
+      | inl here ↦ subst (λ u. Contains (x ∷ xs) u) (texts_equal x t here) (is_head x xs)
       | inr away ↦ is_later x xs t (among_to xs t (ap (λ b. b || is_among xs t) (sym away) ∙ is))
     ]
-
-or_true : (b : Bool) → (b || true) ≡ true
-or_true true = refl
-or_true false = refl
 
 among_from : (xs : Texts) (t : List ℕ) → Contains xs t → is_among xs t ≡ true
 among_from [] t at = absurd (let within = at.1 in omega (arith, within))
 among_from (x ∷ xs) t at =
-    elim (head_or_later x xs t at) [
+    elim (contains_cases x xs t at) [
       | inl same ↦ ap (λ b. b || is_among xs t) ((bytes_eq-Decides x t).1 same)
-      | inr later ↦ ap (λ b. bytes_eq x t || b) (among_from xs t later) ∙ or_true (bytes_eq x t)
+      | inr later ↦ ap (λ b. bytes_eq x t || b) (among_from xs t later) ∙ or-true (bytes_eq x t)
     ]
 
 abbrev order : List ℕ → List ℕ → Ordering
@@ -124,7 +116,7 @@ by_order : (x k : List ℕ) (xs : Texts) (o : Ordering) → order k x ≡ o
     → IsStrictlySortedBy order (match_ordering o (k ∷ x ∷ xs) (x ∷ xs) (x ∷ insert_key order xs k))
 unfolding IsStrictlySortedBy
 by_order x k xs Less is up rest =
-    sorted_onto order k (x ∷ xs) up (λ y at. elim (head_or_later x xs y at) [
+    sorted_onto order k (x ∷ xs) up (λ y at. elim (contains_cases x xs y at) [
       | inl same ↦ subst (λ z. order k z ≡ Less) same is
       | inr later ↦ nat_list_cmp_total.trans k x y is
           (head_first order nat_list_cmp_total x y xs up later)

@@ -1,5 +1,5 @@
 -- The texts that no earlier file has.
-use Rattle.std.proofs.Common.{◌≡◌, ◌∙◌, ℕ, ◌+◌, ◌<◌, Bool, true, false, cond, List, [], ◌∷◌, ◌++◌}
+use Rattle.std.proofs.Common.{◌≡◌, ◌∙◌, ℕ, ◌+◌, ◌<◌, Bool, true, false, List, [], ◌∷◌, ◌++◌}
 use Rattle.std.proofs.Common.{length, get_or, take, drop, map, sym, ap, refl, filter, append_assoc}
 use Rattle.std.specs.Prelude.{◌||◌, ◌&&◌, not}
 use Rattle.std.specs.Str.{bytes_eq}
@@ -7,7 +7,9 @@ use Rattle.std.specs.List.{flat_map}
 use Rattle.std.specs.BTreeSet.{BTreeSet}
 use Rattle.std.proofs.lemmas.Bool.{false≢true}
 use Rattle.std.proofs.lemmas.List.{drop_more, flat_map_more, map_more, map-append, take_more}
+use Rattle.std.proofs.Math.Bool.{or-false, or-true, or_comm}
 use Rattle.desk_base.specs.TextSets.{is_among, has_text}
+use Rattle.desk_base.proofs.Texts.{texts_equal}
 use denote.Ref.{Bor}
 use Rattle.desk_model.specs.Texts.{sorted_set}
 use Rattle.desk_tree_annotations.specs.declared.annotation.Annotation.{Annotation}
@@ -20,20 +22,12 @@ use Rattle.desk_tree_infos.specs.declared.infos.Covered.{Covered}
 use Rattle.desk_tree_infos.specs.Firsts.{FirstTexts, AddsUnseen, firsts_behind}
 use Rattle.desk_tree_infos.specs.Firsts.{firsts_of, first_in, first_texts, texts_in}
 use Rattle.desk_tree_infos.specs.Sharing.{all_texts, sources_in, info_at, infos_at}
-use Rattle.desk_tree_infos.proofs.AmongLemmas.{or_false, among-append, among-set, among-filter}
-use Rattle.desk_tree_infos.proofs.AmongLemmas.{among_same, set_filtered, set_once}
+use Rattle.desk_tree_infos.proofs.AmongLemmas.{among-append, among-set, among-filter}
+use Rattle.desk_tree_infos.proofs.AmongLemmas.{set_filtered, set_once}
 
 -- ---- one more text in a set
 
-either : (b c : Bool) → cond b true c ≡ (b || c)
-either true c = refl
-either false c = refl
-
 -- ---- tests: a text is the next one, it is among those so far, it was in the set, it was listed
-
-or_true : (b : Bool) → (b || true) ≡ true
-or_true true = refl
-or_true false = refl
 
 listed_known : (a T S L : Bool) → (a ≡ true → (T || S) ≡ true)
     → (L || (T && not S)) ≡ (L || ((T || a) && not S))
@@ -50,42 +44,31 @@ seen_new false false S = refl
 
 listed_new : (a T S L : Bool) → (a ≡ true → (T || S) ≡ false)
     → ((L || (T && not S)) || (a || false)) ≡ (L || ((T || a) && not S))
-listed_new false true S L is = or_false (L || not S)
-listed_new false false S L is = or_false (L || false)
+listed_new false true S L is = or-false (L || not S)
+listed_new false false S L is = or-false (L || false)
 listed_new true true S L is = absurd (false≢true (sym (is refl)))
 listed_new true false true L is = absurd (false≢true (sym (is refl)))
-listed_new true false false L is = or_true (L || false) ∙ sym (or_true L)
+listed_new true false false L is = or-true (L || false) ∙ sym (or-true L)
 
 listed_both : (X Y S L : Bool)
     → ((L || (X && not S)) || (Y && not (X || S))) ≡ (L || ((X || Y) && not S))
-listed_both true true S L = or_false (L || not S)
-listed_both true false S L = or_false (L || not S)
-listed_both false Y S L = ap (λ b. b || (Y && not S)) (or_false L)
+listed_both true true S L = or-false (L || not S)
+listed_both true false S L = or-false (L || not S)
+listed_both false Y S L = ap (λ b. b || (Y && not S)) (or-false L)
 
 skip_seen : (Y S : Bool) → (Y ≡ true → S ≡ true) → S ≡ (Y || S)
 skip_seen true S is = is refl
 skip_seen false S is = refl
 
 skip_listed : (Y S L : Bool) → (Y ≡ true → S ≡ true) → L ≡ (L || (Y && not S))
-skip_listed true true L is = sym (or_false L)
+skip_listed true true L is = sym (or-false L)
 skip_listed true false L is = absurd (false≢true (is refl))
-skip_listed false S L is = sym (or_false L)
-
--- a text that isn't added was there, and one that is added wasn't
-pub was_there : (added has : Bool) → added ≡ not has → added ≡ false → has ≡ true
-was_there true has is isnt = absurd (false≢true (sym isnt))
-was_there false true is isnt = refl
-was_there false false is isnt = absurd (false≢true is)
-
-pub was_new : (added has : Bool) → added ≡ not has → added ≡ true → has ≡ false
-was_new false has is new = absurd (false≢true new)
-was_new true true is new = absurd (false≢true (sym is))
-was_new true false is new = refl
+skip_listed false S L is = sym (or-false L)
 
 -- ---- texts one after another
 
 pub adds_nothing : (s : BTreeSet (Bor (List ℕ))) (l : List (List ℕ)) → AddsUnseen [] s s l l
-adds_nothing s l = record { seen = λ t. refl; listed = λ t. sym (or_false (is_among l t)) }
+adds_nothing s l = record { seen = λ t. refl; listed = λ t. sym (or-false (is_among l t)) }
 
 -- if all of them were in the set
 pub adds_none : (ys : List (List ℕ)) (s : BTreeSet (Bor (List ℕ))) (l : List (List ℕ))
@@ -121,12 +104,12 @@ module _ (texts : List (List ℕ)) (i : ℕ) (d : List ℕ) (s0 s : BTreeSet (Bo
   among-more t =
       ap (λ l. is_among l t) (take_more texts i d within)
       ∙ among-append (take i texts) (get_or texts i d ∷ []) t
-      ∙ ap (λ b. is_among (take i texts) t || b) (or_false (here t))
+      ∙ ap (λ b. is_among (take i texts) t || b) (or-false (here t))
 
   at_here : (b : Bool) → has_text s (get_or texts i d) ≡ b → (t : List ℕ) → here t ≡ true
       → (is_among (take i texts) t || has_text s0 t) ≡ b
   at_here b is t same = sym (so_far.seen t)
-      ∙ ap (has_text s) (sym (among_same (get_or texts i d) t same)) ∙ is
+      ∙ ap (has_text s) (sym (texts_equal (get_or texts i d) t same)) ∙ is
 
   pub adds_known : (new : BTreeSet (Bor (List ℕ))) → has_text s (get_or texts i d) ≡ true
       → ((q : List ℕ) → has_text new q ≡ (here q || has_text s q))
@@ -171,7 +154,7 @@ unseen_set xs s0 s l adds = set_filtered (λ t. not (has_text s0 t)) xs l adds.l
 pub still_seen : (ys : List (List ℕ)) (s new : BTreeSet (Bor (List ℕ))) (l after : List (List ℕ))
     → AddsUnseen ys s new l after → (t : List ℕ) → has_text s t ≡ true → has_text new t ≡ true
 still_seen ys s new l after adds t has = adds.seen t ∙ ap (λ b. is_among ys t || b) has
-    ∙ or_true (is_among ys t)
+    ∙ or-true (is_among ys t)
 
 -- ---- files one after another
 
@@ -179,10 +162,6 @@ pub texts_in-at : (all : List Annotation) (of : Subject) (file : Covered)
     → texts_in of (info_at all file) ≡ sorted_set (all_texts all of (sources_in of file))
 texts_in-at all Notices file = refl
 texts_in-at all Licences file = refl
-
-or_turns : (a b : Bool) → (a || b) ≡ (b || a)
-or_turns true b = sym (or_true b)
-or_turns false b = sym (or_false b)
 
 module _ (all : List Annotation) (of : Subject) (files : List Covered) (i : ℕ) (d : Covered)
     (within : i < length files) where
@@ -207,7 +186,7 @@ module _ (all : List Annotation) (of : Subject) (files : List Covered) (i : ℕ)
   seen_more old new sources are was is t =
       is t
       ∙ (λ j. is_among (all_texts all of (are j)) t || was t j)
-      ∙ or_turns (is_among (all_texts all of (sources_in of (get_or files i d))) t)
+      ∙ or_comm (is_among (all_texts all of (sources_in of (get_or files i d))) t)
       (is_among known_before t)
       ∙ ap (λ b. is_among known_before t || b)
       (sym (ap (λ l. is_among l t) (texts_in-at all of (get_or files i d))

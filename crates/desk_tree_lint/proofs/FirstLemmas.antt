@@ -3,17 +3,18 @@ use Rattle.std.proofs.Common.{◌≡◌, ◌∙◌, ◌+◌, ◌<◌, inl, inr, 
 use Rattle.std.proofs.Common.{false, cond, List, [], ◌∷◌, ◌++◌, length, get_or, set, take, map}
 use Rattle.std.proofs.Common.{Option, Some, None, ap, refl, arith, nat_cmp, is_eq, Less}
 use Rattle.std.specs.Option.{option_copied}
-use Rattle.std.specs.Prelude.{Result, OnOk, is_some, option_map, ◌⊎◌, ◌||◌, not, filter}
+use Rattle.std.specs.Prelude.{Result, OnOk, is_some, option_map, ◌||◌, not, filter}
 use Rattle.std.specs.List.{flat_map, AllByRecursion}
 use Rattle.std.specs.List.Sorted.{IsStrictlySortedBy}
 use Rattle.std.specs.Str.{bytes_eq}
 use Rattle.std.specs.Cmp.Lexicographic.{slice_cmp}
-use Rattle.std.proofs.lemmas.Bool.{cases_Bool, false≢true}
+use Rattle.std.proofs.lemmas.Bool.{cases_Bool, false≢true, or_cases, not-false}
 use Rattle.std.proofs.lemmas.List.{append_assoc, append-nil, flat_map_more, get_or-map, length-map}
 use Rattle.std.proofs.lemmas.List.{map_more, map-set, take_more}
 use Rattle.std.proofs.lemmas.Cmp.{nat_list_eq_equiv}
 use Rattle.std.proofs.lemmas.Slice.Eq.{bytes_eq-Decides}
 use Rattle.std.proofs.lemmas.Map.Text.{is_eq-slice_cmp}
+use Rattle.std.proofs.Math.Bool.{or-true}
 use Rattle.desk_base.specs.TextSets.{is_among}
 use denote.Ref.{Bor}
 use Rattle.desk_tree_lint.specs.declared.naming.Asked.{Asked}
@@ -28,7 +29,6 @@ use Rattle.desk_tree_lint.specs.Firsts.{AskedText, asked_in, asked_of, keys_aske
 use Rattle.desk_tree_lint.specs.Firsts.{mentions_of, first_mentions, Holds}
 use Rattle.desk_tree_lint.specs.Naming.{MentionText, mention, ids, mentions_by, mentions, first_with}
 use Rattle.desk_tree_lint.specs.Texts.{key_of}
-use Rattle.desk_tree_lint.proofs.OrderLemmas.{or_true}
 
 -- ---- one mention after others
 
@@ -103,7 +103,7 @@ asked_alike [] ms ns same = refl
 asked_alike (k ∷ ks) ms ns same = λ j.
     record { key = k; first = same k (ap (λ b. b || is_among ks k) (nat_list_eq_equiv.refl k)) j }
     ∷ asked_alike ks ms ns (λ key among. same key
-    (ap (λ b. bytes_eq k key || b) among ∙ or_true (bytes_eq k key))) j
+    (ap (λ b. bytes_eq k key || b) among ∙ or-true (bytes_eq k key))) j
 
 less_than_each : (k : List ℕ) (ks : List (List ℕ)) (key : List ℕ)
     → AllByRecursion (λ y. slice_cmp nat_cmp k y ≡ Less) ks → is_among ks key ≡ true
@@ -120,7 +120,7 @@ pub here_among : (ks : List (List ℕ)) (p : ℕ) (d : List ℕ) → p < length 
 here_among [] p d within = absurd (omega (arith, within))
 here_among (k ∷ ks) zero d within = ap (λ b. b || is_among ks k) (nat_list_eq_equiv.refl k)
 here_among (k ∷ ks) (suc p) d within = ap (λ b. bytes_eq k (get_or ks p d) || b)
-    (here_among ks p d (omega (arith, within))) ∙ or_true (bytes_eq k (get_or ks p d))
+    (here_among ks p d (omega (arith, within))) ∙ or-true (bytes_eq k (get_or ks p d))
 
 apart : (k key : List ℕ) → slice_cmp nat_cmp k key ≡ Less → bytes_eq k key ≡ false
 apart k key less = sym (is_eq-slice_cmp k key) ∙ ap is_eq less
@@ -429,14 +429,6 @@ named_there ms path (u ∷ us) t has =
           (ap (λ b. b || is_among us t) (sym away) ∙ has)
     ])
 
-or_cases : (a b : Bool) → (a || b) ≡ true → (a ≡ true) ⊎ (b ≡ true)
-or_cases true b is = inl refl
-or_cases false b is = inr is
-
-kept_by : (b : Bool) → not b ≡ false → b ≡ true
-kept_by true is = refl
-kept_by false is = absurd (false≢true (sym is))
-
 -- of all files
 files_alike : (infos : List FileInfo) (known : List (List ℕ)) (ms ns : List MentionText)
     → Alike ms ns → ((t : List ℕ) → is_among known t ≡ true → BringNone ms (ids t))
@@ -450,7 +442,7 @@ files_alike (info ∷ infos) known ms ns same none key =
     ap (first_with key) (sym (append_assoc ms all (mentions infos)))
     ∙ files_alike infos (known ++ info.licences) (ms ++ all) (ns ++ new)
     (λ k. filtered_alike info.path keeps info.licences ms
-    (λ t out. none t (kept_by (is_among known t) out)) k ∙ behind_alike ms ns new same k)
+    (λ t out. none t (not-false (is_among known t) out)) k ∙ behind_alike ms ns new same k)
     (λ t has. elim (or_cases (is_among known t) (is_among info.licences t)
     (sym (among-append known info.licences t) ∙ has)) [
       | inl was ↦ none_behind ms all (ids t) (none t was)

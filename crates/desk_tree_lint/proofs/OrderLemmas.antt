@@ -1,7 +1,7 @@
 -- Texts in order, found by halving.
-use Rattle.std.proofs.Common.{◌≡◌, ◌∙◌, ⊎_elim, inl, inr, ℕ, zero, suc, ◌+◌, ◌<◌, Bool, true, false}
+use Rattle.std.proofs.Common.{◌≡◌, ◌∙◌, ⊎_elim, inl, inr, ℕ, zero, suc, ◌+◌, ◌<◌, true, false}
 use Rattle.std.proofs.Common.{List, [], ◌∷◌, length, get_or, map, sym, ap, refl, subst, arith}
-use Rattle.std.proofs.Common.{Result, Ok, Err, Ordering, Less, Equal, Greater, nat_cmp, is_eq, ◌-◌}
+use Rattle.std.proofs.Common.{Result, Ok, Err, Less, nat_cmp, is_eq, ◌-◌}
 use Rattle.std.specs.Prelude.{◌||◌, Contains}
 use Rattle.std.specs.Result.{is_ok}
 use Rattle.std.specs.List.{AllByRecursion}
@@ -16,19 +16,10 @@ use Rattle.std.proofs.lemmas.List.Sorted.{searchable_from_sorted}
 use Rattle.std.proofs.lemmas.Map.Keys.{Less-from_sorted}
 use Rattle.std.proofs.lemmas.Map.Text.{is_eq-slice_cmp}
 use Rattle.std.proofs.str.Laws.{order}
+use Rattle.std.proofs.Math.Bool.{or-true}
 use denote.Ref.{Bor}
 use Rattle.desk_base.specs.Borrowed.{texts}
 use Rattle.desk_base.specs.TextSets.{is_among}
-
-pub or_true : (b : Bool) → (b || true) ≡ true
-or_true true = refl
-or_true false = refl
-
--- tests that imply one another
-pub both_ways : (a b : Bool) → (a ≡ true → b ≡ true) → (b ≡ true → a ≡ true) → a ≡ b
-both_ways true b to from = sym (to refl)
-both_ways false true to from = from refl
-both_ways false false to from = refl
 
 module _ {A : Type 0} (text_of : A → List ℕ) where
   -- a text that stands at a place
@@ -37,7 +28,7 @@ module _ {A : Type 0} (text_of : A → List ℕ) where
   among_at [] key i d within is = absurd (omega (arith, within))
   among_at (x ∷ xs) key zero d within is = ap (λ b. b || is_among (map text_of xs) key) is
   among_at (x ∷ xs) key (suc i) d within is = ap (λ b. bytes_eq (text_of x) key || b)
-      (among_at xs key i d (omega (arith, within)) is) ∙ or_true (bytes_eq (text_of x) key)
+      (among_at xs key i d (omega (arith, within)) is) ∙ or-true (bytes_eq (text_of x) key)
 
   -- a text that stands at none
   among_nowhere : (xs : List A) (key : List ℕ)
@@ -149,8 +140,3 @@ climbs_more xs i up less k within =
     let below : k ≡ i - 1 = omega (arith, within, last) in
     (λ j. slice_cmp nat_cmp (get_or xs (below j) []) (get_or xs (here j) [])) ∙ less)
     (order (suc k) i)
-
-pub is_less : (o : Ordering) → is_lt o ≡ true → o ≡ Less
-is_less Less is = refl
-is_less Equal is = absurd (false≢true is)
-is_less Greater is = absurd (false≢true is)

@@ -16,7 +16,8 @@ use Rattle.desk_tree_lint.specs.Naming.{mention, runs}
 -- ---- a licence that is not divided
 
 -- a text without bytes that a test passes is not cut at one of them
-uncut : (byte : ℕ) (test : ℕ → Bool) (xs : List ℕ) → ((x : ℕ) → test x ≡ false → (x == byte) ≡ false)
+uncut : (byte : ℕ) (test : ℕ → Bool) (xs : List ℕ)
+    → ((x : ℕ) → test x ≡ false → (x == byte) ≡ false)
     → list_any test xs ≡ false → cut_at byte (xs ∷ []) ≡ xs ∷ []
 uncut byte test xs away none = ap (λ l. l ++ []) (whole xs none) where
   whole : (ys : List ℕ) → list_any test ys ≡ false → slice_split (λ b. b == byte) ys ≡ ys ∷ []
@@ -32,18 +33,23 @@ one_run licence none =
     ∙ (λ j. cut_at 41 (cut_at 40 (uncut 9 is_separator licence tab none j)))
     ∙ (λ j. cut_at 41 (uncut 40 is_separator licence opening none j))
     ∙ uncut 41 is_separator licence closing none where
-  behind_space : (x : ℕ) → is_separator x ≡ false → (x == 9 || (x == 40 || x == 41)) ≡ false
-  behind_space x out = or_right (x == 32) (x == 9 || (x == 40 || x == 41)) out
-  space : (x : ℕ) → is_separator x ≡ false → (x == 32) ≡ false
-  space x out = or_left (x == 32) (x == 9 || (x == 40 || x == 41)) out
-  tab : (x : ℕ) → is_separator x ≡ false → (x == 9) ≡ false
-  tab x out = or_left (x == 9) (x == 40 || x == 41) (behind_space x out)
-  parentheses : (x : ℕ) → is_separator x ≡ false → (x == 40 || x == 41) ≡ false
-  parentheses x out = or_right (x == 9) (x == 40 || x == 41) (behind_space x out)
-  opening : (x : ℕ) → is_separator x ≡ false → (x == 40) ≡ false
-  opening x out = or_left (x == 40) (x == 41) (parentheses x out)
-  closing : (x : ℕ) → is_separator x ≡ false → (x == 41) ≡ false
-  closing x out = or_right (x == 40) (x == 41) (parentheses x out)
+      behind_space : (x : ℕ) → is_separator x ≡ false → (x == 9 || (x == 40 || x == 41)) ≡ false
+      behind_space x out = or_right (x == 32) (x == 9 || (x == 40 || x == 41)) out
+
+      space : (x : ℕ) → is_separator x ≡ false → (x == 32) ≡ false
+      space x out = or_left (x == 32) (x == 9 || (x == 40 || x == 41)) out
+
+      tab : (x : ℕ) → is_separator x ≡ false → (x == 9) ≡ false
+      tab x out = or_left (x == 9) (x == 40 || x == 41) (behind_space x out)
+
+      parentheses : (x : ℕ) → is_separator x ≡ false → (x == 40 || x == 41) ≡ false
+      parentheses x out = or_right (x == 9) (x == 40 || x == 41) (behind_space x out)
+
+      opening : (x : ℕ) → is_separator x ≡ false → (x == 40) ≡ false
+      opening x out = or_left (x == 40) (x == 41) (parentheses x out)
+
+      closing : (x : ℕ) → is_separator x ≡ false → (x == 41) ≡ false
+      closing x out = or_right (x == 40) (x == 41) (parentheses x out)
 
 -- ---- the mentions in runs
 
@@ -72,5 +78,5 @@ runs_more before path listed i d within =
     ∙ ap (map without_plus) (sym (filter-append kept front run)))
     ∙ ap (λ l. map (mention path) (ids_in l))
     (sym (map_more (λ (b : Bor (List ℕ)). b.now) listed i d within))) where
-  kept : List ℕ → Bool
-  kept run = not (is_operator run)
+      kept : List ℕ → Bool
+      kept run = not (is_operator run)

@@ -1,15 +1,12 @@
 -- Where the last full stop of a name is.
-use Rattle.std.proofs.Common.{◌≡◌, ◌≢◌, ◌∙◌, inl, inr, ℕ, zero, suc, ◌<◌, true, false, cond, eqb}
+use Rattle.std.proofs.Common.{◌≡◌, ◌≢◌, ◌∙◌, inl, inr, ℕ, zero, suc, ◌<◌, false, cond, eqb}
 use Rattle.std.proofs.Common.{List, get_or, ap, sym, refl, arith, Some, None}
 use Rattle.std.specs.Path.{rfind_below}
-use Rattle.std.proofs.lemmas.Bool.{cases_Bool}
+use Rattle.std.proofs.lemmas.Bool.{cases_Bool, eq-eqb}
 use Rattle.std.proofs.lemmas.Bool.Decides.{nat_tests}
 
 other : (a b : ℕ) → a ≢ b → eqb a b ≡ false
 other a b differ = grind (arith, nat_tests)
-
-same : (a b : ℕ) → a ≡ b → eqb a b ≡ true
-same a b is = grind (arith, nat_tests)
 
 pub none_below : (c : ℕ) (text : List ℕ) (n : ℕ) → ((i : ℕ) → i < n → get_or text i 0 ≢ c)
     → rfind_below c text n ≡ None
@@ -27,7 +24,7 @@ last_below c text (suc m) k within is later =
       | inl at ↦
           let here : k ≡ m = grind (arith, nat_tests, at) in
           ap (λ b. cond b (Some m) (rfind_below c text m))
-          (same (get_or text m 0) c (ap (λ j. get_or text j 0) (sym here) ∙ is))
+          (eq-eqb (get_or text m 0) c (ap (λ j. get_or text j 0) (sym here) ∙ is))
           ∙ ap Some (sym here)
       | inr before ↦
           let below : k < m = grind (arith, nat_tests, before, within) in

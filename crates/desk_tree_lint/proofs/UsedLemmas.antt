@@ -25,6 +25,7 @@ use Rattle.desk_tree_infos.specs.Firsts.{firsts_behind, firsts_of}
 use Rattle.std.specs.Str.{bytes_eq}
 use Rattle.std.proofs.lemmas.Slice.Eq.{bytes_eq-Decides}
 use Rattle.desk_base.proofs.SortedOnce.{same_sorted}
+use Rattle.desk_base.proofs.Lists.{contains_cases, none_listed}
 use Rattle.desk_base.specs.contracts.key.KeyOrd.TheImpl.Laws.{total-law}
 use Rattle.desk_base.specs.TextSets.{is_among}
 use Rattle.std.specs.Ordering.{nat_cmp}
@@ -32,16 +33,9 @@ use Rattle.std.specs.Cmp.Lexicographic.{slice_cmp}
 
 -- ---- the keys of terms
 
-term_cases : (x : Term) (xs : List Term) (q : Term) → Contains (x ∷ xs) q → (x ≡ q) ⊎ Contains xs q
-term_cases x xs q (zero, within, is) = inl is
-term_cases x xs q (suc k, within, is) = inr (k, omega arith, is)
-
-none_in_nil : {A : Type 0} (x : A) → Contains [] x → ⊥
-none_in_nil x at = omega (arith, at.1)
-
 keys_from : (ts : List Term) (key : List ℕ) → Contains (keys_in ts) key
     → (t : Term) × Contains ts t × Contains (term_keys t) key
-keys_from [] key at = absurd (none_in_nil key at)
+keys_from [] key at = absurd (none_listed key at)
 keys_from (t ∷ ts) key at =
     elim (Contains-append_cases (term_keys t) (keys_in ts) key at) [
       | inl own ↦ (t, (zero, omega arith, refl), own)
@@ -51,9 +45,9 @@ keys_from (t ∷ ts) key at =
 
 keys_to : (ts : List Term) (t : Term) (key : List ℕ) → Contains ts t → Contains (term_keys t) key
     → Contains (keys_in ts) key
-keys_to [] t key at own = absurd (none_in_nil t at)
+keys_to [] t key at own = absurd (none_listed t at)
 keys_to (x ∷ ts) t key at own =
-    elim (term_cases x ts t at) [
+    elim (contains_cases x ts t at) [
       | inl is ↦ Contains-append_left (term_keys x) (keys_in ts) key
           (subst (λ y. Contains (term_keys y) key) (sym is) own)
       | inr later ↦ Contains-append_right (term_keys x) (keys_in ts) key
@@ -133,7 +127,7 @@ pub some_start : {A X : Type 0} (P : A → Type 0) (xs : List A) (x : X) (known 
     → (Contains known x ⊎ SomeOf P xs) ↔ SomeOf P xs
 some_start P xs x known none = (
   (λ h. elim h [
-    | inl at ↦ absurd (none_in_nil x (subst (λ l. Contains l x) none at))
+    | inl at ↦ absurd (none_listed x (subst (λ l. Contains l x) none at))
     | inr some ↦ some
   ]),
   (λ some. inr some),

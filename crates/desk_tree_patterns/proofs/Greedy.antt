@@ -3,6 +3,7 @@ use Rattle.std.proofs.Common.{◌≡◌, ◌≢◌, ◌∙◌, ◌⊎◌, inl, i
 use Rattle.std.proofs.Common.{subst, ap, refl, arith, append_assoc, ⊎_elim}
 use Rattle.std.specs.Prelude.{Option, Some, None, IfSome}
 use Rattle.std.proofs.lemmas.List.Elements.{All-get_or, All-tail, All-append, All-cons}
+use Rattle.std.proofs.lemmas.List.{nil_from_length}
 use Rattle.desk_tree_patterns.specs.declared.glob.Piece.{Piece}
 use Rattle.desk_tree_patterns.specs.declared.glob.Piece.TheVariants.{Byte, InName, InPath}
 use Rattle.desk_tree_patterns.specs.Glob.{IsMatch, Covers}
@@ -10,10 +11,6 @@ use Rattle.desk_tree_patterns.specs.Steps.{Spot, State, Passes, Longer, NoLonger
 use Rattle.desk_tree_patterns.specs.Steps.{Further, ByByte, ByName, ByPath, ByLongerName}
 use Rattle.desk_tree_patterns.specs.Steps.{ByNextName, Steps, Ends}
 use Rattle.desk_tree_patterns.proofs.Names.{bounded, behind_once}
-
-pub nil_of : (ts : List ℕ) → length ts ≡ 0 → ts ≡ []
-nil_of [] h = refl
-nil_of (c ∷ ts) h = absurd (omega arith)
 
 -- the pieces that take stretches of many lengths
 pub data Wild : Piece → Type 0 where
@@ -490,7 +487,7 @@ pub holds_done : (all : List Piece) (whole : List ℕ) (s : State) → Holds all
 holds_done all whole s h a b =
     let cases : (ps : List Piece) (ts : List ℕ) → length ps ≡ 0 → length ts ≡ 0 → IsMatch ps ts =
     λ ps ts. elim ps as (λ ps. length ps ≡ 0 → length ts ≡ 0 → IsMatch ps ts) [
-      | [] ↦ λ a b. nil_of ts b
+      | [] ↦ λ a b. nil_from_length ts b
       | q ∷ qs ↦ λ a b. absurd (omega arith)
     ] in
     h.here (cases s.here.pieces s.here.text a b)

@@ -17,6 +17,7 @@ use Rattle.desk_tree_reports.specs.declared.ways.Way.TheVariants as way
 use Rattle.desk_tree_reports.specs.Items.{line_value, row_json, line_token, line_text, row_front, path_member}
 use Rattle.desk_tree_reports.specs.Items.{missing_front, missing_end, row_value}
 use Rattle.desk_base.specs.Terminal.{shown}
+use Rattle.desk_base.proofs.Lists.{append_four}
 use Rattle.desk_tree_reports.specs.Lines.{row_line}
 use Rattle.desk_tree_reports.specs.Pieces.{share_text}
 use Rattle.desk_tree_reports.specs.Reports.{json_text}
@@ -127,17 +128,12 @@ pub named_is : (w : Way) (path : Option (Bor (List ℕ)))
 named_is w None = refl
 named_is w (Some path) = refl
 
-pub added_three : (old front named end : List ℕ)
-    → ((old ++ front) ++ named) ++ end ≡ old ++ (front ++ (named ++ end))
-added_three old front named end = append_assoc (old ++ front) named end
-    ∙ append_assoc old front (named ++ end)
-
 pub added_five : (old front id named words end : List ℕ)
     → ((((old ++ front) ++ id) ++ named) ++ words) ++ end
     ≡ old ++ (front ++ (id ++ (named ++ (words ++ end))))
 added_five old front id named words end =
     append_assoc (((old ++ front) ++ id) ++ named) words end
-    ∙ added_three (old ++ front) id named (words ++ end)
+    ∙ append_four (old ++ front) id named (words ++ end)
     ∙ append_assoc old front (id ++ (named ++ (words ++ end)))
 
 -- ---- the whole

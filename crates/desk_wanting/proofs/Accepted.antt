@@ -1,10 +1,11 @@
 -- A Choose of a sole choice is done.
-use Rattle.std.proofs.Common.{◌≡◌, ◌∙◌, ◌+◌, ℕ, Bool, true, false, List, [], ◌∷◌, Option, Some}
+use Rattle.std.proofs.Common.{◌≡◌, ◌∙◌, ◌+◌, ℕ, Bool, true, List, [], ◌∷◌, Option, Some}
 use Rattle.std.proofs.Common.{None, sym, refl, ap, subst, inl, inr}
-use Rattle.std.specs.Prelude.{filter, ◌||◌, ◌==◌, Result, Ok, Err}
+use Rattle.std.proofs.lemmas.Bool.{and_from}
+use Rattle.std.specs.Prelude.{filter, ◌==◌, Result, Ok, Err}
 use Rattle.std.specs.List.{cons_option, filter_map, list_any}
 use Rattle.std.specs.Option.{option_and_then}
-use Rattle.desk_base.proofs.Bools.{and_left, and_right, both}
+use Rattle.desk_base.proofs.Bools.{and_left, and_right}
 use Rattle.desk_base.proofs.Numbers.{numbers_equal, same_number}
 use Rattle.desk_model.specs.Keys.{is_attached_to, is_attachment, is_shipped_by}
 use Rattle.desk_model.specs.Lists.{IsIn}
@@ -22,6 +23,7 @@ use Rattle.desk_model.specs.declared.row.AttachedRow.{AttachedRow}
 use Rattle.desk_model.specs.declared.row.PackageRow.{PackageRow}
 use Rattle.desk_model.specs.declared.state.ReleaseState.{ReleaseState}
 use Rattle.desk_model.specs.declared.state.ReleaseState.TheVariants.{IsOpen, Frozen, Withdrawn}
+use Rattle.desk_model.proofs.Lists.{one_any}
 use Rattle.desk_history.specs.FromTables.{answer_from, choice_found, conclusion_found}
 use Rattle.desk_history.specs.FromTables.{package_found, shipped_found, stands_document}
 use Rattle.desk_history.specs.FromTables.{state_found}
@@ -34,19 +36,6 @@ use Rattle.desk_wanting.specs.Sole.{unchosen_choice}
 use Rattle.desk_wanting.specs.declared.sole_choice.SoleChoice.{SoleChoice}
 
 -- Lists
-
-or_right_true : (b : Bool) → (b || true) ≡ true
-or_right_true true = refl
-or_right_true false = refl
-
-one_any : {A : Type 0} (test : A → Bool) (x : A) (xs : List A) → IsIn x xs → test x ≡ true
-    → list_any test xs ≡ true
-one_any test x [] m e = absurd m
-one_any test x (y ∷ xs) m e =
-    elim m [
-      | inl same ↦ ap (λ b. b || list_any test xs) (ap test same ∙ e)
-      | inr later ↦ ap (λ b. test y || b) (one_any test x xs later e) ∙ or_right_true (test y)
-    ]
 
 -- Terms that spell themselves
 
@@ -162,7 +151,7 @@ module _ (w : Readings) (t : Tables) (r : List ℕ) (lists : ListsMinimalSets w)
       let found : package_found t p.document p.id ≡ Some p = finds.packages p by.listed in
       let there : list_any (is_attachment r p.document) t.attached ≡ true =
       one_any (is_attachment r p.document) by.row t.attached by.attached
-      (both _ _ by.to (ap (λ d. by.row.document == d) by.of ∙ same_number by.row.document)) in
+      (and_from _ _ by.to (ap (λ d. by.row.document == d) by.of ∙ same_number by.row.document)) in
       let spell = λ (term : List ℕ) (m : IsIn term set). lists.printed k.profile k.text (set ∷ [])
       set term is.listed (inl refl) m in
       let minimal = lists.minimal k.profile k.text (set ∷ []) set is.listed (inl refl) in

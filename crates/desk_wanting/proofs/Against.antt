@@ -30,6 +30,7 @@ use Rattle.desk_history.proofs.Members.{in_cases, in_flat_map, in_left, in_right
 use Rattle.desk_wanting.specs.Against.{IsPrepared, StandsAgainst}
 use Rattle.desk_model.specs.Obstacles.{alone_or, applying, is_told, names_reference, term_refusals}
 use Rattle.desk_model.specs.Obstacles.{told_once, unruled_alone}
+use Rattle.desk_model.proofs.Lists.{one_passes}
 use Rattle.desk_wanting.specs.Obstacles.{open_wanting, wanting_found}
 
 -- Lists
@@ -54,11 +55,6 @@ passes_here : {A : Type 0} (test : A → Bool) (x : A) (xs : List A) (b : Bool) 
     → (y : A) × IsIn y (x ∷ xs) × (test y ≡ true)
 passes_here test x xs true is e later = (x, inl refl, is)
 passes_here test x xs false is e later = (let w = later e in (w.0, inr w.1, w.2))
-
-one_passes : {A : Type 0} (test : A → Bool) (xs : List A) → list_any test xs ≡ true
-    → (y : A) × IsIn y xs × (test y ≡ true)
-one_passes test [] e = absurd (cc)
-one_passes test (x ∷ xs) e = passes_here test x xs (test x) refl e (one_passes test xs)
 
 pub named : (d : ℕ) (reference : List ℕ) (x : Refusal) → names_reference d reference x ≡ true
     → x ≡ why.NotAdopted d reference

@@ -1,19 +1,14 @@
 -- One more item of a loop.
 use Rattle.std.proofs.Common.{◌≡◌, ℕ, Bool, true, false, ◌+◌, ◌<◌, ◌≤◌, List, [], ◌∷◌, ◌++◌, length}
 use Rattle.std.proofs.Common.{map, filter, drop, get_or, take, Option, Some, None, sym, refl, ap}
-use Rattle.std.proofs.Common.{ap₂, ◌∙◌, add-one, drop-cons, append_assoc, suc, arith}
+use Rattle.std.proofs.Common.{ap₂, ◌∙◌, append_assoc, suc, arith}
 use Rattle.std.specs.Prelude.{◌==◌, not, if◌then◌else◌}
 use Rattle.std.specs.List.{cons_option, filter_map, flat_map, list_any}
 use Rattle.std.proofs.lemmas.Bool.Decides.{nat_tests}
 use Rattle.std.proofs.lemmas.List.{append-nil, at_drop_all, flat_map_more, map-append, map_more, take_more}
+use Rattle.desk_base.proofs.Lists.{drop_item}
 use Rattle.desk_model.specs.Obstacles.{is_told, told_once}
 use Rattle.desk_model.specs.declared.refusal.Refusal.{Refusal}
-
--- an item and those after it
-drop_item : {A : Type 0} (xs : List A) (i : ℕ) (x : A) → i < length xs → x ≡ get_or xs i x
-    → drop i xs ≡ x ∷ drop (i + 1) xs
-drop_item xs i x lt is = rw (add-one i)
-    (drop-cons xs i x lt ∙ ap (λ y. y ∷ drop (suc i) xs) (sym is))
 
 option_step : {B : Type 0} (old : List B) (o : Option B) (rest : List B)
     → (old ++ cons_option o []) ++ rest ≡ old ++ cons_option o rest

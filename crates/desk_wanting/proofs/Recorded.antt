@@ -8,7 +8,7 @@ use Rattle.std.specs.Cmp.Lexicographic.{slice_cmp}
 use Rattle.std.specs.Result.{result_ok}
 use Rattle.std.proofs.lemmas.Cmp.{on_total, then_total, nat_list_cmp_total, nat_cmp_total}
 use Rattle.std.proofs.lemmas.List.Folds.{find-append}
-use Rattle.desk_base.proofs.Bools.{both}
+use Rattle.std.proofs.lemmas.Bool.{and_from}
 use Rattle.desk_base.proofs.Numbers.{same_number}
 use Rattle.desk_base.proofs.Texts.{same_text}
 use Rattle.desk_model.specs.Keys.{attached_order, below_by, is_document, is_package, package_order}
@@ -76,7 +76,7 @@ package_is_order = order_of (then_total (on_total (λ row. row.document) nat_cmp
     (on_total (λ row. row.id) nat_list_cmp_total))
 
 own_key : (x : PackageRow) → is_package x.document x.id x ≡ true
-own_key x = both _ _ (same_number x.document) (same_text x.id)
+own_key x = and_from _ _ (same_number x.document) (same_text x.id)
 
 not_under_itself : (x : PackageRow) → below_by package_order x x ≡ true → ⊥
 not_under_itself x e = let no = package_is_order.asym x x e in absurd (cc)

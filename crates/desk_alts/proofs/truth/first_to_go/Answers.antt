@@ -1,7 +1,7 @@
 use Rattle.std.proofs.Common.{◌≡◌, ℕ, get_or, Some, subst, sym}
 use Rattle.std.specs.Prelude.{slice_get, IfNone}
 use Rattle.std.proofs.lemmas.Option.{slice_get_within, slice_get-get_or}
-use Rattle.desk_alts.proofs.MarkLemmas.{item_at}
+use Rattle.desk_base.proofs.Lists.{item_at}
 use Rattle.desk_expr.specs.Meaning.{CanGo}
 use Rattle.desk_alts.proofs.truth.first_to_go.Goals as goal
 

@@ -1,23 +1,20 @@
-use Rattle.std.proofs.Common.{◌≡◌, ◌∙◌, ap, sym, arith, ℕ, Bool, true, false, ◌||◌, ◌&&◌, not}
-use Rattle.std.proofs.Common.{nat_le, [], ◌∷◌, length, ◌==◌, refl}
+use Rattle.std.proofs.Common.{◌≡◌, ◌∙◌, ap, sym, arith, ℕ, true, false, ◌||◌, ◌&&◌, not}
+use Rattle.std.proofs.Common.{nat_le, [], ◌∷◌, length, ◌==◌}
 use Rattle.std.proofs.lemmas.Bool.Decides.{nat_tests}
 use Rattle.std.proofs.lemmas.List.{length-map}
+use Rattle.std.proofs.Math.Bool.{or-false}
 use Rattle.desk_tagvalue.specs.Documents.{document_text}
 use Rattle.desk_tagvalue.specs.Views.{package_text}
 use Rattle.desk_bom.specs.Marks.{among, added}
 use Rattle.desk_bom.proofs.shipping.starts.Goals as goal
 use Rattle.desk_bom.proofs.shipping.starts.Goals.{then-not-is_described+in_ok-add_packages, else-not-is_described}
 
-nothing_more : (b : Bool) → (b || false) ≡ b
-nothing_more true = refl
-nothing_more false = refl
-
 either_way : (a : ℕ) → (0 == a) ≡ (a == 0)
 either_way a = grind (arith, nat_tests)
 
 -- the document itself
 itself : (a : ℕ) → among (0 ∷ []) a ≡ (a == 0)
-itself a = nothing_more (0 == a) ∙ either_way a
+itself a = or-false (0 == a) ∙ either_way a
 
 pub returns-clause-order : goal.returns-clause-order
 returns-clause-order c = λ a.
@@ -36,7 +33,7 @@ returns-clause-order c = λ a.
           ∙ ap (λ b. a == 0 || not b && nat_le 1 a && nat_le a (length d.packages))
           (sym w.if-not-is_described.true ∙ c.is_described.ensures)
       | else-not-is_described w ↦
-          ap (λ r. among r.order.items a) w.reached-is ∙ first ∙ sym (nothing_more (a == 0))
+          ap (λ r. among r.order.items a) w.reached-is ∙ first ∙ sym (or-false (a == 0))
           ∙ ap (λ b. a == 0 || not b && nat_le 1 a && nat_le a (length d.packages))
           (sym w.if-not-is_described.false ∙ c.is_described.ensures)
     ]

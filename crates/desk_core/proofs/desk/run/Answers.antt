@@ -1,10 +1,10 @@
 use Rattle.std.proofs.Common.{◌≡◌, ℕ, ◌<◌, true, false, List, [], ◌∷◌, ◌++◌, length, get_or, sym, ap, ◌∙◌, subst, arith}
+use Rattle.std.proofs.lemmas.List.{length_push}
 use Rattle.std.specs.List.{list_all, list_any}
 use Rattle.desk_model.specs.Faults.{MayAllBecome}
 use Rattle.desk_model.specs.Tables.{tables}
 use Rattle.desk_model.specs.Answers.{IsHistory}
 use Rattle.desk_model.specs.Runs.{AreAnswers, history_after, is_kept}
-use Rattle.desk_history.proofs.Lookups.{length-push}
 use Rattle.desk_history.proofs.Running.{history_after-push, AreAnswers-push, IsHistory-with, MayAllBecome-push}
 use Rattle.desk_model.specs.declared.command.Command.{Command}
 use Rattle.desk_model.specs.declared.command.Outcome.{Outcome}
@@ -33,7 +33,7 @@ loop-command-preserved g c =
     let grown : (h : List Command) → history_after h cs c.push_reserved.new.self.items
     ≡ history_after h cs (os ++ outcome ∷ []) = λ h. ap (history_after h cs) items in
     record {
-      count = omega (arith, ap length items, length-push os outcome, before.count);
+      count = omega (arith, ap length items, length_push os outcome, before.count);
       len = omega (arith, c.push_reserved.ensures.len, before.len);
       room = omega (arith, c.push_reserved.ensures.capacity, before.room);
       honest = λ clean. before.honest (first clean);

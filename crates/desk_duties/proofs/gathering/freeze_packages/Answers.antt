@@ -1,9 +1,10 @@
 use Rattle.std.proofs.Common.{◌≡◌, ◌∙◌, sym, ℕ, List, drop, ◌+◌, ◌∷◌}
+use Rattle.desk_base.proofs.Lists.{drop_item}
 use Rattle.desk_model.specs.Raised.{frozen_for, owed_for}
 use Rattle.desk_model.specs.declared.row.PackageRow.{PackageRow}
 use Rattle.desk_history.specs.FromTables.{choice_found, rules_found}
 use Rattle.desk_access.proofs.Chains.{same_then_same}
-use Rattle.desk_duties.proofs.Walking.{drop_item, more_of, walk_fails, packages_on, PackagesOn}
+use Rattle.desk_duties.proofs.Walking.{more_of, walk_fails, packages_on, PackagesOn}
 use Rattle.desk_duties.proofs.gathering.freeze_packages.Goals as goal
 
 pub returns-in-Some-clause-gathered : goal.returns-in-Some-clause-gathered

@@ -1,10 +1,11 @@
 use Rattle.std.proofs.Common.{◌≡◌, ◌∙◌, sym, ℕ, List, drop, ◌+◌, ◌∷◌}
+use Rattle.desk_base.proofs.Lists.{drop_item}
 use Rattle.desk_model.specs.Answers.{first_unruled}
 use Rattle.desk_model.specs.Raised.{frozen_for_terms, owed_for_terms}
 use Rattle.desk_model.specs.declared.row.PackageRow.{PackageRow}
 use Rattle.desk_history.specs.FromTables.{rules_found}
 use Rattle.desk_access.proofs.Chains.{same_then_same}
-use Rattle.desk_duties.proofs.Walking.{drop_item, more_of, terms_fail, terms_on, TermsOn}
+use Rattle.desk_duties.proofs.Walking.{more_of, terms_fail, terms_on, TermsOn}
 use Rattle.desk_duties.proofs.gathering.freeze_terms.Goals as goal
 
 pub returns-in-Some-clause-gathered : goal.returns-in-Some-clause-gathered

@@ -1,4 +1,4 @@
-use Rattle.std.proofs.Common.{◌≡◌, ◌∙◌, ◌++◌, sym, subst, ap, true, rules, arith}
+use Rattle.std.proofs.Common.{◌≡◌, ◌∙◌, ◌++◌, sym, subst, ap, arith}
 use Rattle.std.specs.Prelude.{All, Contains, IsTrue}
 use Rattle.std.specs.List.Sorted.{IsStrictlySortedBy}
 use Rattle.std.proofs.lemmas.List.Filters.{dedup_is, All-dedup}
@@ -6,14 +6,10 @@ use Rattle.std.proofs.lemmas.List.Kept.{Contains-dedup, Contains-from_dedup, IsS
 use Rattle.std.proofs.lemmas.List.Sorted.{All-permutation, Contains-permutation, IsPermutation-sym}
 use Rattle.desk_expr.specs.contracts.term.TermOrd.TheImpl.Laws.{total-law, matches_eq-law}
 use Rattle.desk_expr.specs.contracts.term.TermEq.TheImpl.Laws.{laws-law}
-use Rattle.desk_expr.specs.contracts.term.TermPartialEq.TheImpl.{ghosts}
-use Rattle.desk_expr.specs.declared.term.Term.{Term}
 use Rattle.desk_expr.specs.Occurring.{leaves, term_order}
 use Rattle.desk_expr.specs.Words.{is_term}
+use Rattle.desk_expr.proofs.TermLemmas.{equal_terms}
 use Rattle.desk_expr.proofs.listing.terms.Goals as goal
-
-same : (x y : Term) → ghosts.eq x y ≡ true → x ≡ y
-same x y h = search rules
 
 pub returns-clause-terms : goal.returns-clause-terms
 returns-clause-terms c =
@@ -30,7 +26,7 @@ returns-clause-terms c =
             (Contains-permutation _ _ t (IsPermutation-sym _ _ moved)
             (Contains-from_dedup _ _ t (subst (λ l. Contains l t) is h)))),
         (λ h. subst (λ l. Contains l t) (sym is)
-            (Contains-dedup laws-law same c.sort.new.self.items t
+            (Contains-dedup laws-law equal_terms c.sort.new.self.items t
             (Contains-permutation _ _ t moved (subst (λ l. Contains l t) (sym got) h)))),
       );
       ordered = subst (IsStrictlySortedBy term_order) (sym is) ordered;

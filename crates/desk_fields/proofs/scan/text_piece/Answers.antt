@@ -1,9 +1,10 @@
 use Rattle.std.proofs.Common.{◌≡◌, ◌∙◌, ◌+◌, ◌++◌, [], length, ap, sym, subst, refl}
 use Rattle.std.proofs.Common.{rules}
+use Rattle.std.proofs.lemmas.List.{nil_from_length}
 use Rattle.desk_base.specs.declared.lines.LineEnd.TheVariants.{Nothing}
 use Rattle.desk_base.specs.Lines.{end_bytes, Ends}
 use Rattle.desk_fields.specs.Pieces.{text, AllBlank, bytes_of}
-use Rattle.desk_fields.proofs.Founds.{nil_of, ends_closed, last_closed, text_cut}
+use Rattle.desk_fields.proofs.Founds.{ends_closed, last_closed, text_cut}
 use Rattle.desk_fields.proofs.scan.text_piece.Goals as goal
 
 pub returns-then-is_empty-clause-ok : goal.returns-then-is_empty-clause-ok
@@ -12,7 +13,7 @@ returns-then-is_empty-clause-ok c =
     let front = c.args.front.now in
     let value = c.in-Some.value.now in
     let zero : length c.in-Some.more.now ≡ 0 = search rules in
-    let none = nil_of c.in-Some.more.now zero in
+    let none = nil_from_length c.in-Some.more.now zero in
     record {
       piece = text front o.0 value [];
       end = Nothing;

@@ -1,7 +1,7 @@
 use Rattle.std.proofs.Common.{refl}
 use Rattle.std.proofs.lemmas.Result.{on_err_weaker}
+use Rattle.desk_base.proofs.Results.{OnErr-always}
 use Rattle.desk_script.proofs.Losing.{front_after, front_before}
-use Rattle.desk_script.proofs.Results.{OnErr-always}
 use Rattle.desk_http.proofs.sending.send_both.Goals as goal
 
 pub returns-in_err-write_whole-clause-err : goal.returns-in_err-write_whole-clause-err

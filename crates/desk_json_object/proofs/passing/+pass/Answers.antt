@@ -1,5 +1,6 @@
 use Rattle.std.proofs.Common.{◌≡◌, ◌-◌, ◌<◌, [], ◌∷◌, length, Some, None, refl, ap, ◌∙◌, arith}
 use Rattle.std.proofs.lemmas.Result.{on_ok_weaker, on_err_weaker}
+use Rattle.desk_base.proofs.Results.{OnErr-always}
 use Rattle.json.specs.Json.{parse_map, after_end_array, read_key}
 use Rattle.json.specs.Reads.{token_of}
 use Rattle.json.proofs.Grammar.{value_is, read_key-shorter}
@@ -12,7 +13,6 @@ use Rattle.desk_json_object.proofs.Taking.{data_at-too_deep_object, items_in, it
 use Rattle.desk_json_object.proofs.Taking.{items_ended, item_refused, member_taken, members_ended}
 use Rattle.desk_json_object.proofs.Taking.{member_refused, key_refused, scalar_taken, none_begins}
 use Rattle.desk_json_object.proofs.Taking.{same_items, twice_around, taken_around, refused_around}
-use Rattle.desk_json_object.proofs.Taking.{on_any_err}
 use Rattle.desk_json_object.proofs.passing.+pass.Goals as goal
 
 pub pass_items-items-init : goal.pass_items-items-init
@@ -49,7 +49,7 @@ pass_items-returns-in_err-pass_value-clause-err t c =
     let l = c.items in
     let going : (after_end_array l.reader ≡ None) × (c.take_end_array.new.self ≡ l.reader) =
     grind arith in
-    on_any_err c.from_residual.result
+    OnErr-always c.from_residual.result
     (l.invariant.3 ∙ ap (parse_map l.invariant.2)
     (item_refused c.args.depth l.invariant.0 l.reader going.0
     (rw (← going.1) c.in_err-pass_value.ensures.err)))
@@ -76,7 +76,7 @@ pub pass_members-returns-in_err-next_key-clause-err : goal.pass_members-returns-
 pass_members-returns-in_err-next_key-clause-err t c = λ before.
     let l = c.members in
     let at = l.invariant.2 before in
-    on_any_err c.from_residual.result
+    OnErr-always c.from_residual.result
     (at.1 ∙ key_refused c.args.depth l.invariant.0 at.0 l.reader c.in_err-next_key.ensures.value)
 
 pub pass_members-members-preserved : goal.pass_members-members-preserved
@@ -107,7 +107,7 @@ pass_members-returns-in_err-pass_value-clause-err t c = λ before.
     let key = c.in-Some.field-0.now in
     let inner = c.next_key.new.self in
     let named : read_key l.reader ≡ Some (Some key, inner) = grind arith in
-    on_any_err c.from_residual-in_err-pass_value.result
+    OnErr-always c.from_residual-in_err-pass_value.result
     (at.1 ∙ member_refused c.args.depth l.invariant.0 at.0 key l.reader inner named
     c.in_err-pass_value.ensures.err)
 
@@ -192,5 +192,5 @@ pass_rest-returns-else-depth-eq0-2-clause-err t c =
 pub pass_value-returns-in_err-token-clause-err : goal.pass_value-returns-in_err-token-clause-err
 pass_value-returns-in_err-token-clause-err t c =
     let empty : c.args.reader.now ≡ [] = grind arith in
-    on_any_err c.from_residual.result
+    OnErr-always c.from_residual.result
     (ap (data_at c.args.depth) empty ∙ ap (converted of_json) (value_is c.args.depth []))

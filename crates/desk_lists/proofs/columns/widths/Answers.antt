@@ -1,8 +1,8 @@
 use Rattle.std.proofs.Common.{◌≡◌, ℕ, ◌+◌, ◌<◌, ◌∙◌, List, length, get_or, ap, ap₂, drop, sym}
 use Rattle.std.proofs.lemmas.List.{at_drop_all}
+use Rattle.desk_base.proofs.Lists.{drop_item}
 use Rattle.desk_lists.specs.Columns.{widths_with}
 use Rattle.desk_report.specs.Columns.{widened}
-use Rattle.desk_lists.proofs.Lists.{drop_item}
 use Rattle.desk_lists.proofs.columns.widths.Goals as goal
 
 -- one more row

@@ -1,4 +1,5 @@
 use Rattle.std.proofs.Common.{◌+◌, ◌++◌, ◌∙◌, List, ap, sym, drop}
+use Rattle.std.proofs.lemmas.List.{drop_all}
 use Rattle.std.specs.Prelude.{filter, Vec}
 use Rattle.std.specs.declared.alloc.Global.{Global}
 use Rattle.desk_model.specs.Keys.{below_by, choice_order, is_choice_in}
@@ -8,7 +9,6 @@ use Rattle.desk_sorted.specs.Blocks.{rows_in}
 use Rattle.desk_sorted.proofs.Walking.{block_ascends, filter_split, rest_ascends}
 use Rattle.desk_memory_rows.specs.Holders.{leaving, letting_go}
 use Rattle.desk_memory_rows.proofs.Holding.{let_go_both, let_go_none}
-use Rattle.desk_memory_rows.proofs.Lists.{drop_rest}
 use Rattle.desk_memory_rows.proofs.choices.drop_holders.Goals as goal
 
 pub run_in-requires : goal.run_in-requires
@@ -47,7 +47,7 @@ returns c =
     let place = c.in-Some.place in
     let all = rows_in c.loop-block.holders.blocks.items in
     sym (ap (λ (bs : List (Vec ChoiceRow Global)). letting_go place (filter at (rows_in bs)) all)
-    (drop_rest c.loop-block.block-index c.among-block-items.result.now c.loop-block-test.false)
+    (drop_all c.loop-block.block-index c.among-block-items.result.now c.loop-block-test.false)
     ∙ let_go_none place all)
     ∙ (c.loop-block.invariant.left
     ∙ ap (λ o. leaving o (filter at (rows_in c.args.rows.now.blocks.items))

@@ -1,9 +1,10 @@
 use Rattle.std.proofs.Common.{◌+◌, ◌∙◌, [], ◌∷◌, ap, sym, drop}
+use Rattle.std.proofs.lemmas.List.{drop_all}
 use Rattle.desk_model.specs.declared.row.ChoiceRow.{ChoiceRow}
 use Rattle.desk_sorted.specs.Blocks.{rows_in}
 use Rattle.desk_memory_rows.specs.Holders.{letting_go}
 use Rattle.desk_memory_rows.proofs.Holding.{let_go_both, let_go_none, let_go_one}
-use Rattle.desk_memory_rows.proofs.Lists.{drop_rest, row_at}
+use Rattle.desk_memory_rows.proofs.Lists.{row_at}
 use Rattle.desk_memory_rows.proofs.holders.drop_choices.Goals as goal
 
 pub loop-row-preserved : goal.loop-row-preserved
@@ -22,5 +23,5 @@ pub returns : goal.returns
 returns c =
     let all = rows_in c.loop-row.holders.blocks.items in
     sym (ap (λ rows. letting_go c.args.place rows all)
-    (drop_rest c.loop-row.row-index c.args.rows.now c.loop-row-test.false)
+    (drop_all c.loop-row.row-index c.args.rows.now c.loop-row-test.false)
     ∙ let_go_none c.args.place all) ∙ c.loop-row.invariant

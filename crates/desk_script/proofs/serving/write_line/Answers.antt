@@ -1,6 +1,6 @@
 use Rattle.std.proofs.Common.{[], ◌∷◌, ◌++◌}
+use Rattle.desk_base.proofs.Results.{OnErr-always}
 use Rattle.desk_script.proofs.Losing.{all_after, front_after, front_before, front_whole}
-use Rattle.desk_script.proofs.Results.{OnErr-always}
 use Rattle.desk_script.proofs.serving.write_line.Goals as goal
 
 pub returns-in_err-write_bytes-clause-err : goal.returns-in_err-write_bytes-clause-err

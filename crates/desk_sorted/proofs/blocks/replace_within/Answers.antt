@@ -7,9 +7,9 @@ use Rattle.std.proofs.lemmas.List.{append-nil}
 use Rattle.std.proofs.lemmas.List.Elements.{filter-append}
 use Rattle.desk_model.specs.Keys.{below_by}
 use Rattle.desk_model.specs.Lists.{ascends, put_all}
+use Rattle.desk_model.proofs.Lists.{ascends-filter}
 use Rattle.desk_sorted.specs.Blocks.{are_all_filled, are_filled, rows_in}
 use Rattle.desk_base.proofs.Bools.{or_left, or_right}
-use Rattle.desk_sorted.proofs.Ascending.{ascends-filter}
 use Rattle.desk_sorted.proofs.Blocking.{ascends_drop, ascends_take, filled_drop}
 use Rattle.desk_sorted.proofs.Changing.{behind_filled, filled_around, put_all_between, rows_at}
 use Rattle.desk_sorted.proofs.Walking.{block_ascends, parted, rows_put}

@@ -1,11 +1,11 @@
 use Rattle.std.proofs.Common.{◌≡◌, refl, subst, rules, IfErr, sym}
+use Rattle.desk_sql_layout.proofs.Clean.{clean_before}
 use Rattle.sqlite.specs.State.{HasCleanDisk, Survives}
 use Rattle.sqlite.specs.Held.{state}
 use Rattle.sqlite.proofs.StateLemmas.{survives_then}
 use Rattle.sqlite.proofs.Callers.{survives_begin}
 use Rattle.desk_sql_commit.specs.Committing.{Done, Leaves, CommitFails}
 use Rattle.desk_sql_commit.proofs.Ends.{ends_done, made_fails, commit_fails, err_ends}
-use Rattle.desk_sql_write.proofs.Inside.{clean_before}
 use Rattle.desk_sql_commit.proofs.transaction.write.Goals as goal
 
 pub returns-in-Ok-clause-crash : goal.returns-in-Ok-clause-crash

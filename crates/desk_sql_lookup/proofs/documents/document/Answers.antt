@@ -1,6 +1,7 @@
 use Rattle.std.proofs.Common.{◌≡◌, ◌∙◌, ◌+◌, Err, IfSome, Ok, ap, filter, find, length, map, min, slice_get}
 use Rattle.std.specs.Option.{option_map}
 use Rattle.std.proofs.lemmas.Result.{IfOk-weaker}
+use Rattle.desk_base.proofs.Numbers.{numbers_equal}
 use Rattle.sqlite.specs.Held.{state}
 use Rattle.desk_history.specs.FromTables.{known_document}
 use Rattle.desk_model.specs.Keys.{is_document}
@@ -10,7 +11,6 @@ use Rattle.desk_sql_lookup.proofs.Among.{document_among}
 use Rattle.desk_sql_layout.proofs.Causes.{never_cause}
 use Rattle.desk_sql_lookup.proofs.DocumentQueries.{document_finds}
 use Rattle.desk_sql_layout.proofs.Finding.{finds_mapped}
-use Rattle.desk_sql_layout.proofs.Keyed.{same_number}
 use Rattle.desk_sql_lookup.proofs.LookUps.{fails_too, rows_found, then_tells}
 use Rattle.desk_sql_layout.proofs.Loops.{first_mapped, passed_mapped}
 use Rattle.desk_sql_lookup.proofs.documents.document.Goals as goal
@@ -63,6 +63,6 @@ returns-clause-looks g c =
     (IfSome c.in_ok-found.found (λ known. known.0 ≡ n))
     (λ clean t held count.
     rw (first.found clean t held count)
-    (passed_mapped known_document p (λ known. known.0 ≡ n) (λ x is. same_number x.number n is)
+    (passed_mapped known_document p (λ known. known.0 ≡ n) (λ x is. numbers_equal x.number n is)
     t.document))
     c.numbered.ensures.cause)

@@ -1,12 +1,12 @@
 use Rattle.std.proofs.Common.{◌≡◌, ◌∙◌, ap, filter, find, slice_get}
 use Rattle.std.specs.Option.{option_map}
+use Rattle.desk_base.proofs.Lists.{first_found}
 use Rattle.desk_history.specs.FromTables.{known_import}
 use Rattle.desk_model.specs.Keys.{has_namespace}
 use Rattle.desk_sql_layout.specs.Cells.{document_cells}
 use Rattle.desk_sql_layout.specs.Shown.{import_cells}
 use Rattle.desk_sql_layout.proofs.Causes.{filter_written}
 use Rattle.desk_sql_lookup.proofs.LookUps.{then_rows}
-use Rattle.desk_sql_layout.proofs.Loops.{first_is}
 use Rattle.desk_sql_lookup.proofs.documents.import_of.Goals as goal
 
 pub returns : goal.returns
@@ -20,5 +20,5 @@ returns g c =
     (λ t written. filter_written document_cells import_cells (λ x row. (row.0, (tt, tt))) p
     t.document (written.cells 4))
     (λ found rows. found ≡ told (slice_get rows 0))
-    (λ found t is. is tt ∙ ap told (first_is p t.document)) c.first_import.ensures.value
+    (λ found t is. is tt ∙ ap told (first_found p t.document)) c.first_import.ensures.value
     c.first_import.ensures.cause

@@ -1,8 +1,8 @@
 use Rattle.std.proofs.Common.{◌≡◌, ◌∙◌, ◌+◌, ap, find, length, min, slice_get}
+use Rattle.desk_base.proofs.Lists.{first_found}
 use Rattle.desk_model.specs.Keys.{is_package}
 use Rattle.desk_sql_lookup.proofs.Among.{package_among}
 use Rattle.desk_sql_lookup.proofs.DocumentQueries.{package_finds}
-use Rattle.desk_sql_layout.proofs.Loops.{first_is}
 use Rattle.desk_sql_lookup.proofs.LookUps.{rows_found}
 use Rattle.desk_sql_lookup.proofs.documents.package_row.Goals as goal
 
@@ -19,4 +19,4 @@ returns g c =
     (λ found t. length t.document ≡ documents → found ≡ find (is_package n id) t.packages)
     (λ found t orderly is count.
     is ∙ ap (λ l. slice_get l 0) (package_among n documents id t orderly count)
-    ∙ first_is (is_package n id) t.packages)
+    ∙ first_found (is_package n id) t.packages)

@@ -1,5 +1,7 @@
 use Rattle.std.proofs.Common.{◌≡◌, ◌∙◌, ◌+◌, Err, IfSome, Ok, ap, filter, length, min, slice_get}
 use Rattle.std.proofs.lemmas.Result.{IfOk-weaker}
+use Rattle.desk_base.proofs.Numbers.{numbers_equal}
+use Rattle.desk_base.proofs.Lists.{first_found}
 use Rattle.sqlite.specs.Held.{state}
 use Rattle.desk_history.specs.FromTables.{duty_found}
 use Rattle.desk_model.specs.Keys.{is_duty}
@@ -7,9 +9,8 @@ use Rattle.desk_model.specs.Tables.{Tables}
 use Rattle.desk_sql_lookup.proofs.Among.{duty_among}
 use Rattle.desk_sql_layout.proofs.Causes.{never_cause}
 use Rattle.desk_sql_lookup.proofs.DutyQueries.{duty_finds}
-use Rattle.desk_sql_layout.proofs.Keyed.{same_number}
 use Rattle.desk_sql_lookup.proofs.LookUps.{fails_too, rows_found, then_tells}
-use Rattle.desk_sql_layout.proofs.Loops.{first_is, passed_first}
+use Rattle.desk_sql_layout.proofs.Loops.{passed_first}
 use Rattle.desk_sql_lookup.proofs.duties.duty.Goals as goal
 
 pub returns-in_err-found-clause-looks : goal.returns-in_err-found-clause-looks
@@ -27,7 +28,7 @@ returns-in_err-found-clause-looks g c =
     (λ found t. length t.duty ≡ duties → found ≡ duty_found t n)
     (λ found t orderly is count.
     is ∙ ap (λ l. slice_get l 0) (duty_among n duties t orderly count)
-    ∙ first_is (is_duty n) t.duty))
+    ∙ first_found (is_duty n) t.duty))
 
 pub returns-clause-looks : goal.returns-clause-looks
 returns-clause-looks g c =
@@ -46,11 +47,11 @@ returns-clause-looks g c =
     then_tells g.S.Store old new first If c.numbered.result
     (λ found t. length t.duty ≡ duties → found ≡ duty_found t n)
     (IfOk-weaker c.numbered.result _ _
-    (λ kept same clean t held count. same ∙ first.found clean t held count ∙ first_is p t.duty)
+    (λ kept same clean t held count. same ∙ first.found clean t held count ∙ first_found p t.duty)
     c.numbered.ensures.kept)
     (never_cause If (state g.S.Store old) (state g.S.Store new) c.numbered.result
     (IfSome c.in_ok-found.found (λ row. row.number ≡ n))
     (λ clean t held count.
     rw (first.found clean t held count)
-    (passed_first p (λ row. row.number ≡ n) (λ x is. same_number x.number n is) t.duty))
+    (passed_first p (λ row. row.number ≡ n) (λ x is. numbers_equal x.number n is) t.duty))
     c.numbered.ensures.cause)

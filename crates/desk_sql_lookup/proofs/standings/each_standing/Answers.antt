@@ -3,8 +3,9 @@ use Rattle.desk_model.specs.declared.state.DutyState.TheVariants.{IsOpen}
 use Rattle.desk_sql_lookup.specs.Standings.{standing_by}
 use Rattle.desk_sql_layout.specs.declared.rows.StateRow.{StateRow}
 use Rattle.std.proofs.lemmas.List.{get_or_default}
+use Rattle.desk_base.proofs.Lists.{take_whole}
 use Rattle.desk_sql_lookup.proofs.LookUps.{fails_too, lacks_memory, looks_none, looks_then, then_tells}
-use Rattle.desk_sql_lookup.proofs.StandingLemmas.{all_taken, map_more}
+use Rattle.desk_sql_lookup.proofs.StandingLemmas.{map_more}
 use Rattle.desk_sql_lookup.proofs.standings.each_standing.Goals as goal
 
 abbrev no_row : StateRow
@@ -67,5 +68,5 @@ returns g c =
     (Ok c.loop-row.found) (λ found t. length t.duty ≡ c.args.duties
     → found.items ≡ map (standing_by t) c.args.rows.now)
     (λ clean t held count. c.loop-row.invariant.found clean t held count
-    ∙ ap (map (standing_by t)) (all_taken c.args.rows.now c.loop-row.row-index
+    ∙ ap (map (standing_by t)) (take_whole c.args.rows.now c.loop-row.row-index
     c.loop-row-test.false)) tt

@@ -1,8 +1,9 @@
 use Rattle.std.proofs.Common.{◌≡◌, ◌+◌, ap, ap₂, length, sym, take, Err, Ok, ◌∙◌}
 use Rattle.std.specs.List.{filter_map}
+use Rattle.desk_base.proofs.Lists.{take_whole}
 use Rattle.desk_sql_lookup.specs.Standings.{and_some, ended_standing}
 use Rattle.desk_sql_lookup.proofs.LookUps.{fails_too, lacks_memory, looks_none, looks_then, then_tells}
-use Rattle.desk_sql_lookup.proofs.StandingLemmas.{all_taken, some_more}
+use Rattle.desk_sql_lookup.proofs.StandingLemmas.{some_more}
 use Rattle.desk_sql_lookup.proofs.standings.ended_among.Goals as goal
 
 pub loop-row-init : goal.loop-row-init
@@ -63,4 +64,4 @@ returns g c =
     → found.items ≡ filter_map (ended_standing t c.args.day) c.args.rows.now)
     (λ clean t held count. c.loop-row.invariant.found clean t held count
     ∙ ap (filter_map (ended_standing t c.args.day))
-    (all_taken c.args.rows.now c.loop-row.row-index c.loop-row-test.false)) tt
+    (take_whole c.args.rows.now c.loop-row.row-index c.loop-row-test.false)) tt

@@ -1,5 +1,6 @@
 use Rattle.std.proofs.Common.{◌≡◌, ◌∙◌, ap, filter, slice_get}
 use Rattle.std.specs.Option.{option_and_then}
+use Rattle.desk_base.proofs.Lists.{first_found}
 use Rattle.desk_model.specs.Bills.{extracted_text}
 use Rattle.desk_model.specs.Keys.{is_extracted}
 use Rattle.desk_model.specs.declared.row.ExtractedRow.{ExtractedRow}
@@ -7,7 +8,6 @@ use Rattle.desk_sql_layout.specs.Cells.{extracted_cells}
 use Rattle.desk_sql_layout.specs.Shown.{extracted_body_cells}
 use Rattle.desk_sql_layout.proofs.Causes.{filter_written}
 use Rattle.desk_sql_lookup.proofs.LookUps.{then_rows}
-use Rattle.desk_sql_layout.proofs.Loops.{first_is}
 use Rattle.desk_sql_lookup.proofs.texts.extracted_text.Goals as goal
 
 pub returns : goal.returns
@@ -22,5 +22,5 @@ returns g c =
     (λ t written. filter_written extracted_cells extracted_body_cells (λ x row. row.1.1) p
     t.extracted (written.cells 8))
     (λ found rows. found ≡ body (slice_get rows 0))
-    (λ found t is. is tt ∙ ap body (first_is p t.extracted)) c.first_body.ensures.value
+    (λ found t is. is tt ∙ ap body (first_found p t.extracted)) c.first_body.ensures.value
     c.first_body.ensures.cause

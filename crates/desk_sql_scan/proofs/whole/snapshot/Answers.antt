@@ -1,7 +1,7 @@
 use Rattle.std.proofs.Common.{rules}
 use Rattle.std.proofs.lemmas.Result.{IfOk-weaker}
+use Rattle.desk_sql_layout.proofs.Clean.{clean_before}
 use Rattle.sqlite.specs.Held.{state}
-use Rattle.desk_sql_adopt.proofs.Spared.{clean_before}
 use Rattle.desk_sql_scan.proofs.Asked.{read_outside}
 use Rattle.desk_sql_scan.proofs.Causes.{asked_clean, scan_cause}
 use Rattle.desk_sql_scan.proofs.whole.snapshot.Goals as goal

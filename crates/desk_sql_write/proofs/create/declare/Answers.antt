@@ -1,8 +1,8 @@
 use Rattle.std.proofs.Common.{◌∙◌, map}
+use Rattle.desk_sql_layout.proofs.Clean.{clean_before}
 use Rattle.sqlite.specs.Held.{state}
 use Rattle.sqlite.proofs.StateLemmas.{survives_then}
 use Rattle.desk_sql_write.proofs.Declared.{went_on, declare_fails, err_declares}
-use Rattle.desk_sql_write.proofs.Inside.{clean_before}
 use Rattle.desk_sql_write.proofs.create.declare.Goals as goal
 
 pub loop-place-preserved : goal.loop-place-preserved

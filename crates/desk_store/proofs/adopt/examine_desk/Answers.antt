@@ -1,6 +1,7 @@
 use Rattle.sqlite.specs.Held.{state}
-use Rattle.desk_sql_adopt.proofs.Spared.{kept, clean_before}
+use Rattle.desk_sql_adopt.proofs.Spared.{kept}
 use Rattle.std.proofs.Common.{◌≡◌, true, subst, sym, ◌∙◌, true≢false}
+use Rattle.desk_sql_layout.proofs.Clean.{clean_before}
 use Rattle.desk_model.specs.Tables.{Tables}
 use Rattle.desk_tally.specs.Kept.{are_countable}
 use Rattle.desk_tally.proofs.Countable.{countable}

@@ -1,10 +1,11 @@
 use Rattle.sqlite.specs.Held.{state}
-use Rattle.desk_sql_adopt.proofs.Spared.{clean_before, kept}
+use Rattle.desk_sql_adopt.proofs.Spared.{kept}
 use Rattle.desk_store.proofs.Bodies.{known}
 use Rattle.std.proofs.Common.{◌≡◌, true, inl, ap, subst, sym, ◌∙◌, IfSome}
 use Rattle.std.specs.Prelude.{is_some}
 use Rattle.std.specs.Result.{result_ok}
 use Rattle.desk_sql_layout.proofs.Causes.{any_cause, err_cause}
+use Rattle.desk_sql_layout.proofs.Clean.{clean_before}
 use Rattle.desk_sql_adopt.specs.Revisions.{body_of}
 use Rattle.desk_store.specs.Causes.{AreFew, AreRecorded}
 use Rattle.desk_store.proofs.Adopting.{later_cause, weaken_cause}

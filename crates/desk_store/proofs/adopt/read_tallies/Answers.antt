@@ -1,9 +1,10 @@
 use Rattle.std.proofs.Common.{◌∙◌}
 use Rattle.sqlite.specs.Held.{state}
 use Rattle.desk_sql_layout.specs.Held.{seen_of}
-use Rattle.desk_sql_adopt.proofs.Spared.{clean_before, kept}
+use Rattle.desk_sql_adopt.proofs.Spared.{kept}
 use Rattle.desk_store.proofs.Counted.{counted_kept, counted_none}
 use Rattle.desk_sql_layout.proofs.Causes.{err_cause, memory_err}
+use Rattle.desk_sql_layout.proofs.Clean.{clean_before}
 use Rattle.desk_store.proofs.Adopting.{later_cause}
 use Rattle.desk_store.proofs.adopt.read_tallies.Goals as goal
 

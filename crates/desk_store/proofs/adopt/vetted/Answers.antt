@@ -1,9 +1,9 @@
 use Rattle.sqlite.specs.Held.{state}
 use Rattle.desk_model.specs.Tables.{tables}
-use Rattle.desk_sql_adopt.proofs.Spared.{clean_before}
 use Rattle.desk_store.proofs.Vetted.{left_after, passed_after, reason_after, stayed_after, stayed_now, survived}
 use Rattle.desk_store.specs.Causes.{AreRecorded}
 use Rattle.desk_store.proofs.Adopting.{any_adopts, err_adopts_after}
+use Rattle.desk_sql_layout.proofs.Clean.{clean_before}
 use Rattle.desk_store.proofs.adopt.vetted.Goals as goal
 
 pub returns-in-Err-clause-sound : goal.returns-in-Err-clause-sound

@@ -1,6 +1,6 @@
 use Rattle.desk_model.specs.Tables.{tables}
 use Rattle.desk_snapshot.specs.Tables.{snapshot_of}
-use Rattle.desk_store.proofs.Audited.{is_sound_as}
+use Rattle.desk_sql_migrate.proofs.Ends.{is_sound_as}
 use Rattle.desk_store.proofs.audit.audit_connection.Goals as goal
 
 pub returns-clause-told : goal.returns-clause-told

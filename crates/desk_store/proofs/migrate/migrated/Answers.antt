@@ -2,7 +2,8 @@ use Rattle.std.proofs.Common.{inr}
 use Rattle.sqlite.specs.Held.{state}
 use Rattle.desk_model.specs.Tables.{tables}
 use Rattle.desk_sql_layout.specs.Held.{seen_of}
-use Rattle.desk_sql_adopt.proofs.Spared.{clean_before, kept}
+use Rattle.desk_sql_layout.proofs.Clean.{clean_before}
+use Rattle.desk_sql_adopt.proofs.Spared.{kept}
 use Rattle.desk_store.proofs.Bodies.{history_forms}
 use Rattle.desk_store.proofs.Migrated.{left_by, migrated_after, moved_after, shows_migrated}
 use Rattle.desk_store.proofs.migrate.migrated.Goals as goal

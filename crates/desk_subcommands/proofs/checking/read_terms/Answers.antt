@@ -1,6 +1,7 @@
 use Rattle.std.proofs.Common.{◌+◌, take, subst, sym}
+use Rattle.desk_expr.proofs.FaultLemmas.{not_memory}
 use Rattle.desk_subcommands.specs.Report.{SpellTerms}
-use Rattle.desk_subcommands.proofs.ReportLemmas.{texts, spell_next, first_bad, not_memory}
+use Rattle.desk_subcommands.proofs.ReportLemmas.{texts, spell_next, first_bad}
 use Rattle.desk_subcommands.proofs.checking.read_terms.Goals as goal
 
 pub loop-word-preserved : goal.loop-word-preserved

@@ -1,4 +1,4 @@
-use Rattle.desk_texts.proofs.Faults.{not_memory}
+use Rattle.desk_expr.proofs.FaultLemmas.{not_memory}
 use Rattle.desk_texts.proofs.expression.read_expression.Goals as goal
 
 pub returns-in_ok-told-in-Err : goal.returns-in_ok-told-in-Err

@@ -4,8 +4,9 @@ use Rattle.std.specs.Str.{bytes_eq}
 use Rattle.std.proofs.lemmas.List.{take_all}
 use Rattle.desk_base.specs.TextSets.{has_text}
 use Rattle.desk_base.proofs.SetLemmas.{one_more}
+use Rattle.desk_base.proofs.Bools.{was_there, was_new}
 use Rattle.desk_tree_infos.specs.Firsts.{AddsUnseen}
-use Rattle.desk_tree_infos.proofs.FirstsLemmas.{adds_nothing, adds_known, adds_new, was_there, was_new}
+use Rattle.desk_tree_infos.proofs.FirstsLemmas.{adds_nothing, adds_known, adds_new}
 use Rattle.desk_tree_infos.proofs.firsts.add_unseen.Goals as goal
 
 pub loop-text-init : goal.loop-text-init

@@ -7,9 +7,10 @@ use Rattle.std.proofs.lemmas.List.Sorted.{Contains-permutation, IsPermutation-sy
 use Rattle.std.specs.Str.{bytes_eq}
 use denote.Ref.{Bor}
 use Rattle.desk_base.specs.Borrowed.{texts}
+use Rattle.desk_base.proofs.Bools.{same_answer}
 use Rattle.desk_model.specs.Texts.{sorted_set}
 use Rattle.desk_tree_infos.proofs.AmongLemmas.{among-set, set_sorted, sorted_once}
-use Rattle.desk_tree_lint.proofs.OrderLemmas.{among_at, among_from, both_ways, sorted_texts}
+use Rattle.desk_tree_lint.proofs.OrderLemmas.{among_at, among_from, sorted_texts}
 use Rattle.desk_tree_lint.proofs.ordering.ordered.Goals as goal
 
 pub returns : goal.returns
@@ -22,7 +23,7 @@ returns c =
     c.sort_unstable.ensures.sorted in
     ap texts is
     ∙ sorted_once _ (sorted_set (texts listed)) (sorted_texts now _ up) (set_sorted (texts listed))
-    (λ key. both_ways _ _
+    (λ key. same_answer _ _
     (λ has.
     let found = among_from now _ key has in
     let at = Contains-permutation _ _ found.0 (IsPermutation-sym _ _ moved)

@@ -1,5 +1,5 @@
 use Rattle.std.proofs.Common.{◌∙◌, ap, refl, ◌++◌}
-use Rattle.desk_tree_annotations.proofs.RightLemmas.{not_memory}
+use Rattle.desk_expr.proofs.FaultLemmas.{not_memory}
 use Rattle.desk_tree_lint.specs.Used.{keys_in}
 use Rattle.desk_tree_lint.proofs.UsedLemmas.{uses_these, uses_none, added_by}
 use Rattle.desk_tree_lint.proofs.used.add_used.Goals as goal

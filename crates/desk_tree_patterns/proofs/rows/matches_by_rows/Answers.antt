@@ -1,11 +1,10 @@
 use Rattle.std.proofs.Common.{◌≡◌, ◌∙◌, ◌++◌, ◌∷◌, [], ap, sym, subst, refl, append-nil, append_assoc}
 use Rattle.std.proofs.Common.{List, ℕ, Bool, true, false, length, arith}
 use Rattle.std.specs.Prelude.{replicate, get_or, IsTrue, ◌↔◌}
-use Rattle.std.proofs.lemmas.List.{get_or_read}
+use Rattle.std.proofs.lemmas.List.{get_or_read, nil_from_length}
 use Rattle.desk_tree_patterns.specs.Glob.{IsMatch}
 use Rattle.desk_tree_patterns.specs.Parts.{pieces}
 use Rattle.desk_tree_patterns.specs.Rows.{IsRow}
-use Rattle.desk_tree_patterns.proofs.Greedy.{nil_of}
 use Rattle.desk_tree_patterns.proofs.RowLemmas.{row_start, row_more, row_whole, row_places, written}
 use Rattle.desk_tree_patterns.proofs.rows.matches_by_rows.Goals as goal
 
@@ -59,7 +58,7 @@ returns c =
     let places = c.loop-byte.invariant.places in
     let row = c.loop-byte.row.items in
     let whole : c.args.path.now ≡ seen.0 = seen.1
-    ∙ ap (λ l. l ++ seen.0) (nil_of c.loop-byte.rest.now c.in_default.ensures.cases) in
+    ∙ ap (λ l. l ++ seen.0) (nil_from_length c.loop-byte.rest.now c.in_default.ensures.cases) in
     let first : c.index.result.now ≡ get_or row 0 false =
     get_or_read row 0 c.index.result.now (omega arith) c.index.ensures false in
     let is : IsRow stars bytes c.args.path.now row = subst (λ l. IsRow stars bytes l row) (sym whole) seen.2 in

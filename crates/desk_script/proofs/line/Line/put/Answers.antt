@@ -2,8 +2,8 @@ use Rattle.std.proofs.Common.{◌≡◌, ◌∙◌, ◌++◌, ◌-◌, ℕ, refl
 use Rattle.std.specs.Prelude.{true}
 use Rattle.std.proofs.lemmas.Result.{on_ok_weaker}
 use Rattle.desk_base.specs.Limits.{line_bytes}
+use Rattle.desk_base.proofs.Results.{OnOk-items}
 use Rattle.desk_script.proofs.Gathering.{HasCome-all, HasCome-front}
-use Rattle.desk_script.proofs.Results.{OnOk-items}
 use Rattle.desk_script.proofs.line.Line.put.Goals as goal
 
 pub returns-then-run-room-clause-came : goal.returns-then-run-room-clause-came

@@ -2,8 +2,8 @@ use Rattle.std.proofs.Common.{◌∙◌, ap, arith}
 use Rattle.std.specs.Prelude.{filter, not}
 use Rattle.desk_model.specs.Keys.{below_by}
 use Rattle.desk_model.specs.Lists.{ascends}
+use Rattle.desk_model.proofs.Lists.{ascends-filter}
 use Rattle.desk_sorted.specs.Blocks.{rows_in}
-use Rattle.desk_sorted.proofs.Ascending.{ascends-filter}
 use Rattle.desk_sorted.proofs.Changing.{changed_filled, changed_rows}
 use Rattle.desk_sorted.proofs.Counting.{count_left, cut_fits, no_more}
 use Rattle.desk_sorted.proofs.blocks.Blocks.cut.Goals as goal

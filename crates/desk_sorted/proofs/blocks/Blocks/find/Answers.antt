@@ -1,7 +1,7 @@
 use Rattle.std.proofs.Common.{◌∙◌, ap}
 use Rattle.std.specs.Prelude.{slice_get}
+use Rattle.desk_base.proofs.Lists.{first_found}
 use Rattle.desk_model.specs.Keys.{below_by}
-use Rattle.desk_sorted.proofs.Halving.{first_found}
 use Rattle.desk_sorted.specs.Blocks.{rows_in}
 use Rattle.desk_sorted.proofs.Walking.{find_here, find_later, find_same, rest_ascends, slice_ascends, slice_found}
 use Rattle.desk_sorted.proofs.blocks.Blocks.find.Goals as goal

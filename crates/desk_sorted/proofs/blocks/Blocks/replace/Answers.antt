@@ -4,7 +4,8 @@ use Rattle.desk_model.specs.Keys.{below_by}
 use Rattle.desk_model.specs.Lists.{ascends, put_all}
 use Rattle.desk_sorted.specs.Blocks.{rows_in}
 use Rattle.desk_model.proofs.Orders.{order_of}
-use Rattle.desk_sorted.proofs.Ascending.{ascends-filter, ascends-put_all}
+use Rattle.desk_model.proofs.Lists.{ascends-filter}
+use Rattle.desk_sorted.proofs.Ascending.{ascends-put_all}
 use Rattle.desk_sorted.proofs.Changing.{changed_filled, changed_rows}
 use Rattle.desk_sorted.proofs.Counting.{no_more, put_fits, put_in_counted}
 use Rattle.desk_sorted.proofs.blocks.Blocks.replace.Goals as goal

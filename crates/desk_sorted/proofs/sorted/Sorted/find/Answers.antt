@@ -1,6 +1,6 @@
 use Rattle.std.proofs.Common.{ap, ◌∙◌}
 use Rattle.std.specs.Prelude.{slice_get}
-use Rattle.desk_sorted.proofs.Halving.{first_found}
+use Rattle.desk_base.proofs.Lists.{first_found}
 use Rattle.desk_sorted.proofs.sorted.Sorted.find.Goals as goal
 
 pub returns : goal.returns

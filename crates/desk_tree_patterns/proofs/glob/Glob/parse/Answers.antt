@@ -1,14 +1,14 @@
 use Rattle.std.proofs.Common.{◌∙◌, ◌∷◌, [], ap, arith, subst, length, append-nil}
 use Rattle.std.proofs.Common.{length-append}
+use Rattle.std.proofs.lemmas.List.{nil_from_length}
 use Rattle.desk_tree_patterns.specs.Glob.{Begins}
 use Rattle.desk_tree_patterns.specs.Parts.{pieces}
-use Rattle.desk_tree_patterns.proofs.Greedy.{nil_of}
 use Rattle.desk_tree_patterns.proofs.PartLemmas.{all_placed, byte_added, star_added, read_more}
 use Rattle.desk_tree_patterns.proofs.glob.Glob.parse.Goals as goal
 
 pub returns : goal.returns
 returns c = rw append-nil at (c.loop-piece.invariant.read []
-    (nil_of c.loop-piece.rest.now c.in_default.ensures.none))
+    (nil_from_length c.loop-piece.rest.now c.in_default.ensures.none))
 
 pub loop-piece-preserved-in_ok-push-in-Byte : goal.loop-piece-preserved-in_ok-push-in-Byte
 loop-piece-preserved-in_ok-push-in-Byte c =

@@ -4,7 +4,8 @@ use Rattle.std.proofs.lemmas.Result.{on_ok_weaker}
 use Rattle.desk_tree_lint.specs.Shown.{name_at}
 use Rattle.desk_tree_reports.specs.declared.ways.Way.TheVariants.{NamedLine}
 use Rattle.desk_base.specs.Terminal.{shown}
-use Rattle.desk_tree_reports.proofs.ItemLemmas.{named_is, added_three, missing_line_is}
+use Rattle.desk_base.proofs.Lists.{append_four}
+use Rattle.desk_tree_reports.proofs.ItemLemmas.{named_is, missing_line_is}
 use Rattle.desk_tree_reports.proofs.telling.Telling.add_missing_line.Goals as goal
 
 pub returns : goal.returns
@@ -18,5 +19,5 @@ returns c =
     let second = c.in_ok-add_named.ensures
     ∙ (λ j. first j ++ named_is NamedLine c.args.name.path j) in
     on_ok_weaker c.add-2.result (λ grown. grown ∙ (λ j. second j ++ end j)
-    ∙ added_three old (codes "LICENSES/: no text of " ++ shown name.id) _ _
+    ∙ append_four old (codes "LICENSES/: no text of " ++ shown name.id) _ _
     ∙ ap (λ l. old ++ l) (missing_line_is name)) c.add-2.ensures
