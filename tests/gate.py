@@ -3,7 +3,7 @@
 
 Quick checks of texts come first, then every proof, then what is tried on the program that was proved and built. It prints which step of
 how many it is at, and during the proofs how many crates are proved and the minutes so far. It stops at the first step that fails. At the
-end it prints the seconds of a processor that the proofs took, and all steps."""
+end it prints the seconds of a processor that each step took which is no quick check, and those of all steps."""
 import os
 import re
 import resource
@@ -16,6 +16,8 @@ TOP = os.path.dirname(os.path.dirname(os.path.abspath(__file__)))
 MADE = "crates/desk_program/out/desk_program"
 DESK = "build/desk"
 PROOFS = ["rt", "ci"]
+# The seconds of a processor up to which a step is a quick check.
+QUICK = 10
 
 STEPS = [
     ("Comparing the tables of the pages with the definitions and the code.", ["python3", "tests/pages.py"]),
@@ -80,18 +82,20 @@ def spent():
 
 def main():
     os.chdir(TOP)
-    start, of_proofs = time.time(), 0
+    start, seconds = time.time(), {}
     for number, (what, words) in enumerate(STEPS, 1):
         print(f"Step {number} of {len(STEPS)}, {(time.time() - start) / 60:.0f} minutes: {what}", flush=True)
         before = spent()
         status = prove(start) if words is PROOFS else subprocess.call(words)
-        if words is PROOFS:
-            of_proofs = spent() - before
+        seconds[what] = spent() - before
         if status:
             print(f"Step {number} failed: {' '.join(words)}")
             return 1
-    print(f"All {len(STEPS)} steps passed, in {(time.time() - start) / 60:.0f} minutes.")
-    print(f"Seconds of a processor: {of_proofs:,.0f} for the proofs, {spent():,.0f} for all steps.")
+    print(f"All {len(STEPS)} steps passed, in {(time.time() - start) / 60:.0f} minutes. Seconds of a processor:")
+    for what, took in seconds.items():
+        if took >= QUICK:
+            print(f"{took:7,.0f}  {what}")
+    print(f"{spent():7,.0f}  all steps")
     return 0
 
 
