@@ -6,7 +6,7 @@ ghost use Rattle.desk_tree_reports.specs.Reports.{json_text};
 ghost use Rattle.desk_tree_problems.specs.Rows.{AreRows};
 
 use crate::long_text::LongText;
-use crate::telling::{Form, Telling, add_problems};
+use crate::telling::{Form, with_problems};
 use desk_tree_problems::Problems;
 use std::alloc::{AllocError, Global};
 
@@ -19,9 +19,7 @@ pub(crate) fn json_text(alloc: Global, problems: &Problems) -> Result<LongText, 
     let front = format!(in alloc; "{{\"covered\":{covered},\"problems\":[")?;
     let mut text = LongText::new(alloc);
     text.add(alloc, front.as_bytes())?;
-    let mut telling = Telling::behind(text);
-    add_problems(alloc, &mut telling, Form::Json, problems)?;
-    let mut text = telling.text;
+    let mut text = with_problems(alloc, text, Form::Json, problems)?;
     text.add(alloc, b"]}\n")?;
     Ok(text)
 }

@@ -38,14 +38,12 @@ fn text_of(alloc: Global, json: bool, problems: &Problems) -> Result<LongText, A
     }
 }
 
-// The problems without the keys of the missing texts: a report shows their names instead, and so
-// doesn't keep both.
-fn without_keys(alloc: Global, problems: Problems) -> Problems
-    ensures { result ≡ record problems { missing = [] } }
+// Lets the keys of the missing texts go: a report shows their names instead, and so doesn't keep
+// both.
+fn let_keys_go(alloc: Global, problems: &mut Problems)
+    ensures { problems.new ≡ record problems.old { missing = [] } }
 {
-    let mut problems = problems;
     problems.missing = TextList::new(alloc);
-    problems
 }
 
 /// The report on a tree, as lines or as a JSON object. The only error is lack of memory.
@@ -54,11 +52,11 @@ fn without_keys(alloc: Global, problems: Problems) -> Problems
 pub fn report_on(alloc: Global, files: Vec<SourceFile>, json: bool) -> Result<Report, AllocError>
     ensures { (r : Reader) → IsRightReader r → IfOk result (IsReport r files.items json) }
 {
-    let problems = problems_of(alloc, files)?;
+    let mut problems = problems_of(alloc, files)?;
     let number = number_of(&problems)?;
-    let shown = without_keys(alloc, problems);
+    let_keys_go(alloc, &mut problems);
     Ok(Report {
-        text: text_of(alloc, json, &shown)?,
+        text: text_of(alloc, json, &problems)?,
         is_clean: number == 0,
     })
 }

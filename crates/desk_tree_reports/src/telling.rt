@@ -9,7 +9,7 @@ ghost use Rattle.desk_tree_reports.specs.Items.{row_json};
 ghost use Rattle.desk_tree_reports.specs.Lines.{row_line, line_if};
 ghost use Rattle.desk_tree_problems.specs.Rows.{AreFlawRows, blank_row, missing_row, unused_row, bare_row, AreRows};
 ghost use Rattle.desk_tree_reports.specs.Pieces.{share_text};
-ghost use Rattle.desk_tree_reports.specs.Telling.{row_text, AddsRows};
+ghost use Rattle.desk_tree_reports.specs.Telling.{row_text, rows_text, AddsRows};
 ghost use Rattle.desk_tree_reports.specs.Ways.{rendered};
 
 use crate::items::{escaped, row_front};
@@ -263,8 +263,8 @@ fn add_bare(
     Ok(())
 }
 
-/// Adds a row for each problem.
-pub(crate) fn add_problems(
+// Adds a row for each problem.
+fn add_problems(
     alloc: Global,
     telling: &mut Telling,
     form: Form,
@@ -282,6 +282,21 @@ pub(crate) fn add_problems(
     add_bare(alloc, telling, form, problems.bare.as_slice())
 }
 
+/// A text with what is written of problems behind it.
+pub(crate) fn with_problems(
+    alloc: Global,
+    text: LongText,
+    form: Form,
+    problems: &Problems,
+) -> Result<LongText, AllocError>
+    ensures { IfOk result (λ told. (rows : List Row) × AreRows problems.now rows
+        × (told ≡ text ++ rows_text form false rows)) }
+{
+    let mut telling = Telling::behind(text);
+    add_problems(alloc, &mut telling, form, problems)?;
+    Ok(telling.text)
+}
+
 /// The lines of problems, or those of one kind.
 pub(crate) fn problem_lines(
     alloc: Global,
@@ -291,7 +306,5 @@ pub(crate) fn problem_lines(
     ensures { IfOk result (λ text. (rows : List Row) × AreRows problems.now rows
         × (text ≡ flat_map (line_if only) rows)) }
 {
-    let mut telling = Telling::behind(LongText::new(alloc));
-    add_problems(alloc, &mut telling, Form::Lines(only), problems)?;
-    Ok(telling.text)
+    with_problems(alloc, LongText::new(alloc), Form::Lines(only), problems)
 }

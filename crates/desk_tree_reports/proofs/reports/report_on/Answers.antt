@@ -9,7 +9,7 @@ use Rattle.desk_tree_reports.proofs.reports.report_on.Goals as goal
 pub returns : goal.returns
 returns c = λ r right.
     let p = c.in_ok-problems.problems in
-    let is = c.without_keys-shown.ensures in
+    let is = c.let_keys_go.ensures in
     let text = c.in_ok-text_of.ensures in
     let are : AreRows p text.0 = subst (λ (shown : Problems). AreRows shown text.0) is text.1 in
     record {

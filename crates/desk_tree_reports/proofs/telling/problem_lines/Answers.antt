@@ -1,12 +1,18 @@
-use Rattle.std.proofs.Common.{◌∙◌, [], false}
+use Rattle.std.proofs.Common.{◌∙◌, ◌++◌, ap, false}
+use Rattle.std.proofs.lemmas.Result.{IfOk-weaker}
 use Rattle.desk_tree_reports.specs.declared.telling.Form.TheVariants.{Lines}
-use Rattle.desk_tree_reports.proofs.TellingLemmas.{begun, lines_are}
+use Rattle.desk_tree_reports.specs.Telling.{rows_text}
+use Rattle.desk_tree_reports.proofs.TellingLemmas.{lines_are}
 use Rattle.desk_tree_reports.proofs.telling.problem_lines.Goals as goal
 
 pub returns : goal.returns
 returns c =
-    let form = Lines c.args.only in
-    let added = c.in_ok-add_problems.ensures in
-    let start = begun form [] c.behind-telling.result
-    (c.behind-telling.ensures.text ∙ c.new.ensures) c.behind-telling.ensures.later in
-    (added.0, added.1, (added.2 [] [] start).text ∙ lines_are c.args.only false added.0)
+    IfOk-weaker c.with_problems.result _ _
+    (λ text told. (
+      told.0,
+      told.1,
+      told.2
+          ∙ ap (λ l. l ++ rows_text (Lines c.args.only) false told.0) c.new.ensures
+          ∙ lines_are c.args.only false told.0,
+    ))
+    c.with_problems.ensures
