@@ -1,23 +1,14 @@
 -- Lists of rows made of lists of keys.
 use Rattle.std.proofs.Common.{◌≡◌, ℕ, ◌+◌, Bool, true, false, cond, List, [], ◌∷◌, ◌++◌, length}
-use Rattle.std.proofs.Common.{map, Some, None, sym, refl, ap, ◌∙◌, arith, inl, inr}
+use Rattle.std.proofs.Common.{map, Some, None, refl, ap, ◌∙◌, arith, inl, inr}
 use Rattle.std.specs.Prelude.{if◌then◌else◌, find, ◌||◌, filter}
 use Rattle.std.specs.List.{list_any}
 use Rattle.std.specs.Option.{option_map}
 use Rattle.std.specs.Str.{bytes_eq}
-use Rattle.std.proofs.lemmas.Slice.Eq.{bytes_eq-Decides}
 use Rattle.desk_model.specs.Lists.{put, put_all, in_order, updated}
 use Rattle.desk_model.proofs.Lists.{length-put}
 use Rattle.desk_base.proofs.Bools.{or_left, or_right}
-use Rattle.desk_base.proofs.Texts.{text_tells, texts_equal}
-
-texts_turned_by : (a b : List ℕ) (r s : Bool) → bytes_eq a b ≡ r → bytes_eq b a ≡ s → r ≡ s
-texts_turned_by a b true true e f = refl
-texts_turned_by a b false false e f = refl
-texts_turned_by a b true false e f = let back : bytes_eq b a ≡ true =
-    (bytes_eq-Decides b a).1 (sym (texts_equal a b e)) in cc
-texts_turned_by a b false true e f = let back : bytes_eq a b ≡ true =
-    (bytes_eq-Decides a b).1 (sym (texts_equal b a f)) in cc
+use Rattle.desk_base.proofs.Texts.{text_tells}
 
 -- a key in its place, and its row in its place
 pub map-put : {A B : Type 0} (below : A → A → Bool) (below' : B → B → Bool) (f : A → B)

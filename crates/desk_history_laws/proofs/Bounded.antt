@@ -1,8 +1,7 @@
 -- The rows of a recorded history are within the limits.
 use Rattle.std.proofs.Common.{◌≡◌, ℕ, ◌+◌, ◌≤◌, true, List, [], ◌∷◌, ◌++◌, length, map, Option}
-use Rattle.std.proofs.Common.{Some, None, sym, refl, ap, subst, arith, inl, inr}
+use Rattle.std.proofs.Common.{Some, None, sym, ap, subst, arith, inl, inr}
 use Rattle.std.specs.Prelude.{IfSome, IsTrue, not, ◌&&◌}
-use Rattle.std.specs.List.{enumerate_from}
 use Rattle.std.specs.Option.{option_map_or}
 use Rattle.std.specs.Str.{bytes_eq}
 use Rattle.std.proofs.lemmas.List.{length-map}
@@ -102,10 +101,6 @@ owed_documents raised w h d m =
     )
 
 -- ---- duties
-
-length-numbered : (n : ℕ) (xs : List Owed) → length (enumerate_from n xs) ≡ length xs
-length-numbered n [] = refl
-length-numbered n (x ∷ xs) = omega (arith, length-numbered (n + 1) xs)
 
 few_duties : (w : Readings) (h : List Command) → AreNumbered (snapshot_of (tables w h))
     → length (duties w h) ≤ most.duties

@@ -1,6 +1,6 @@
 -- Rows name what exists, and there is no more of it than may be.
 use Rattle.std.proofs.Common.{◌≡◌, ℕ, ◌+◌, ◌≤◌, ◌<◌, Bool, true, List, [], ◌∷◌, ◌++◌, length}
-use Rattle.std.proofs.Common.{map, Option, Some, None, ap, subst, arith, inl}
+use Rattle.std.proofs.Common.{Option, Some, None, subst, arith, inl}
 use Rattle.std.proofs.Common.{inr}
 use Rattle.std.proofs.lemmas.List.{length_push}
 use Rattle.std.specs.Prelude.{IsTrue, is_some, Result, Ok, Err, find, nat_lt, not, ◌||◌, ◌==◌}
@@ -9,7 +9,6 @@ use Rattle.std.specs.Option.{option_and_then, option_map}
 use Rattle.std.specs.Result.{result_err}
 use Rattle.std.specs.Str.{bytes_eq}
 use Rattle.desk_base.specs.Limits as most
-use Rattle.desk_base.specs.declared.profile.Profile.{Profile}
 use Rattle.desk_base.proofs.Bools.{and_right}
 use Rattle.desk_base.proofs.Numbers.{numbers_equal}
 use Rattle.desk_model.specs.Lists.{IsIn}
@@ -38,10 +37,8 @@ use Rattle.desk_model.specs.declared.row.AttachedRow.{AttachedRow}
 use Rattle.desk_model.specs.declared.row.ConclusionRow.{ConclusionRow}
 use Rattle.desk_model.specs.declared.row.DocumentRow.{DocumentRow}
 use Rattle.desk_model.proofs.Lists.{one_passes, from_put}
-use Rattle.desk_history.proofs.Members.{from_map, in_cases}
 use Rattle.desk_history.proofs.Recorded.{is_so, past}
 use Rattle.desk_history.proofs.Moving.{less_by}
-use Rattle.desk_history.proofs.Listed.{next_revision}
 use Rattle.desk_history_laws.proofs.Concluded.{from_replaced}
 use Rattle.desk_history_laws.proofs.Distinct.{is_new, row_of}
 use Rattle.desk_history_laws.proofs.Bills.{documents_grow, document_within}
@@ -116,33 +113,6 @@ few_opened w (c ∷ h) ok = few_opened w h ok.1
 
 -- ---- what is loaded and imported
 
--- rows that were added together with what they name
-behind : {A : Type 0} (number : A → ℕ) (n m : ℕ) (old new : List A) → n ≤ m
-    → ((x : A) → IsIn x old → number x ≤ n) → ((x : A) → IsIn x new → number x ≤ m) → (x : A)
-    → IsIn x (old ++ new) → number x ≤ m
-behind number n m old new le was is x m' = elim (in_cases x old new m')
-    [ inl l ↦ omega (arith, was x l) | inr r ↦ is x r ]
-
-next_document : (w : Readings) (h : List Command) (bytes : List ℕ) (profile : Profile)
-    → length (documents w (Import bytes profile ∷ h)) ≡ length (documents w h) + 1
-next_document w h bytes profile = length_push (documents w h) (row_of w h bytes profile)
-
--- the parts of one more document have its number
-parts_within : (w : Readings) (h : List Command) (bytes : List ℕ)
-    (profile : Profile) {Row Part : Type 0} (number : Row → ℕ)
-    (of : Part → Row) → ((x : Part) → number (of x) ≡ length (documents w h) + 1)
-    → (old : List Row) (new : List Part)
-    → ((row : Row) → IsIn row old → number row ≤ length (documents w h)) → (row : Row)
-    → IsIn row (old ++ map of new)
-    → number row ≤ length (documents w (Import bytes profile ∷ h))
-parts_within w h bytes profile number of numbered old new so_far =
-    behind number (length (documents w h)) (length (documents w (Import bytes profile ∷ h))) old
-    (map of new)
-    (omega (arith, next_document w h bytes profile)) so_far
-    (λ x here.
-    let at = from_map of x new here in
-    omega (arith, next_document w h bytes profile, ap number at.2, numbered at.0))
-
 -- ---- what later commands leave
 
 pub later_documents : (w : Readings) (later h : List Command)
@@ -150,11 +120,6 @@ pub later_documents : (w : Readings) (later h : List Command)
 later_documents w [] h = omega arith
 later_documents w (c ∷ later) h = omega
     (arith, later_documents w later h, documents_grow w c (later ++ h))
-
-more_revisions : (c : Command) (h : List Command)
-    → length (revisions h) ≤ length (revisions (c ∷ h))
-more_revisions (LoadCatalogue text) h = omega (arith, next_revision h text)
-more_revisions c h = omega arith
 
 -- ---- documents that commands name
 

@@ -1,6 +1,6 @@
 -- What is in a list, and what is found in it.
 use Rattle.std.proofs.Common.{◌≡◌, ℕ, ◌+◌, ◌<◌, ◌≤◌, Bool, true, false, cond, List, [], ◌∷◌}
-use Rattle.std.proofs.Common.{length, Some, refl, ap, subst, arith, inl, inr}
+use Rattle.std.proofs.Common.{length, Some, refl, ap, arith, inl, inr}
 use Rattle.std.specs.Prelude.{◌&&◌, ◌==◌, filter, find, pos}
 use Rattle.std.specs.List.{enumerate_from, AllByRecursion}
 use Rattle.std.specs.Ordering.{int_eq}
@@ -14,13 +14,6 @@ pub each_in : {A : Type 0} (P : A → Type 0) (xs : List A) → ((x : A) → IsI
     → AllByRecursion P xs
 each_in P [] each = tt
 each_in P (x ∷ xs) each = (each x (inl refl), each_in P xs (λ y m. each y (inr m)))
-
-by_head : {A : Type 0} (test : A → Bool) (x y : A) (ys : List A) → (b : Bool) → test y ≡ b
-    → (find test ys ≡ Some x → IsIn x ys × (test x ≡ true))
-    → cond b (Some y) (find test ys) ≡ Some x → IsIn x (y ∷ ys) × (test x ≡ true)
-by_head test x y ys true is rest e = let same : y ≡ x = cc in
-    (inl same, subst (λ z. test z ≡ true) same is)
-by_head test x y ys false is rest e = let at = rest e in (inr at.0, at.1)
 
 -- what is filtered
 

@@ -6,7 +6,6 @@ use Rattle.std.specs.Prelude.{IsTrue, is_some, find, not, nat_lt, nat_le, ◌&&�
 use Rattle.std.specs.List.{enumerate_from}
 use Rattle.std.specs.Option.{option_map, option_map_or, option_and_then}
 use Rattle.std.specs.Str.{bytes_eq}
-use Rattle.std.proofs.lemmas.Bool.Decides.{nat_tests}
 use Rattle.desk_base.specs.Day.{is_day}
 use Rattle.desk_base.proofs.Bools.{and_left, and_right}
 use Rattle.desk_base.proofs.Numbers.{numbers_equal}
@@ -65,18 +64,6 @@ standing w h r day text e =
     not_gone (state_of h r) (form_of h r) (is_so (is_some found) why.UnknownRelease three.0) four.0
 
 -- A duty that is not raised yet has no moves
-
-none_at : (q n : ℕ) (xs : List Owed) → n + length xs ≤ q
-    → find (λ (d : ℕ × Owed). d.0 == q) (enumerate_from n xs) ≡ None
-none_at q n [] le = refl
-none_at q n (x ∷ xs) le =
-    let other : (n == q) ≡ false = grind (arith, nat_tests) in
-    rw other (none_at q (n + 1) xs (omega arith))
-
-unmoved_by : (b : Bool) (m : Move) (ms : List Move) → ms ≡ [] → b ≡ false
-    → with_move (move_if b m) ms ≡ []
-unmoved_by true m ms none e = cc
-unmoved_by false m ms none e = none
 
 abbrev move : Word → List ℕ → List ℕ → Option (List ℕ) → Move
 move word day text until = record { day = day; word = word; body = text; last_day = until }

@@ -2,7 +2,6 @@
 use Rattle.std.proofs.Common.{◌≡◌, ℕ, ◌^◌, ◌<◌, ◌≤◌, Bool, true, false, List, [], ◌∷◌, length, map}
 use Rattle.std.proofs.Common.{filter, Option, Some, None, refl, subst, arith, inl, inr}
 use Rattle.std.specs.Prelude.{All, codes, IfSome, IsTrue, IsUtf8, ◌==◌, if◌then◌else◌, nat_lt}
-use Rattle.std.specs.Char.{is_ascii_digit}
 use Rattle.std.specs.List.{AllByRecursion, list_all}
 use Rattle.std.proofs.lemmas.Str.{IsUtf8-from_ascii}
 use Rattle.std.proofs.lemmas.Str.Ascii.{IsAscii-from_all}
@@ -78,9 +77,6 @@ ascii (b ∷ bs) e =
 
 plain : (bs : List ℕ) → list_all (λ b. nat_lt b 128) bs ≡ true → IsUtf8 bs
 plain bs e = IsUtf8-from_ascii bs (IsAscii-from_all bs (ascii bs e))
-
-digit : (b : ℕ) → is_ascii_digit b ≡ true → nat_lt b 128 ≡ true
-digit b e = grind (arith, nat_tests)
 
 day_short : (day : List ℕ) → IsTrue (is_day day) → IsShort day
 day_short [] is = absurd (omega (arith, ten_bytes [] is))

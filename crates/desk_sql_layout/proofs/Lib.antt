@@ -20,7 +20,6 @@ pub mod Finding
 pub mod Calls
 pub mod Clean
 pub mod Causes
-pub mod HolderLemmas
 pub mod Chains
 pub mod Streaming
 pub mod Loops

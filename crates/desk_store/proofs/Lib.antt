@@ -1,7 +1,6 @@
 mod RepeatedLemmas
 mod Counted
 mod Bodies
-mod Audited
 mod Vetted
 mod Migrated
 mod FoundRows

@@ -1,4 +1,3 @@
-mod Faults
 mod Terms
 mod Costs
 pub mod Orders

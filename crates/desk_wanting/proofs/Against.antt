@@ -2,7 +2,7 @@
 use Rattle.std.proofs.Common.{◌≡◌, ◌∙◌, ℕ, Bool, true, false, List, [], ◌∷◌, ◌++◌, length, Option}
 use Rattle.std.proofs.Common.{Some, None, sym, refl, ap, subst, inl, inr, arith}
 use Rattle.std.specs.Prelude.{◌⊎◌, ◌==◌, ◌||◌, nat_lt, is_some}
-use Rattle.std.specs.List.{cons_option, filter_map, flat_map, list_any}
+use Rattle.std.specs.List.{cons_option, filter_map, flat_map}
 use Rattle.std.specs.Option.{option_and_then}
 use Rattle.std.specs.Str.{bytes_eq}
 use Rattle.std.proofs.lemmas.Bool.Decides.{nat_tests}
@@ -48,13 +48,6 @@ in_filter_map f x z (y ∷ xs) m e =
     (elim m [ inl same ↦ inl (ap f same ∙ e) | inr later ↦ inr (in_filter_map f x z xs later e) ])
 
 -- Listed once
-
-passes_here : {A : Type 0} (test : A → Bool) (x : A) (xs : List A) (b : Bool) → test x ≡ b
-    → (b || list_any test xs) ≡ true
-    → (list_any test xs ≡ true → (y : A) × IsIn y xs × (test y ≡ true))
-    → (y : A) × IsIn y (x ∷ xs) × (test y ≡ true)
-passes_here test x xs true is e later = (x, inl refl, is)
-passes_here test x xs false is e later = (let w = later e in (w.0, inr w.1, w.2))
 
 pub named : (d : ℕ) (reference : List ℕ) (x : Refusal) → names_reference d reference x ≡ true
     → x ≡ why.NotAdopted d reference

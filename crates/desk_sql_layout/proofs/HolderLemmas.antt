@@ -1,1 +1,0 @@
--- Rows that all pass.

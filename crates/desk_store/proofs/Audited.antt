@@ -1,1 +1,0 @@
--- What an audit reports on rows that meet all conditions.

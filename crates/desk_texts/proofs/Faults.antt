@@ -1,1 +1,0 @@
--- A fault that is not for lack of memory.
