@@ -33,10 +33,6 @@ use Rattle.desk_expr.specs.Printing.{printed_word}
 unequal : (w v : List ℕ) → (w ≡ v → ⊥) → bytes_eq w v ≡ false
 unequal w v h = false_from_ne_true (bytes_eq w v) (λ is. h ((bytes_eq-Decides w v).0 is))
 
--- the first byte
-first_is : List ℕ → ℕ → Type 0
-first_is w b = (bs : List ℕ) × (w ≡ b ∷ bs)
-
 -- a kind from the tests
 kind_from : (w : List ℕ) (k : Kind) → bytes_eq w (codes "(") ≡ false
     → bytes_eq w (codes ")") ≡ false → bytes_eq w (codes "AND") ≡ false
@@ -70,20 +66,9 @@ head_test b bs h = (and_parts (is_idstring_byte b) (list_all is_idstring_byte bs
 head_fold : (b : ℕ) (bs : List ℕ) → folded (b ∷ bs) ≡ b ∷ bs → to_ascii_lowercase b ≡ b
 head_fold b bs h = cc
 
-no_id_byte : (b : ℕ) (bs : List ℕ) (w : List ℕ) → w ≡ b ∷ bs → list_all is_idstring_byte w ≡ true
-    → is_idstring_byte b ≡ false → ⊥
-no_id_byte b bs w is h none =
-    let head : is_idstring_byte b ≡ true =
-    head_test b bs (subst (λ l. list_all is_idstring_byte l ≡ true) is h) in cc
-
 no_capital : (b : ℕ) (bs : List ℕ) (w : List ℕ) → w ≡ b ∷ bs → folded w ≡ w
     → to_ascii_lowercase b ≡ b
 no_capital b bs w is h = head_fold b bs (subst (λ l. folded l ≡ l) is h)
-
--- a text whose first byte is another one than that of a name is not that name
-begins_other : (w v : List ℕ) (c : ℕ) (cs : List ℕ) → v ≡ c ∷ cs
-    → (first : (b : ℕ) (bs : List ℕ) → w ≡ b ∷ bs → b ≡ c → ⊥) → w ≡ v → ⊥
-begins_other w v c cs v_is first is = first c cs (is ∙ v_is) refl
 
 prefix_first : (w needle : List ℕ) (c : ℕ) (cs : List ℕ) → needle ≡ c ∷ cs
     → starts_with nat_eq w needle ≡ true → (bs : List ℕ) × (w ≡ c ∷ bs)

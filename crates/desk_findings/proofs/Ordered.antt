@@ -20,12 +20,6 @@ reverse_lt Less = refl
 reverse_lt Equal = refl
 reverse_lt Greater = refl
 
--- neither is after the other
-tied : (r : Ordering) → is_gt r ≡ false → is_gt (ordering_reverse r) ≡ false → r ≡ Equal
-tied Less h k = cc
-tied Equal h k = refl
-tied Greater h k = cc
-
 module _ {X : Type 0} (R : X → X → Ordering) (total : IsTotalOrder R) where
   abbrev UpTo : X → X → Type 0
   UpTo x y = is_gt (R x y) ≡ false

@@ -12,10 +12,10 @@ use Rattle.std.proofs.lemmas.List.Elements.{filter-append}
 use Rattle.std.proofs.lemmas.Bool.Decides.{nat_tests}
 use Rattle.desk_model.specs.Texts.{text_below}
 use Rattle.desk_model.specs.Readings.{Readings}
-use Rattle.desk_model.specs.Keys.{is_release, is_rule_of, is_choice_of}
+use Rattle.desk_model.specs.Keys.{is_release, is_rule_of}
 use Rattle.desk_model.specs.History.{revisions, in_force, rules_in, rule_row, rule_rows, opened}
-use Rattle.desk_model.specs.History.{names, form_of, state_of, is_package_of}
-use Rattle.desk_model.specs.Tables.{tables, release_row, choice_row}
+use Rattle.desk_model.specs.History.{names, form_of, state_of}
+use Rattle.desk_model.specs.Tables.{tables, release_row}
 use Rattle.desk_model.specs.Answers.{release_state}
 use Rattle.desk_history.specs.FromTables.{release_found, state_found, form_found, rules_found, rule_of}
 use Rattle.desk_history.proofs.Rows.{find-map, find_text, list_any-in_order, length-in_order}
@@ -143,13 +143,3 @@ rules-found w (LoadCatalogue text ∷ h) = rules_loaded w h text
 rules-found w (_ ∷ h) = rules-found w h
 
 -- Choices
-
--- the rows of one package among the rows of one package
-own_rows : (r p r' p' : List ℕ) (d d' : ℕ) (b : Bool) → is_package_of r d p r' d' p' ≡ b
-    → (terms : List (List ℕ)) → map (λ row. row.term)
-    (filter (is_choice_of r d p) (map (choice_row r' d' p') terms)) ≡ (if b then terms else [])
-own_rows r p r' p' d d' true e [] = refl
-own_rows r p r' p' d d' false e [] = refl
-own_rows r p r' p' d d' true e (t ∷ ts) = rw e
-    (ap (λ xs. t ∷ xs) (own_rows r p r' p' d d' true e ts))
-own_rows r p r' p' d d' false e (t ∷ ts) = rw e (own_rows r p r' p' d d' false e ts)

@@ -84,14 +84,6 @@ found_among p q h xs ys e =
 
 -- the first that passes, after one is put in
 
-find-push : {A : Type 0} (t : A → Bool) (xs : List A) (x : A)
-    → find t (xs ++ x ∷ []) ≡ or_else (find t xs) (cond (t x) (Some x) None)
-find-push t [] x = refl
-find-push t (y ∷ ys) x =
-    elim (t y) as (λ b. cond b (Some y) (find t (ys ++ x ∷ []))
-    ≡ or_else (cond b (Some y) (find t ys)) (cond (t x) (Some x) None))
-    [ true ↦ refl | false ↦ find-push t ys x ]
-
 find_none : {A : Type 0} (below : A → A → Bool) → IsOrder below → (t : A → Bool)
     → ((x y : A) → t x ≡ true → t y ≡ true → below x y ≡ false) → (e y : A) (zs : List A)
     → t e ≡ true → below e y ≡ true → over below y zs ≡ true → find t zs ≡ None

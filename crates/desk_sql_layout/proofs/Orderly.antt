@@ -121,9 +121,6 @@ from_put_all z (x ∷ xs) ys there = elim (from_put change_below z x (put_all ch
       | inr m ↦ elim (from_put_all z xs ys m) [ inl a ↦ inl (inr a) | inr b ↦ inr b ]
     ]
 
-within : ℕ → ChangeRow → Bool
-within n row = nat_le row.duty n
-
 module _ (t : Tables) (o : AreOrderly t) where
   stands : (q : ℕ) → is_some (duty_found t q) ≡ true → q ≤ length t.duty
   stands q some = let low = at_most 1 q (map (λ (row : DutyRow). row.number) t.duty) o.duties

@@ -7,7 +7,7 @@ use Rattle.desk_base.specs.declared.lines.LineEnd.TheVariants.{Lf}
 use Rattle.desk_fields.specs.declared.tag.Tag.{Tag}
 use Rattle.desk_fields.specs.Tags.{tag_name}
 use Rattle.desk_fields.specs.Pieces.{bare}
-use Rattle.desk_fields.specs.Cutting.{Reads, done, more, FieldText, with_front, behind_mark}
+use Rattle.desk_fields.specs.Cutting.{Reads, done, more, FieldText, behind_mark}
 use Rattle.desk_tagvalue.specs.declared.drafts.Draft.{Draft}
 use Rattle.desk_tagvalue.specs.Drafts.{LineText, blank, one_line, in_text, spelled, text_of_lines, draft_lines}
 use Rattle.desk_tagvalue.specs.Written.{Stands, Adds, field_at, feeds, onto_line, fields_of_lines}
@@ -20,12 +20,6 @@ field_again tag value s n some h =
     let at : 1 + (n - 1) ≡ n = omega arith in
     subst (λ k. Reads k s (Ok (field_at k tag value ∷ []))) at
     (reads_shift 1 (n - 1) s (Ok (field_at 1 tag value ∷ [])) h (field_at 1 tag value ∷ []) refl)
-
-onto_front : (n : ℕ) (l : LineText) (fs : List FieldText)
-    → with_front (onto_line n l []) (Ok fs) ≡ Ok (onto_line n l fs)
-onto_front n blank fs = refl
-onto_front n (one_line tag value) fs = refl
-onto_front n (in_text tag value) fs = refl
 
 one_line_lf : (tag : Tag) (value : List ℕ) → EndsLf (spelled (one_line tag value))
 one_line_lf tag value = inr (tag_name tag ++ (codes ": " ++ value), simp append_assoc refl)

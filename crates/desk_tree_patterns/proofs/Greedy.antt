@@ -60,10 +60,6 @@ later_later w t u v h a b =
 later_any : (w : Piece) (t u : List ℕ) → Later w t u → Later InPath t u
 later_any w t u a = record { stretch = a.stretch; cut = a.cut; covers = tt }
 
-matches : (w : Piece) (ps : List Piece) (t u : List ℕ) → Later w t u → IsMatch ps u
-    → IsMatch (w ∷ ps) t
-matches w ps t u a h = (a.stretch, u, a.cut, a.covers, h)
-
 -- a place later in the text at which the pieces match
 pub record Reached (w : Piece) (s : Spot) : Type 0 where
   pub rest : List ℕ
