@@ -12,11 +12,13 @@ use Rattle.desk_tree_annotations.specs.declared.fault.AnnotationsFault.TheVarian
 use Rattle.desk_tree_annotations.specs.Reading.{annotations_of, entries}
 use Rattle.desk_tree_annotations.specs.Sifting.{good_annotations, annotation_faults, Agrees as AgreesWithin}
 use Rattle.desk_tree_annotations.proofs.SiftLemmas.{agrees_in}
+use Rattle.desk_tree_gather.specs.declared.fault.GatherFault.{GatherFault}
 use Rattle.desk_tree_gather.specs.declared.fault.GatherFault.TheVariants as first
 use Rattle.desk_tree_gather.specs.declared.files.SourceFile.{SourceFile}
 use Rattle.desk_tree_gather.specs.declared.flaw.Flaw.{Flaw}
 use Rattle.desk_tree_gather.specs.declared.flaw.Flaw.TheVariants.{TooManyFiles, BadPath, TwicePath}
 use Rattle.desk_tree_gather.specs.declared.flaw.Flaw.TheVariants.{BadToml, BadExpression}
+use Rattle.desk_tree_infos.specs.declared.infos.FileInfo.{FileInfo}
 use Rattle.desk_tree_infos.specs.Readers.{Reader, Stated}
 use Rattle.desk_tree_gather.specs.Paths.{is_path, is_toml, is_covered, folder_of}
 use Rattle.desk_tree_gather.specs.Trees.{Read, each, put_file, bytes_at, placed, tree_of}
@@ -27,7 +29,8 @@ use Rattle.desk_tree_gather.specs.Gathering.{holder, bad_line, unless_bad, state
 use Rattle.desk_tree_gather.specs.Gathering.{info_of, infos_of, gathered}
 use Rattle.desk_tree_gather.specs.Survey.{unless_flawed, sifted, path_flaws, flaw_of, toml_flaws}
 use Rattle.desk_tree_gather.specs.Survey.{toml_sifted, tag_flaws, stated_flaws, kept, tree_flaws}
-use Rattle.desk_tree_gather.specs.Survey.{flaws_of, info_sifted, infos_sifted, gather_fault, Agrees}
+use Rattle.desk_tree_gather.specs.Survey.{flaws_of, info_sifted, infos_sifted, gather_fault}
+use Rattle.desk_tree_gather.specs.Survey.{first_fault, Agrees}
 use Rattle.desk_base.specs.Results.{then_read, followed}
 
 -- ---- one after another
@@ -192,3 +195,32 @@ kept_is_at files tree false is = read_is (placed [] files) (path_flaws [] files)
 
 pub kept_is : (files tree : List SourceFile) → tree_of files ≡ Ok tree → kept files ≡ tree
 kept_is files tree is = kept_is_at files tree (nat_lt 10000 (length files)) is
+
+-- ---- what is gathered, by the first flaw
+
+pub agrees_found : {A : Type 0} (m : Read A) (flaws : List Flaw) (y : A) → Agrees m flaws y
+    → first_fault flaws ≡ None → m ≡ Ok y
+agrees_found (Ok x) flaws y h none = ap Ok (sym h.1)
+agrees_found (Err fault) flaws y h none =
+    let some : first_fault flaws ≡ Some (gather_fault h.0) = ap first_fault h.2 in absurd cc
+
+pub agrees_fails : {A : Type 0} (m : Read A) (flaws : List Flaw) (y : A) (fault : GatherFault)
+    → Agrees m flaws y → first_fault flaws ≡ Some fault → m ≡ Err fault
+agrees_fails (Ok x) flaws y fault h is =
+    let none : first_fault flaws ≡ None = ap first_fault h.0 in absurd cc
+agrees_fails (Err other) flaws y fault h is =
+    let some : first_fault flaws ≡ Some (gather_fault h.0) = ap first_fault h.2 in
+    let same : gather_fault h.0 ≡ fault = cc in
+    ap Err (sym h.3 ∙ same)
+
+tree_found_at : (r : Reader) (files : List SourceFile) (infos : List FileInfo)
+    (tree : Read (List SourceFile)) → tree_of files ≡ tree
+    → then_read tree (λ t. then_read (tomls_of r t) (infos_of r t)) ≡ Ok infos
+    → tree_of files ≡ Ok (kept files)
+tree_found_at r files infos (Ok tree) is found = is ∙ ap Ok (sym (kept_is files tree is))
+tree_found_at r files infos (Err fault) is found = absurd cc
+
+-- what is gathered from is the tree
+pub tree_found : (r : Reader) (files : List SourceFile) (infos : List FileInfo)
+    → gathered r files ≡ Ok infos → tree_of files ≡ Ok (kept files)
+tree_found r files infos found = tree_found_at r files infos (tree_of files) refl found

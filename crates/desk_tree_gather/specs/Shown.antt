@@ -9,7 +9,7 @@ use Rattle.desk_tree_infos.specs.Readers.{Stated}
 use Rattle.desk_tree_gather.specs.declared.fault.GatherFault.{GatherFault}
 use Rattle.desk_tree_gather.specs.declared.files.File.{File}
 use Rattle.desk_tree_gather.specs.declared.files.SourceFile.{SourceFile}
-use Rattle.desk_tree_gather.specs.declared.gathering.Held.{Held}
+use Rattle.desk_tree_gather.specs.declared.holding.Held.{Held}
 use Rattle.desk_tree_gather.specs.Trees.{Read}
 
 -- a result is what is read, as it is shown

@@ -116,6 +116,10 @@ gather_fault (BadToml path) = first.BadToml path
 gather_fault (BadAnnotation path index kind) = first.BadAnnotation path index kind
 gather_fault (BadExpression path line text) = first.BadExpression path line
 
+abbrev pub first_fault : List Flaw → Option GatherFault
+first_fault [] = None
+first_fault (flaw ∷ more) = Some (gather_fault flaw)
+
 -- what is read up to the first fault, compared with all flaws and what is read despite them
 abbrev pub Agrees : {A : Type 0} → Read A → List Flaw → A → Type 0
 Agrees (Ok x) flaws y = (flaws ≡ []) × (y ≡ x)

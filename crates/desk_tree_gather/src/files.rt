@@ -1,13 +1,12 @@
 //! The files of a tree.
 
-ghost use Rattle.std.specs.Prelude.{◌≡◌, [], IfOk, option_map};
+ghost use Rattle.std.specs.Prelude.{◌≡◌, IfOk, option_map};
 ghost use Rattle.desk_tree_gather.specs.Paths.{is_toml, is_covered};
-ghost use Rattle.desk_tree_gather.specs.Trees.{bytes_at, placed, tree_of};
-ghost use Rattle.desk_tree_gather.specs.Shown.{Gives, file_of, files_of, tree_in};
+ghost use Rattle.desk_tree_gather.specs.Trees.{bytes_at};
+ghost use Rattle.desk_tree_gather.specs.Shown.{file_of, files_of, tree_in};
 
-use crate::fault::GatherFault;
-use crate::paths::{is_left_out, is_path, name_of};
-use desk_base::{Items, Text, limits};
+use crate::paths::{is_left_out, name_of};
+use desk_base::{Items, Text};
 use std::alloc::{AllocError, Global};
 use std::collections::BTreeMap;
 
@@ -25,42 +24,6 @@ pub struct SourceFile {
 pub(crate) struct File<'a> {
     pub(crate) path: &'a str,
     pub(crate) bytes: &'a [u8],
-}
-
-// The files by path, or the first fault of their paths.
-fn placed<'a>(
-    alloc: Global,
-    files: &'a [SourceFile],
-) -> Result<Result<BTreeMap<&'a str, &'a [u8]>, GatherFault>, AllocError>
-    ensures { IfOk result (Gives (placed [] files.now) tree_in) }
-{
-    let mut tree = BTreeMap::new(alloc);
-    for file in files {
-        let path = file.path.as_str();
-        let told = is_path(alloc, path)?;
-        if !told {
-            return Ok(Err(GatherFault::BadPath));
-        }
-        let other = tree.insert(path, file.bytes.as_slice())?;
-        if other.is_some() {
-            return Ok(Err(GatherFault::TwicePath));
-        }
-    }
-    Ok(Ok(tree))
-}
-
-/// The bytes of files by path, or the first fault: more than 10,000 files, or the first path that
-/// can't be in a tree or is there already.
-pub fn tree_of<'a>(
-    alloc: Global,
-    files: &'a [SourceFile],
-) -> Result<Result<BTreeMap<&'a str, &'a [u8]>, GatherFault>, AllocError>
-    ensures { IfOk result (Gives (tree_of files.now) tree_in) }
-{
-    if files.len() > limits::TREE_FILES {
-        return Ok(Err(GatherFault::TooManyFiles));
-    }
-    placed(alloc, files)
 }
 
 /// The files in the order of their paths.

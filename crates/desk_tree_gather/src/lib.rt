@@ -9,8 +9,9 @@
 //! - The texts of a file are joined only when it is asked for (`ToldFiles::file`).
 //! - `survey` goes on after faults: it returns all that is wrong in a tree, and the information of
 //!   the files from what can be read (`specs/Survey.antt`), with the licences of REUSE.toml files
-//!   that no document can hold (`specs/Blanks.antt`). `gathered` stops at the first of these flaws
-//!   (`gathered_is_surveyed`).
+//!   that no document can hold (`specs/Blanks.antt`). What is gathered stops at the first of these
+//!   flaws (`gathered_is_surveyed`), so `gathered` and `gather` are a survey without flaws, or the
+//!   fault for the first one.
 //! - `told` takes the files by value: it returns what is gathered with the digest of each file
 //!   (`specs/Telling.antt`), and drops the bytes of each file once these are known.
 //! - The definitions are over a `Reader`: the pieces of patterns, the licence expressions, the
@@ -24,6 +25,7 @@ mod fault;
 mod files;
 mod flaw;
 mod gathering;
+mod holding;
 mod laws;
 mod paths;
 mod surveying;
@@ -33,7 +35,7 @@ mod tomls;
 pub use blanks::Blank;
 pub use desk_tree_infos::{FileInfo, First, Infos, Outline, Subject};
 pub use fault::GatherFault;
-pub use files::{SourceFile, bytes_at, tree_of};
+pub use files::{SourceFile, bytes_at};
 pub use flaw::Flaw;
 pub use gathering::{gather, gathered};
 pub use laws::{gathered_is_surveyed, one_reader};

@@ -12,18 +12,19 @@ ghost use Rattle.desk_tree_gather.specs.Blanks.{blanks_of, blanks_in};
 ghost use Rattle.desk_tree_gather.specs.Gathering.{holder};
 ghost use Rattle.desk_tree_gather.specs.Survey.{path_flaw, with_file, sifted, path_flaws, flaw_of, toml_flaws, toml_sifted, tag_flaws, stated_flaws, kept, tree_flaws, flaws_of, info_sifted, infos_sifted};
 ghost use Rattle.desk_tree_infos.specs.Sharing.{info_at, infos_at};
-ghost use Rattle.desk_tree_gather.specs.Shown.{file_of, files_of, tree_in, stated_of};
+ghost use Rattle.desk_tree_gather.specs.Shown.{file_of, files_of, held_in, tree_in, stated_of};
 
 use crate::blanks::{Blank, add_blanks};
 use crate::files::{File, SourceFile, bytes_at, files_of, is_covered, is_toml};
 use crate::flaw::Flaw;
-use crate::gathering::{Known, holder, info_with};
+use crate::gathering::info_with;
+use crate::holding::{Held, beside, holder_by};
 use crate::paths::{folder_of, is_path};
 use desk_base::{Items, Text, limits};
 use desk_tree_annotations::{
     Annotations, AnnotationsFault, Info, SharedText, Sifted, Tagged, header, is_expression_beside,
 };
-use desk_tree_infos::{Covered, Infos, Toml, Trail, by_folder, counting};
+use desk_tree_infos::{Covered, Folders, Infos, Toml, Trail, by_folder, counting};
 use std::alloc::{AllocError, Global};
 use std::collections::BTreeMap;
 
@@ -42,6 +43,13 @@ pub struct Surveyed<'a> {
     /// The information of the covered files by path, from the annotations that can be read. A tag
     /// that is no licence expression is there as it is written.
     pub infos: Infos,
+}
+
+// The files by path, and the annotations by folder.
+#[derive(Drop)]
+struct Known<'a> {
+    tree: BTreeMap<&'a str, &'a [u8]>,
+    folders: Folders,
 }
 
 // What is wrong with the path of a file that is added to others.
@@ -251,6 +259,20 @@ fn add_tags(
         known = add_tag(alloc, path, *tag, known, flaws)?;
     }
     Ok(())
+}
+
+// The file whose tags are a file's own information: the `.license` file beside it, or the file
+// itself.
+fn holder<'a>(
+    alloc: Global,
+    tree: &BTreeMap<&'a str, &'a [u8]>,
+    file: File<'a>,
+) -> Result<Held<'a>, AllocError>
+    ensures { IfOk result (λ h. held_in h ≡ holder (tree_in tree.now) (file_of file.entry)) }
+{
+    let beside = beside(alloc, file.path)?;
+    let path = beside.as_str();
+    holder_by(alloc, path, file, bytes_at(tree, path))
 }
 
 // A file's own information, whatever is wrong in it.

@@ -15,7 +15,8 @@ ghost use Rattle.desk_tree_gather.specs.Trees.{bytes_at, placed, tree_of};
 
 use crate::fault::GatherFault;
 use crate::files::{File, SourceFile, is_covered, is_toml};
-use crate::gathering::{Held, info_with, stated_in};
+use crate::gathering::{info_with, stated_in};
+use crate::holding::{Held, beside, holder_by};
 use crate::paths::is_path;
 use crate::tomls::tomls_of;
 use desk_base::{Items, Key, limits};
@@ -204,19 +205,9 @@ fn holder<'a>(
 ) -> Result<Held<'a>, AllocError>
     ensures { IfOk result (λ h. held_in h ≡ holder (left_in left.now) (file_of file.entry)) }
 {
-    let mut beside = String::from_str(alloc, file.path)?;
-    beside.push_str(".license")?;
+    let beside = beside(alloc, file.path)?;
     let path = Key::exact(alloc, beside.as_str())?;
-    match bytes_at(left, &path) {
-        Some(bytes) => Ok(Held {
-            path: beside,
-            bytes,
-        }),
-        None => Ok(Held {
-            path: String::from_str(alloc, file.path)?,
-            bytes: file.bytes,
-        }),
-    }
+    holder_by(alloc, beside.as_str(), file, bytes_at(left, &path))
 }
 
 // What is reported about a file, from itself and the files that are left, with the trail of the

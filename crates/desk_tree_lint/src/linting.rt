@@ -15,7 +15,7 @@ use crate::lists::{Lint, bare, missing, unused};
 use crate::ordering::ordered;
 use crate::texts::text_files;
 use crate::used::used;
-use desk_tree_gather::{First, GatherFault, Infos, SourceFile, Subject, gathered, tree_of};
+use desk_tree_gather::{First, GatherFault, Infos, SourceFile, Subject, Surveyed, gathered};
 use std::alloc::{AllocError, Global};
 use std::collections::BTreeMap;
 
@@ -47,15 +47,13 @@ fn linted(alloc: Global, files: &[SourceFile]) -> Result<Result<Lint, GatherFaul
     ensures err { (r : Reader) → IsRightReader r
         → IfOk result (λ x. IfErr x (λ f. gathered r files.now ≡ Err f)) }
 {
-    let infos = match gathered(alloc, files)? {
-        Ok(infos) => infos,
+    let Surveyed { tree, infos, .. } = match gathered(alloc, files)? {
+        Ok(surveyed) => surveyed,
         Err(fault) => return Ok(Err(fault)),
     };
     let firsts = infos.firsts(alloc, Subject::Licences)?;
-    match tree_of(alloc, files)? {
-        Ok(tree) => Ok(Ok(lists_of(alloc, &tree, &infos, firsts.as_slice())?)),
-        Err(fault) => Ok(Err(fault)),
-    }
+    let lists = lists_of(alloc, &tree, &infos, firsts.as_slice())?;
+    Ok(Ok(lists))
 }
 
 /// What a tree lacks (REUSE Specification 3.3), or the fault because of which nothing is gathered
