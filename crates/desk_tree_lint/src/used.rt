@@ -5,7 +5,7 @@ ghost use Rattle.desk_model.specs.Texts.{sorted_set};
 ghost use Rattle.desk_tree_infos.specs.Firsts.{first_in, firsts_of};
 ghost use Rattle.desk_tree_infos.specs.declared.infos.FileInfo.{FileInfo};
 ghost use Rattle.desk_tree_infos.specs.declared.information.Subject.TheVariants.{Licences};
-ghost use Rattle.desk_tree_lint.specs.Used.{keys_in, Uses, IsUsedIn, IsFirstUsed, AreUsed};
+ghost use Rattle.desk_tree_lint.specs.Used.{term_keys, keys_in, Uses, IsUsedIn, IsFirstUsed, AreUsed};
 
 use desk_base::TextList;
 use desk_expr::{Term, parse, terms, told};
@@ -13,15 +13,23 @@ use desk_tree_annotations::SharedText;
 use desk_tree_gather::First;
 use std::alloc::{AllocError, Global};
 
+// Adds the keys of a term.
+fn add_term(keys: &mut TextList, term: &Term) -> Result<(), AllocError>
+    ensures { OnOk result (keys.new ≡ keys.old ++ term_keys term.now) }
+{
+    keys.push(term.key.as_str())?;
+    match &term.exception {
+        Some(exception) => keys.push(exception.as_str()),
+        None => Ok(()),
+    }
+}
+
 // Adds the keys of terms.
 fn add_keys(keys: &mut TextList, terms: &[Term]) -> Result<(), AllocError>
     ensures { OnOk result (keys.new ≡ keys.old ++ keys_in terms.now) }
 {
     for term in terms {
-        keys.push(term.key.as_str())?;
-        if let Some(exception) = &term.exception {
-            keys.push(exception.as_str())?;
-        }
+        add_term(keys, term)?;
     }
     Ok(())
 }
