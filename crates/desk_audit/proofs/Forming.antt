@@ -4,8 +4,8 @@ use Rattle.std.specs.Prelude.{◌&&◌, false}
 use Rattle.std.specs.Option.{option_map_or}
 use Rattle.desk_base.specs.Day.{is_day}
 use Rattle.desk_model.specs.declared.state.Word.{Word}
+use Rattle.desk_model.specs.Names.{word_named}
 use Rattle.desk_snapshot.specs.Changes.{has_room, is_body, is_formed}
-use Rattle.desk_snapshot.specs.Rows.{word_named}
 use Rattle.desk_snapshot.specs.declared.rows.StoredChange.{StoredChange}
 
 pub formed : (row : StoredChange) (word : Word) → word_named row.word ≡ Some word

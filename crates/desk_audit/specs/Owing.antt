@@ -1,6 +1,5 @@
 -- What duties are owed for, in order.
-use Rattle.std.specs.Prelude.{ℕ, ◌&&◌, Bool, true, false, List, [], ◌∷◌, map}
-use Rattle.std.specs.Borrow.{Bor}
+use Rattle.std.specs.Prelude.{ℕ, ◌&&◌, Bool, true, false, List, [], ◌∷◌}
 use Rattle.std.specs.Ordering.{nat_cmp, int_cmp, is_eq, on, then_cmp}
 use Rattle.std.specs.Cmp.{IsTotalOrder}
 use Rattle.std.specs.Cmp.Lexicographic.{slice_cmp}
@@ -26,10 +25,6 @@ reason_in x = record {
   code = x.code.now;
   rule = x.rule.now;
 }
-
--- the texts of some parts
-abbrev pub texts : List (Bor (List ℕ)) → List (List ℕ)
-texts = map (λ part. part.now)
 
 abbrev by_text : (Owed → List ℕ) → Owed → Owed → Ordering
 by_text f = on f (slice_cmp nat_cmp)

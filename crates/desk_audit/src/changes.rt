@@ -5,7 +5,7 @@ ghost use Rattle.std.specs.List.{list_all};
 ghost use Rattle.std.specs.Option.{option_copied};
 ghost use Rattle.std.specs.declared.option.Option.TheVariants.{None};
 ghost use Rattle.desk_model.specs.Readings.{Readings};
-ghost use Rattle.desk_snapshot.specs.Changes.{goes_on, is_waived, is_within, last_day_at};
+ghost use Rattle.desk_snapshot.specs.Changes.{goes_on, is_waived, is_within};
 ghost use Rattle.desk_snapshot.specs.Conditions.{AreChanges};
 ghost use Rattle.desk_snapshot.specs.Reports.{IsFirst};
 ghost use Rattle.desk_snapshot.specs.Rows.{is_change_of};
@@ -14,31 +14,19 @@ ghost use Rattle.desk_audit.specs.Walks.{follows, is_next, lead};
 
 use crate::moves::{is_formed, is_raising, is_waiver_of, leaves, may_move};
 use crate::numbers::is_number;
-use crate::words::word_named;
-use desk_snapshot::{AuditFault, ByDuty, ByStep, Snapshot, StoredChange, StoredDuty, StoredWaiver};
-
-/// The last day of a change, if it is a waiver that ends.
-fn last_day_at<'a>(snapshot: &'a Snapshot, row: &StoredChange) -> Option<&'a str>
-    ensures { option_copied result ≡ last_day_at snapshot.now row.now }
-{
-    let step = ByStep {
-        duty: row.duty,
-        step: row.step,
-    };
-    match snapshot.waiver.find(&step) {
-        Some(waiver) => Some(waiver.last_day.as_str()),
-        None => None,
-    }
-}
+use desk_model::Word;
+use desk_snapshot::{
+    AuditFault, ByDuty, ByStep, Snapshot, StoredChange, StoredDuty, StoredWaiver, last_day_at,
+};
 
 /// Whether a change goes on from where the one before it left the duty.
 fn goes_on(snapshot: &Snapshot, before: &StoredChange, row: &StoredChange) -> bool
     ensures { result ≡ goes_on snapshot.now before.now row.now }
 {
-    let Some(left) = word_named(before.word.as_str()) else {
+    let Some(left) = Word::named(before.word.as_str()) else {
         return false;
     };
-    let Some(word) = word_named(row.word.as_str()) else {
+    let Some(word) = Word::named(row.word.as_str()) else {
         return false;
     };
     let end = last_day_at(snapshot, before);

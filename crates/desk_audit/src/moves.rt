@@ -3,12 +3,11 @@
 ghost use Rattle.std.specs.Prelude.{◌≡◌, pos, int_le};
 ghost use Rattle.std.specs.Option.{option_copied};
 ghost use Rattle.desk_base.specs.Day.{is_day};
-ghost use Rattle.desk_model.specs.Texts.{is_before, is_note};
+ghost use Rattle.desk_model.specs.Texts.{is_before};
 ghost use Rattle.desk_snapshot.specs.Changes.{has_room, is_body, is_formed, is_raising, is_waiver_of, leaves, may_move};
 
-use crate::words::word_named;
-use desk_base::{Day, are_shown, limits};
-use desk_model::{DutyState, Word};
+use desk_base::{Day, limits};
+use desk_model::{DutyState, Word, is_note};
 use desk_snapshot::StoredChange;
 
 fn is_day(text: &str) -> bool
@@ -21,19 +20,6 @@ pub(crate) fn is_before(day: &str, other: &str) -> bool
     ensures { result ≡ is_before day.now other.now }
 {
     day.cmp(other).is_lt()
-}
-
-/// Whether the text may go with a move: 1 to 1,024 bytes without control bytes.
-fn is_note(text: &str) -> bool
-    ensures { result ≡ is_note text.now }
-{
-    if text.is_empty() {
-        return false;
-    }
-    if text.len() > limits::NOTE_BYTES {
-        return false;
-    }
-    are_shown(text.as_bytes())
 }
 
 /// Whether a move is possible from a state. A waiver can be ended if its last day is before the day
@@ -77,7 +63,7 @@ fn has_room(word: Word, row: &StoredChange) -> bool
 pub(crate) fn is_formed(row: &StoredChange) -> bool
     ensures { result ≡ is_formed row.now }
 {
-    let Some(word) = word_named(row.word.as_str()) else {
+    let Some(word) = Word::named(row.word.as_str()) else {
         return false;
     };
     if !is_day(row.day.as_str()) {
@@ -99,7 +85,7 @@ pub(crate) fn is_raising(row: &StoredChange) -> bool
 pub(crate) fn leaves(state: &str, row: &StoredChange) -> bool
     ensures { result ≡ leaves state.now row.now }
 {
-    word_named(row.word.as_str()).is_some_and(|word| word.state_after().name() == state)
+    Word::named(row.word.as_str()).is_some_and(|word| word.state_after().name() == state)
 }
 
 /// Whether a waiver with a last day may be at a change.

@@ -4,7 +4,8 @@ ghost use Rattle.std.specs.Prelude.{◌≡◌, ◌==◌, ◌<◌, ◌++◌, ℕ,
 ghost use Rattle.std.specs.List.{slice_split};
 ghost use Rattle.std.specs.List.Sorted.{IsSorted};
 ghost use Rattle.desk_snapshot.specs.Conditions.{codes_in, owed_by, owed_for, owed_of};
-ghost use Rattle.desk_audit.specs.Owing.{are_alike, owed_in, owed_order, reason_in, texts};
+ghost use Rattle.desk_audit.specs.Owing.{are_alike, owed_in, owed_order, reason_in};
+ghost use Rattle.desk_base.specs.Borrowed.{texts};
 
 use crate::rules::Ruling;
 use desk_snapshot::{StoredDuty, StoredFrozen};

@@ -4,9 +4,10 @@ ghost use Rattle.std.specs.Prelude.{◌≡◌, true, ◌∷◌, [], MatchBool, f
 ghost use Rattle.std.specs.List.{list_all};
 ghost use Rattle.std.specs.Option.{option_map_or};
 ghost use Rattle.desk_model.specs.Readings.{Readings};
+ghost use Rattle.desk_model.specs.Names.{release_state_named};
 ghost use Rattle.desk_snapshot.specs.Conditions.{AreStates, stands_as};
 ghost use Rattle.desk_snapshot.specs.Reports.{IsFirst};
-ghost use Rattle.desk_snapshot.specs.Rows.{is_release, release_state_named};
+ghost use Rattle.desk_snapshot.specs.Rows.{is_release};
 ghost use Rattle.desk_snapshot.specs.declared.fault.AuditFault.TheVariants.{BadState};
 
 use crate::words::{is_in_state, is_stated, is_withdrawn};

@@ -2,23 +2,13 @@
 
 ghost use Rattle.std.specs.Prelude.{◌≡◌, IfOk};
 ghost use Rattle.desk_model.specs.Readings.{Readings};
-ghost use Rattle.desk_snapshot.specs.Conditions.{profile_at, conclusion_at};
+ghost use Rattle.desk_snapshot.specs.Conditions.{conclusion_at};
 ghost use Rattle.desk_audit_texts.specs.InForce.{IsRead};
 
 use desk_access::texts::Texts;
 use desk_model::Profile;
-use desk_snapshot::{ByDocument, ByPackage, Snapshot, StoredPackage};
+use desk_snapshot::{ByPackage, Snapshot, StoredPackage, profile_at};
 use std::alloc::{AllocError, Global};
-
-/// The profile of a document.
-fn profile_at(snapshot: &Snapshot, document: i64) -> Profile
-    ensures { result ≡ profile_at snapshot.now document }
-{
-    match snapshot.reading.find(&ByDocument { document }) {
-        Some(row) if row.profile == 2 => Profile::Either,
-        _ => Profile::Capitals,
-    }
-}
 
 /// The expression that is in force for a package, if there is one: that of the office's conclusion,
 /// or else of its own field.

@@ -26,7 +26,7 @@ use Rattle.desk_model.specs.Raised.{owed_code, owed_for, owed_for_terms, owed_un
 use Rattle.desk_model.specs.Texts.{is_release_name}
 use Rattle.desk_model.specs.Answers.{is_recorded, Choosing, Freezing, refused_first, unless}
 use Rattle.desk_model.specs.Answers.{unready, unconcluded, not_enough, not_minimal, is_shipped}
-use Rattle.desk_model.specs.Answers.{verdict_on, first_bad, is_over, gone, settled}
+use Rattle.desk_model.specs.Answers.{verdict_on, first_bad, gone, settled}
 use Rattle.desk_model.specs.declared.reading.Rule.{Rule}
 use Rattle.desk_model.specs.declared.row.AdoptionRow.{AdoptionRow}
 use Rattle.desk_model.specs.declared.row.PackageRow.{PackageRow}
@@ -37,7 +37,7 @@ use Rattle.desk_model.specs.declared.refusal.Refusal.TheVariants as why
 use Rattle.desk_model.specs.declared.refusal.Limit.TheVariants as limit
 use Rattle.desk_model.specs.declared.command.Answer.TheVariants as answered
 use Rattle.desk_model.specs.declared.state.Word.{Word}
-use Rattle.desk_model.specs.Moves.{change_row}
+use Rattle.desk_model.specs.Moves.{change_row, is_over}
 use Rattle.desk_model.specs.declared.row.Move.{Move}
 use Rattle.desk_model.specs.declared.row.ChangeRow.{ChangeRow}
 use Rattle.desk_model.specs.declared.row.Standing.{Standing}

@@ -5,7 +5,7 @@ use Rattle.std.specs.Option.{option_map, option_map_or, option_and_then}
 use Rattle.desk_base.specs.Day.{is_day}
 use Rattle.desk_model.specs.Texts.{is_note}
 use Rattle.desk_model.specs.Tables.{Tables}
-use Rattle.desk_model.specs.Answers.{is_over, refused_by, refused_first, unless, gone, settled}
+use Rattle.desk_model.specs.Answers.{refused_by, refused_first, unless, gone, settled}
 use Rattle.desk_model.specs.declared.refusal.Refusal.TheVariants as why
 use Rattle.desk_model.specs.declared.refusal.Limit.TheVariants as limit
 use Rattle.desk_model.specs.declared.command.Answer.TheVariants as answered
@@ -21,6 +21,7 @@ use Rattle.std.proofs.Common.{subst}
 use Rattle.desk_model.specs.declared.command.Answer.{Answer}
 use Rattle.desk_model.specs.declared.command.Fault.{Fault}
 use Rattle.desk_model.specs.declared.command.Plan.{Plan}
+use Rattle.desk_model.specs.Moves.{is_over}
 use Rattle.desk_access.specs.Seen.{Seen, OfRows}
 use Rattle.desk_access.specs.Plans.{IsPlan}
 use Rattle.desk_duties.specs.declared.duty.Read.TheVariants as read

@@ -5,9 +5,9 @@ ghost use Rattle.desk_base.specs.Day.{is_day};
 ghost use Rattle.desk_model.specs.Readings.{Readings};
 ghost use Rattle.desk_model.specs.Faults.{MayFail};
 ghost use Rattle.desk_model.specs.States.{goes_from};
-ghost use Rattle.desk_model.specs.Texts.{is_before, is_note};
-ghost use Rattle.desk_model.specs.Moves.{change_row};
-ghost use Rattle.desk_model.specs.Answers.{gone, settled, is_over, refused_by, refused_alone};
+ghost use Rattle.desk_model.specs.Texts.{is_before};
+ghost use Rattle.desk_model.specs.Moves.{change_row, is_over};
+ghost use Rattle.desk_model.specs.Answers.{gone, settled, refused_by, refused_alone};
 ghost use Rattle.desk_history.specs.FromTables.{moved_change, moved_found, state_found};
 ghost use Rattle.desk_access.specs.Seen.{Looked, OfRows};
 ghost use Rattle.desk_access.specs.Plans.{IsPlan, IsPlanOf, Plans, SparesStore};
@@ -15,25 +15,13 @@ ghost use Rattle.desk_duties.specs.Moving.{AreDays, IsNextStep, IsRead, move_as,
 ghost use Rattle.desk_model.specs.declared.command.Command.TheVariants.{Meet, Waive, Reopen};
 
 use desk_access::store::Store;
-use desk_base::{Day, Items, Text, are_shown, limits};
+use desk_base::{Day, Items, Text, limits};
 use desk_model::{
     Change, ChangeRow, DutyRow, DutyState, Fault, Limit, Move, Plan, Refusal, ReleaseState, Word,
+    is_note,
 };
 use desk_packages::{done, refused};
 use std::alloc::{AllocError, Global};
-
-/// Whether the text may go with a change: 1 to 1,024 bytes without control bytes.
-pub fn is_note(text: &str) -> bool
-    ensures { result ≡ is_note text.now }
-{
-    if text.is_empty() {
-        return false;
-    }
-    if text.len() > limits::NOTE_BYTES {
-        return false;
-    }
-    are_shown(text.as_bytes())
-}
 
 /// The day that a text is, if it is one.
 pub(crate) fn read_day(text: &Text) -> Option<Day>

@@ -9,11 +9,11 @@ ghost use Rattle.desk_access.specs.Seen.{OfRows};
 ghost use Rattle.desk_access.specs.Plans.{IsPlanOf, Plans, SparesStore};
 ghost use Rattle.desk_model.specs.declared.command.Command.TheVariants.{Withdraw, CloseDay};
 
-use crate::duty::{gone, is_note, read_day};
+use crate::duty::{gone, read_day};
 use desk_access::store::Store;
 use desk_base::{Day, Items, Text};
 use desk_model::{
-    Answer, Change, ChangeRow, DutyState, Fault, Move, Plan, Refusal, Standing, Word,
+    Answer, Change, ChangeRow, DutyState, Fault, Move, Plan, Refusal, Standing, Word, is_note,
 };
 use desk_packages::{done, refused};
 use std::alloc::{AllocError, Global};

@@ -117,6 +117,10 @@ SpellsTermAlone text t = SpellsTermAloneBy Capitals text t
 abbrev pub SpellsTermWithin : List ℕ → Term → Type 0
 SpellsTermWithin text t = SpellsTermWithinBy Capitals text t
 
+-- the text spells no term
+abbrev pub SpellsNoTerm : List ℕ → Type 0
+SpellsNoTerm text = (t : Term) → SpellsTermWithin text t → ⊥
+
 -- ---- where a text stops that spells nothing, or breaks a limit
 
 abbrev pub closings : ℕ → List Symbol

@@ -9,13 +9,13 @@ use Rattle.std.specs.Cmp.Lexicographic.{slice_cmp}
 use Rattle.std.proofs.lemmas.Cmp.{nat_cmp_total, tied_itself}
 use Rattle.desk_model.specs.Lists.{IsIn}
 use Rattle.desk_model.specs.Readings.{Readings}
-use Rattle.desk_model.specs.Keys.{below_by, rule_order, package_order}
+use Rattle.desk_model.specs.Keys.{below_by, rule_order, package_order, extracted_order}
 use Rattle.desk_model.specs.History.{revisions, rules_in, rule_row, rule_rows, documents, packages}
 use Rattle.desk_model.specs.History.{packages_in, package_row, references, references_in}
 use Rattle.desk_model.specs.History.{extracted_row, namespace_in}
 use Rattle.desk_model.specs.Tables.{tables}
 use Rattle.desk_history.specs.Laws.{Rises, ListsInOrder, AreSortedAsListed, rule_row_order}
-use Rattle.desk_history.specs.Laws.{package_below, reference_below, extracted_order}
+use Rattle.desk_history.specs.Laws.{package_below, reference_below}
 use Rattle.desk_history.proofs.Members.{in_cases, from_map}
 use Rattle.desk_history.proofs.Rising.{smaller, first_less, rest_less, rises-append, rises-map}
 use Rattle.desk_model.specs.declared.row.ExtractedRow.{ExtractedRow}

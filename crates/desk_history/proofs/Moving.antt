@@ -19,10 +19,10 @@ use Rattle.desk_model.specs.declared.row.Owed.{Owed}
 use Rattle.desk_model.specs.Raised.{raised, numbered}
 use Rattle.desk_model.specs.States.{state_after}
 use Rattle.desk_model.specs.declared.row.Move.{Move}
-use Rattle.desk_model.specs.Moves.{move_if, is_known, with_move, duties, duty_row, duty_at, changes}
+use Rattle.desk_model.specs.Moves.{move_if, is_known, with_move, duties, duty_row, duty_at, changes, is_over}
 use Rattle.desk_model.specs.Moves.{change_rows, change_row, moves, place, place_after, all_changes}
 use Rattle.desk_model.specs.Tables.{tables, with_duty_state, moved_by}
-use Rattle.desk_model.specs.Answers.{is_recorded, is_over, unless, release_state_of, Moving, move_answer, moving}
+use Rattle.desk_model.specs.Answers.{is_recorded, unless, release_state_of, Moving, move_answer, moving}
 use Rattle.desk_history.proofs.Recorded.{past, is_so}
 use Rattle.desk_history.specs.FromTables.{duty_found, steps_found, release_state_found, moved_found}
 use Rattle.desk_history.proofs.Rows.{find-map}

@@ -8,7 +8,7 @@ use Rattle.std.specs.Cmp.Lexicographic.{slice_cmp}
 use Rattle.std.specs.declared.cmp.Ordering.{Ordering}
 use Rattle.desk_model.specs.Lists.{IsIn}
 use Rattle.desk_model.specs.Readings.{Readings}
-use Rattle.desk_model.specs.Keys.{below_by, release_below, attached_order, choice_order}
+use Rattle.desk_model.specs.Keys.{below_by, release_below, attached_order, choice_order, extracted_order}
 use Rattle.desk_model.specs.Keys.{frozen_order, conclusion_order, adoption_order, change_below}
 use Rattle.desk_model.specs.Keys.{is_package, is_document, is_change_of, package_order, rule_order}
 use Rattle.desk_model.specs.Texts.{is_before, sorted_set, text_below}
@@ -26,7 +26,6 @@ use Rattle.desk_model.specs.declared.reading.Rule.{Rule}
 use Rattle.desk_model.specs.declared.reading.Verdict.TheVariants.{Minimal}
 use Rattle.desk_model.specs.declared.row.CatalogueRow.{CatalogueRow}
 use Rattle.desk_model.specs.declared.row.DocumentRow.{DocumentRow}
-use Rattle.desk_model.specs.declared.row.ExtractedRow.{ExtractedRow}
 use Rattle.desk_model.specs.declared.row.PackageRow.{PackageRow}
 use Rattle.desk_model.specs.declared.row.RuleRow.{RuleRow}
 use Rattle.desk_model.specs.declared.row.Owed.{Owed}
@@ -183,10 +182,6 @@ abbrev pub rule_row_order : RuleRow → RuleRow → Ordering
 rule_row_order =
     then_cmp (on (λ row. row.revision) nat_cmp)
     (then_cmp (on (λ row. row.term) (slice_cmp nat_cmp)) (on (λ row. row.form) (slice_cmp nat_cmp)))
-
-abbrev pub extracted_order : ExtractedRow → ExtractedRow → Ordering
-extracted_order = then_cmp (on (λ row. row.document) nat_cmp)
-    (on (λ row. row.reference) (slice_cmp nat_cmp))
 
 -- rules by revision, term and form, packages by document and id, extracted licences by document and
 -- reference, no two with one key

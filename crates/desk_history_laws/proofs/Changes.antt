@@ -16,11 +16,11 @@ use Rattle.desk_base.proofs.Bools.{and_left, and_right}
 use Rattle.desk_base.proofs.Texts.{same_text}
 use Rattle.desk_model.specs.Lists.{IsIn}
 use Rattle.desk_model.specs.Keys as key
-use Rattle.desk_model.specs.Names.{duty_state_name, word_name}
+use Rattle.desk_model.specs.Names.{duty_state_name, word_name, word_named}
 use Rattle.desk_model.specs.Readings.{Readings}
 use Rattle.desk_model.specs.Raised.{numbered, raised}
 use Rattle.desk_model.specs.States.{state_after}
-use Rattle.desk_model.specs.Moves.{all_changes, change_row, change_rows, changes, duties, duty_row}
+use Rattle.desk_model.specs.Moves.{all_changes, change_row, change_rows, changes, duties, duty_row, is_waiver}
 use Rattle.desk_model.specs.Moves.{moves, place, place_after}
 use Rattle.desk_model.specs.Answers.{IsHistory}
 use Rattle.desk_model.specs.Tables.{tables}
@@ -41,8 +41,8 @@ use Rattle.desk_snapshot.specs.Changes.{are_moves, AreChangesOf, go_on, goes_on,
 use Rattle.desk_snapshot.specs.Changes.{is_raising, is_waived, is_waiver_of, is_within, last_change}
 use Rattle.desk_snapshot.specs.Changes.{last_day_at, leaves, may_move}
 use Rattle.desk_snapshot.specs.Conditions.{AreChanges}
-use Rattle.desk_snapshot.specs.Rows.{AreFrom, is_change_at, is_change_of, is_waiver_at, word_named}
-use Rattle.desk_snapshot.specs.Tables.{change_stored, duty_stored, is_waiver, snapshot_of, waiver_stored}
+use Rattle.desk_snapshot.specs.Rows.{AreFrom, is_change_at, is_change_of, is_waiver_at}
+use Rattle.desk_snapshot.specs.Tables.{change_stored, duty_stored, snapshot_of, waiver_stored}
 use Rattle.desk_snapshot.specs.declared.rows.StoredChange.{StoredChange}
 use Rattle.desk_snapshot.specs.declared.rows.StoredDuty.{StoredDuty}
 use Rattle.desk_snapshot.specs.declared.rows.StoredWaiver.{StoredWaiver}

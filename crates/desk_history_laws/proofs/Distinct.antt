@@ -20,7 +20,7 @@ use Rattle.desk_base.specs.declared.profile.Profile.{Profile}
 use Rattle.desk_model.specs.Lists.{IsIn, put, replaced}
 use Rattle.desk_model.specs.Readings.{Readings}
 use Rattle.desk_model.specs.Texts.{text_below}
-use Rattle.desk_model.specs.Keys.{adoption_order, attached_order, below_by, choice_order}
+use Rattle.desk_model.specs.Keys.{adoption_order, attached_order, below_by, choice_order, extracted_order}
 use Rattle.desk_model.specs.Keys.{conclusion_order, frozen_order, has_namespace, is_adoption}
 use Rattle.desk_model.specs.Keys.{is_attachment, is_conclusion, package_order}
 use Rattle.desk_model.specs.History.{attached, documents, form_of, names, namespace_in, opened, place_in}
@@ -50,7 +50,7 @@ use Rattle.desk_model.specs.declared.row.ReleaseRow.{ReleaseRow}
 use Rattle.desk_model.specs.declared.row.RuleRow.{RuleRow}
 use Rattle.desk_model.proofs.Lists.{from_put}
 use Rattle.desk_history.proofs.OwnKeys.{attached_new}
-use Rattle.desk_history.specs.Laws.{AreDistinct, extracted_order, Rises, rule_row_order}
+use Rattle.desk_history.specs.Laws.{AreDistinct, Rises, rule_row_order}
 use Rattle.desk_history.proofs.Members.{from_map, in_map}
 use Rattle.desk_history.proofs.Distinct.{from_filter, distinct-append, distinct-flat_map}
 use Rattle.desk_history.proofs.Distinct.{distinct-map, distinct-filter}

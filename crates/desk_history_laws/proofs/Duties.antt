@@ -46,11 +46,11 @@ use Rattle.desk_history.proofs.Members.{in_cases, from_map}
 use Rattle.desk_history.proofs.OwnKeys.{open_at, owed_release, raised_closed}
 use Rattle.desk_history.proofs.Rows.{find-map}
 use Rattle.desk_history.proofs.Freezing.{numbered-append}
-use Rattle.desk_model.specs.Names.{duty_state_name, release_state_name}
+use Rattle.desk_model.specs.Names.{duty_state_name, release_state_name, release_state_named}
 use Rattle.desk_model.proofs.Lists.{all_pass}
 use Rattle.desk_snapshot.specs.Conditions.{AreNumbered, AreStates, stands_as, was_frozen}
 use Rattle.desk_snapshot.specs.Rows as stored
-use Rattle.desk_snapshot.specs.Rows.{AreFrom, release_state_named}
+use Rattle.desk_snapshot.specs.Rows.{AreFrom}
 use Rattle.desk_snapshot.specs.Tables.{duty_stored, release_stored, snapshot_of}
 use Rattle.desk_snapshot.specs.declared.rows.StoredDuty.{StoredDuty}
 use Rattle.desk_snapshot.specs.declared.rows.StoredRelease.{StoredRelease}

@@ -12,7 +12,7 @@ use Rattle.desk_base.proofs.Bools.{and_left, and_right}
 use Rattle.desk_model.specs.Texts.{is_note, is_release_name}
 use Rattle.desk_model.specs.Readings.{Readings}
 use Rattle.desk_model.specs.History.{form_of, state_of}
-use Rattle.desk_model.specs.Answers.{answer, is_recorded, unless, unready, gone, settled, is_over}
+use Rattle.desk_model.specs.Answers.{answer, is_recorded, unless, unready, gone, settled}
 use Rattle.desk_model.specs.Answers.{Moving, move_answer, freezing, opening}
 use Rattle.desk_model.specs.declared.command.Command.{Command}
 use Rattle.desk_model.specs.declared.command.Command.TheVariants.{CloseDay, Freeze, OpenRelease, Withdraw}
@@ -20,6 +20,7 @@ use Rattle.desk_model.specs.declared.refusal.Limit.TheVariants as limit
 use Rattle.desk_model.specs.declared.refusal.Refusal.TheVariants as why
 use Rattle.desk_model.specs.declared.state.ReleaseState.{ReleaseState}
 use Rattle.desk_model.specs.declared.state.Word.{Word}
+use Rattle.desk_model.specs.Moves.{is_over}
 use Rattle.desk_history.proofs.Recorded.{past, is_so}
 use Rattle.desk_history.proofs.Moving.{less_by}
 

@@ -16,10 +16,10 @@ use Rattle.desk_model.specs.History.{state_of}
 use Rattle.desk_model.specs.Raised.{numbered, owed_at, raised}
 use Rattle.desk_model.specs.States.{goes_from, is_met, state_after}
 use Rattle.desk_model.specs.Texts.{is_note}
-use Rattle.desk_model.specs.Moves.{change_row, duty_at, end_after, has_ended, is_known}
+use Rattle.desk_model.specs.Moves.{change_row, duty_at, end_after, has_ended, is_known, is_over}
 use Rattle.desk_model.specs.Moves.{is_raised_for, move_by, move_if, moves, place, place_after}
 use Rattle.desk_model.specs.Moves.{raises, with_move}
-use Rattle.desk_model.specs.Answers.{answer, gone, is_over, is_recorded, IsHistory, moving, move_answer, settled}
+use Rattle.desk_model.specs.Answers.{answer, gone, is_recorded, IsHistory, moving, move_answer, settled}
 use Rattle.desk_model.specs.declared.row.Move.{Move}
 use Rattle.desk_model.specs.declared.row.Owed.{Owed}
 use Rattle.desk_model.specs.declared.state.DutyState.{DutyState}

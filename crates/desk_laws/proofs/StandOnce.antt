@@ -26,6 +26,7 @@ use Rattle.desk_model.specs.declared.row.FrozenRow.{FrozenRow}
 use Rattle.desk_model.specs.declared.row.PackageRow.{PackageRow}
 use Rattle.desk_model.specs.declared.row.ReleaseRow.{ReleaseRow}
 use Rattle.desk_model.specs.declared.row.RuleRow.{RuleRow}
+use Rattle.desk_model.specs.Moves.{is_waiver}
 use Rattle.desk_history.specs.Laws.{AreDistinct, key_of}
 use Rattle.desk_history.proofs.Members.{in_map}
 use Rattle.desk_history.proofs.Distinct.{distinct-filter}
@@ -35,7 +36,7 @@ use Rattle.desk_history_laws.specs.OwnKeys.{package_key, rule_key}
 use Rattle.desk_sql_layout.specs.Cells.{adoption_cells, attached_cells, catalogue_cells}
 use Rattle.desk_sql_layout.specs.Cells.{change_cells, choice_cells, conclusion_cells}
 use Rattle.desk_sql_layout.specs.Cells.{document_cells, duty_cells, extracted_cells, frozen_cells}
-use Rattle.desk_sql_layout.specs.Cells.{is_waiver, meta_cells, package_cells, reading_cells}
+use Rattle.desk_sql_layout.specs.Cells.{meta_cells, package_cells, reading_cells}
 use Rattle.desk_sql_layout.specs.Cells.{release_cells, rule_cells, waiver_cells}
 use Rattle.desk_sql_layout.specs.Held.{rows_of}
 use Rattle.desk_sql_layout.proofs.Casts.{int_test, text_test}

@@ -1,6 +1,6 @@
 -- The duties that are asked for, and the line of each: its row in the table, its package's name,
 -- its title and its days.
-use Rattle.std.specs.Prelude.{ℕ, ℤ, pos, ◌&&◌, ◌||◌, not, Bool, true, false, List, [], ◌∷◌, Option}
+use Rattle.std.specs.Prelude.{ℕ, ℤ, pos, ◌&&◌, ◌||◌, not, Bool, true, List, [], ◌∷◌, Option}
 use Rattle.std.specs.Prelude.{find, filter, map, reverse, option_and_then}
 use Rattle.std.specs.Cmp.{IsTotalOrder}
 use Rattle.std.specs.Cmp.Lexicographic.{slice_cmp}
@@ -10,8 +10,8 @@ use Rattle.std.specs.Str.{bytes_eq}
 use Rattle.std.specs.declared.cmp.Ordering.{Ordering}
 use Rattle.std.proofs.lemmas.Cmp.{int_cmp_total, nat_list_cmp_total, on_total, then_total}
 use Rattle.desk_model.specs.Names.{duty_state_name}
-use Rattle.desk_model.specs.Texts.{is_before}
 use Rattle.desk_model.specs.declared.state.DutyState.TheVariants as duty
+use Rattle.desk_model.specs.Moves.{is_over}
 use Rattle.desk_snapshot.specs.Changes.{last_day_at}
 use Rattle.desk_snapshot.specs.Rows.{is_change_at, is_change_of, is_package}
 use Rattle.desk_snapshot.specs.declared.rows.StoredChange.{StoredChange}
@@ -46,14 +46,10 @@ changing_day snapshot number = option_map_or (λ row. row.day) (last_change snap
 abbrev pub waiver_end : Snapshot → ℤ → Option (List ℕ)
 waiver_end snapshot number = option_and_then (last_day_at snapshot) (last_change snapshot number)
 
--- there is a last day, and it is before another day
-abbrev pub is_end_before : List ℕ → Option (List ℕ) → Bool
-is_end_before day end = option_map_or (λ last. is_before last day) end false
-
 -- a waived duty whose waiver has a last day before a day
 abbrev pub is_past : Snapshot → List ℕ → StoredDuty → Bool
 is_past snapshot day row = bytes_eq row.state (duty_state_name duty.Waived)
-    && is_end_before day (waiver_end snapshot row.number)
+    && is_over day (waiver_end snapshot row.number)
 
 -- past by the day that is asked for, if one is
 abbrev pub is_past_if_asked : Snapshot → Option (List ℕ) → StoredDuty → Bool

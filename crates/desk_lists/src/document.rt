@@ -4,14 +4,13 @@ ghost use Rattle.std.specs.Prelude.{◌≡◌, ℕ, List, Option, find, count_by
 ghost use Rattle.std.specs.List.{AllZip};
 ghost use Rattle.desk_base.specs.declared.profile.Profile.{Profile};
 ghost use Rattle.desk_expr.specs.Tree.{Tree};
-ghost use Rattle.desk_snapshot.specs.Conditions.{profile_at};
 ghost use Rattle.desk_snapshot.specs.Rows.{is_reading_of};
 ghost use Rattle.desk_lists.specs.Documents.{AreReadings, IsDocumentLine, is_package_of, is_shipped_by, package_of_side, package_of_splits};
 
 use crate::lines::DocumentLine;
 use crate::said::said_in;
 use desk_base::Profile;
-use desk_snapshot::{ByDocument, Snapshot, StoredDocument, StoredPackage};
+use desk_snapshot::{ByDocument, Snapshot, StoredDocument, StoredPackage, profile_at};
 use desk_sorted::Sought;
 use std::alloc::{AllocError, Global};
 use std::cmp::Ordering;
@@ -69,17 +68,6 @@ fn profile_of(snapshot: &Snapshot, document: i64) -> Option<i64>
     match snapshot.reading.find(&ByDocument { document }) {
         Some(reading) => Some(reading.profile),
         None => None,
-    }
-}
-
-/// The profile that the licence expressions of a document are read by. Each document of a desk has
-/// one.
-pub fn profile_at(snapshot: &Snapshot, document: i64) -> Profile
-    ensures { result ≡ profile_at snapshot.now document }
-{
-    match snapshot.reading.find(&ByDocument { document }) {
-        Some(row) if row.profile == 2 => Profile::Either,
-        _ => Profile::Capitals,
     }
 }
 

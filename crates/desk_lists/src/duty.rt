@@ -3,18 +3,18 @@
 ghost use Rattle.std.specs.Prelude.{◌≡◌, List, filter, find, map, reverse, IfOk, IsPermutation};
 ghost use Rattle.std.specs.List.Sorted.{IsSorted};
 ghost use Rattle.std.specs.Option.{option_copied};
-ghost use Rattle.desk_snapshot.specs.Changes.{last_day_at};
 ghost use Rattle.desk_snapshot.specs.Rows.{is_change_of};
-ghost use Rattle.desk_lists.specs.Duties.{changing_day, duty_line, is_asked, is_end_before, is_past, is_past_if_asked, is_wanted, last_change, line_texts, lines_wanted, package_name, raising_day, raising_order, waiver_end};
+ghost use Rattle.desk_lists.specs.Duties.{changing_day, duty_line, is_asked, is_past, is_past_if_asked, is_wanted, last_change, line_texts, lines_wanted, package_name, raising_day, raising_order, waiver_end};
 ghost use Rattle.desk_lists.specs.Titles.{titles_in_force};
 ghost use Rattle.desk_lists.specs.declared.titles.Title.{Title as Titled};
 ghost use Rattle.desk_snapshot.specs.declared.snapshot.Snapshot.{Snapshot as Held};
+ghost use Rattle.desk_model.specs.Moves.{is_over};
 
 use crate::lines::{DutyFilter, DutyLine};
 use crate::titles::{Title, title_among, titles_in_force};
 use desk_base::Text;
 use desk_model::DutyState;
-use desk_snapshot::{ByDuty, ById, ByStep, Snapshot, StoredChange, StoredDuty};
+use desk_snapshot::{ByDuty, ById, ByStep, Snapshot, StoredChange, StoredDuty, last_day_at};
 use std::alloc::{AllocError, Global};
 use std::cmp::Ordering;
 
@@ -72,20 +72,6 @@ fn changing_day(snapshot: &Snapshot, duty: i64) -> &str
     }
 }
 
-// The last day of a change, if that is a waiver that ends.
-fn last_day_at<'a>(snapshot: &'a Snapshot, change: &StoredChange) -> Option<&'a str>
-    ensures { option_copied result ≡ last_day_at snapshot.now change.now }
-{
-    let step = ByStep {
-        duty: change.duty,
-        step: change.step,
-    };
-    match snapshot.waiver.find(&step) {
-        Some(waiver) => Some(waiver.last_day.as_str()),
-        None => None,
-    }
-}
-
 // The last day of a duty's last change, if that is a waiver that ends.
 fn waiver_end(snapshot: &Snapshot, duty: i64) -> Option<&str>
     ensures { option_copied result ≡ waiver_end snapshot.now duty }
@@ -98,7 +84,7 @@ fn waiver_end(snapshot: &Snapshot, duty: i64) -> Option<&str>
 
 // Whether there is a last day, and it is before another day.
 fn is_end_before(day: &str, end: Option<&str>) -> bool
-    ensures { result ≡ is_end_before day.now (option_copied end.entry) }
+    ensures { result ≡ is_over day.now (option_copied end.entry) }
 {
     match end {
         Some(last) => last.cmp(day).is_lt(),

@@ -12,8 +12,7 @@
 //!
 //! Each list is written as comma-separated values (`specs/CsvTable.antt`) or laid out in columns
 //! for a terminal (`specs/Columns.antt`). The cells of a line are the same in both
-//! (`specs/Cells.antt`). The only error is that no memory is left. `profile_at` is the profile by
-//! which a document is read.
+//! (`specs/Cells.antt`). The only error is that no memory is left.
 #![tactic(auto)]
 
 mod cells;
@@ -28,7 +27,7 @@ mod table;
 mod texts;
 mod titles;
 
-pub use document::{documents, profile_at};
+pub use document::documents;
 pub use duty::duties;
 pub use lines::{DocumentLine, DutyFilter, DutyLine, ReleaseLine};
 pub use release::releases;

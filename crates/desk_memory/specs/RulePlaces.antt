@@ -11,10 +11,6 @@ abbrev pub is_placed : ℕ → List ℕ → List ℕ → RulePlace → Bool
 is_placed revision term form entry = ((entry.revision == revision) && bytes_eq entry.term term)
     && bytes_eq entry.form form
 
-abbrev pub is_rule_row : ℕ → List ℕ → List ℕ → RuleRow → Bool
-is_rule_row revision term form row = (row.revision == revision)
-    && (bytes_eq row.term term && bytes_eq row.form form)
-
 abbrev pub rule_order : RulePlace → RulePlace → Ordering
 rule_order = then_cmp (then_cmp (on (λ entry. entry.revision) nat_cmp)
     (on (λ entry. entry.term) (slice_cmp nat_cmp))) (on (λ entry. entry.form) (slice_cmp nat_cmp))

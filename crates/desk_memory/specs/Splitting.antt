@@ -7,14 +7,14 @@ use Rattle.std.specs.Str.{bytes_eq}
 use Rattle.std.specs.declared.cmp.Ordering.{Ordering}
 use Rattle.std.specs.declared.cmp.Ordering.TheVariants.{Less, Equal, Greater}
 use Rattle.std.proofs.lemmas.Cmp.{on_total, then_total, nat_list_cmp_total, nat_cmp_total}
-use Rattle.desk_model.specs.Keys.{attached_order, frozen_order, is_extracted, is_package, is_attachment, package_order}
+use Rattle.desk_model.specs.Keys.{attached_order, frozen_order, is_extracted, is_package, is_attachment, package_order, extracted_order}
 use Rattle.desk_model.specs.declared.row.PackageRow.{PackageRow}
 use Rattle.desk_model.specs.declared.row.AttachedRow.{AttachedRow}
 use Rattle.desk_model.specs.declared.row.ExtractedRow.{ExtractedRow}
 use Rattle.desk_model.specs.declared.row.FrozenRow.{FrozenRow}
 use Rattle.desk_sorted.specs.Sorted.{IsSideOf}
 use Rattle.desk_sorted.specs.Sides.{side_by, first_less, texts_meet, numbers_meet, then_meets, number_cmp, number_total}
-use Rattle.desk_sorted.specs.Orders.{document_order, extracted_order, release_order}
+use Rattle.desk_sorted.specs.Orders.{document_order, release_order}
 use Rattle.desk_memory.specs.Sides.{document_side, packages_side, package_side, release_side}
 use Rattle.desk_memory.specs.Sides.{attached_side, attachment_side, extracted_side, frozen_side}
 

@@ -3,9 +3,9 @@
 ghost use Rattle.std.specs.Prelude.{◌≡◌, ℕ, ◌+◌, ◌<◌, ◌^◌, ◌++◌, [], List, find, filter, map, IfOk, IfErr, OnOk, OnErr, length};
 ghost use Rattle.std.specs.List.{position_from};
 ghost use Rattle.std.specs.Option.{option_copied, option_map};
-ghost use Rattle.desk_model.specs.Keys.{is_rule, is_rule_of};
+ghost use Rattle.desk_model.specs.Keys.{is_rule, is_rule_of, is_rule_at};
 ghost use Rattle.desk_history.specs.FromTables.{rule_of};
-ghost use Rattle.desk_memory.specs.RulePlaces.{is_placed, is_rule_row, rule_places};
+ghost use Rattle.desk_memory.specs.RulePlaces.{is_placed, rule_places};
 
 use crate::keys::{ByRule, RulePlace};
 use desk_model::{Fault, RuleRow};
@@ -20,7 +20,7 @@ pub(crate) struct Rules {
     places: Sorted<RulePlace>,
     ghost placed: { (revision : ℕ) (term form : List ℕ)
         → option_map (λ entry. entry.place) (find (is_placed revision term form) places.rows.items)
-        ≡ position_from (is_rule_row revision term form) 0 rows.items },
+        ≡ position_from (is_rule_at revision term form) 0 rows.items },
 }
 
 /// The places of rules, the first of which is at a place.

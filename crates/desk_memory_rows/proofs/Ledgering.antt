@@ -10,105 +10,83 @@ use Rattle.std.proofs.lemmas.Bool.Decides.{nat_tests}
 use Rattle.std.proofs.lemmas.Bool.{and_from}
 use Rattle.desk_model.specs.Lists.{put, updated}
 use Rattle.desk_model.specs.Keys.{is_duty, is_change_of, change_below}
-use Rattle.desk_memory_rows.specs.Ledgers.{numbered, stepped, grouped, all_of, more_at}
+use Rattle.desk_memory_rows.specs.Ledgers.{stepped, grouped, all_of, more_at}
 use Rattle.desk_model.specs.declared.row.DutyRow.{DutyRow}
 use Rattle.desk_model.specs.declared.row.ChangeRow.{ChangeRow}
 use Rattle.desk_base.proofs.Bools.{and_left, and_right, or_left, or_right}
 use Rattle.desk_base.proofs.Numbers.{numbers_equal}
+use Rattle.desk_access.specs.Follows.{are_numbered}
+use Rattle.desk_tally.proofs.Moves.{numbered-append, updated_none}
 
 -- Duties
 
-pub find_below : (q n : ℕ) (rows : List DutyRow) → numbered n rows ≡ true → q < n
+pub find_below : (q n : ℕ) (rows : List DutyRow) → are_numbered n rows ≡ true → q < n
     → find (is_duty q) rows ≡ None
 find_below q n [] e lt = refl
 find_below q n (row ∷ rows) e lt =
     let here : row.number ≡ n = numbers_equal row.number n
-    (and_left (row.number == n) (numbered (n + 1) rows) e) in
+    (and_left (row.number == n) (are_numbered (n + 1) rows) e) in
     let differ : (row.number == q) ≡ false = grind (arith, nat_tests) in
-    rw differ (find_below q (n + 1) rows (and_right (row.number == n) (numbered (n + 1) rows) e)
+    rw differ (find_below q (n + 1) rows (and_right (row.number == n) (are_numbered (n + 1) rows) e)
     (omega arith))
 
 -- the duty at the place i, counted from n
-pub find_place : (n i : ℕ) (rows : List DutyRow) → numbered n rows ≡ true
+pub find_place : (n i : ℕ) (rows : List DutyRow) → are_numbered n rows ≡ true
     → find (is_duty (n + i)) rows ≡ slice_get rows i
 find_place n i [] e = refl
 find_place n zero (row ∷ rows) e =
     let here : row.number ≡ n = numbers_equal row.number n
-    (and_left (row.number == n) (numbered (n + 1) rows) e) in
+    (and_left (row.number == n) (are_numbered (n + 1) rows) e) in
     let same : (row.number == n + 0) ≡ true = grind (arith, nat_tests) in
     rw same refl
 find_place n (suc i) (row ∷ rows) e =
     let here : row.number ≡ n = numbers_equal row.number n
-    (and_left (row.number == n) (numbered (n + 1) rows) e) in
+    (and_left (row.number == n) (are_numbered (n + 1) rows) e) in
     let differ : (row.number == n + suc i) ≡ false = grind (arith, nat_tests) in
     let next : n + suc i ≡ n + 1 + i = omega arith in
     rw differ (ap (λ k. find (is_duty k) rows) next
-    ∙ find_place (n + 1) i rows (and_right (row.number == n) (numbered (n + 1) rows) e))
-
-updated_none : (change : DutyRow → DutyRow) (q n : ℕ) (rows : List DutyRow) → numbered n rows ≡ true
-    → q < n → updated (is_duty q) change rows ≡ rows
-updated_none change q n [] e lt = refl
-updated_none change q n (row ∷ rows) e lt =
-    let here : row.number ≡ n = numbers_equal row.number n
-    (and_left (row.number == n) (numbered (n + 1) rows) e) in
-    let differ : (row.number == q) ≡ false = grind (arith, nat_tests) in
-    rw (
-      differ,
-      updated_none change q (n + 1) rows (and_right (row.number == n) (numbered (n + 1) rows) e)
-          (omega arith),
-    ) refl
+    ∙ find_place (n + 1) i rows (and_right (row.number == n) (are_numbered (n + 1) rows) e))
 
 -- the duty at a place is changed
 pub updated_place : (change : DutyRow → DutyRow) (n i : ℕ) (rows : List DutyRow) (row : DutyRow)
-    → numbered n rows ≡ true → slice_get rows i ≡ Some row
+    → are_numbered n rows ≡ true → slice_get rows i ≡ Some row
     → updated (is_duty (n + i)) change rows ≡ slice_set rows i (change row)
 updated_place change n i [] row e at = cc
 updated_place change n zero (x ∷ rows) row e at =
     let here : x.number ≡ n = numbers_equal x.number n
-    (and_left (x.number == n) (numbered (n + 1) rows) e) in
+    (and_left (x.number == n) (are_numbered (n + 1) rows) e) in
     let same : (x.number == n + 0) ≡ true = grind (arith, nat_tests) in
     let is : x ≡ row = cc in
     rw (
       same,
-      updated_none change (n + 0) (n + 1) rows (and_right (x.number == n) (numbered (n + 1) rows) e)
+      updated_none change (n + 0) (n + 1) rows (and_right (x.number == n) (are_numbered (n + 1) rows) e)
           (omega arith),
     ) (ap (λ y. change y ∷ rows) is)
 updated_place change n (suc i) (x ∷ rows) row e at =
     let here : x.number ≡ n = numbers_equal x.number n
-    (and_left (x.number == n) (numbered (n + 1) rows) e) in
+    (and_left (x.number == n) (are_numbered (n + 1) rows) e) in
     let differ : (x.number == n + suc i) ≡ false = grind (arith, nat_tests) in
     let next : n + suc i ≡ n + 1 + i = omega arith in
     rw differ (ap (λ ys. x ∷ ys) (ap (λ k. updated (is_duty k) change rows) next
-    ∙ updated_place change (n + 1) i rows row (and_right (x.number == n) (numbered (n + 1) rows) e)
+    ∙ updated_place change (n + 1) i rows row (and_right (x.number == n) (are_numbered (n + 1) rows) e)
     at))
 
 pub numbered-updated : (change : DutyRow → DutyRow)
     → ((row : DutyRow) → (change row).number ≡ row.number) → (q n : ℕ) (rows : List DutyRow)
-    → numbered n rows ≡ true → numbered n (updated (is_duty q) change rows) ≡ true
+    → are_numbered n rows ≡ true → are_numbered n (updated (is_duty q) change rows) ≡ true
 numbered-updated change keeps q n [] e = refl
 numbered-updated change keeps q n (row ∷ rows) e =
-    let here : (row.number == n) ≡ true = and_left (row.number == n) (numbered (n + 1) rows) e in
+    let here : (row.number == n) ≡ true = and_left (row.number == n) (are_numbered (n + 1) rows) e in
     let rest = numbered-updated change keeps q (n + 1) rows
-    (and_right (row.number == n) (numbered (n + 1) rows) e) in
-    elim (row.number == q) as (λ b. numbered n
+    (and_right (row.number == n) (are_numbered (n + 1) rows) e) in
+    elim (row.number == q) as (λ b. are_numbered n
     ((if b then change row else row) ∷ updated (is_duty q) change rows) ≡ true) [
       | true ↦ and_from ((change row).number == n)
-          (numbered (n + 1) (updated (is_duty q) change rows))
+          (are_numbered (n + 1) (updated (is_duty q) change rows))
           (ap (λ k. k == n) (keeps row) ∙ here) rest
-      | false ↦ and_from (row.number == n) (numbered (n + 1) (updated (is_duty q) change rows)) here
+      | false ↦ and_from (row.number == n) (are_numbered (n + 1) (updated (is_duty q) change rows)) here
           rest
     ]
-
-pub numbered-append : (n : ℕ) (rows more : List DutyRow) → numbered n rows ≡ true
-    → numbered (n + length rows) more ≡ true → numbered n (rows ++ more) ≡ true
-numbered-append n [] more e f = subst (λ k. numbered k more ≡ true)
-    (let z : n + 0 ≡ n = omega arith in z) f
-numbered-append n (row ∷ rows) more e f =
-    and_from (row.number == n) (numbered (n + 1) (rows ++ more))
-    (and_left (row.number == n) (numbered (n + 1) rows) e)
-    (numbered-append (n + 1) rows more (and_right (row.number == n) (numbered (n + 1) rows) e)
-    (subst (λ k. numbered k more ≡ true)
-    (let z : n + suc (length rows) ≡ n + 1 + length rows = omega arith in z) f))
 
 -- Changes
 
@@ -295,7 +273,7 @@ group_at-get [] i = refl
 group_at-get (g ∷ gs) zero = refl
 group_at-get (g ∷ gs) (suc i) = group_at-get gs i
 
-pub find_number : (q : ℕ) (rows : List DutyRow) → numbered 1 rows ≡ true → 0 < q
+pub find_number : (q : ℕ) (rows : List DutyRow) → are_numbered 1 rows ≡ true → 0 < q
     → slice_get rows (q - 1) ≡ find (is_duty q) rows
 find_number q rows e lt = sym (ap (λ k. find (is_duty k) rows)
     (let z : q ≡ 1 + (q - 1) = omega arith in z) ∙ find_place 1 (q - 1) rows e)
@@ -362,7 +340,7 @@ next_step q place steps step groups e d f s =
     omega (arith, s, f, same)
 
 -- more duties, or none if there was no room
-pub numbered_either : (b : Bool) (rows more : List DutyRow) → numbered 1 rows ≡ true
-    → numbered (1 + length rows) more ≡ true → numbered 1 (if b then rows ++ more else rows) ≡ true
+pub numbered_either : (b : Bool) (rows more : List DutyRow) → are_numbered 1 rows ≡ true
+    → are_numbered (1 + length rows) more ≡ true → are_numbered 1 (if b then rows ++ more else rows) ≡ true
 numbered_either true rows more e f = numbered-append 1 rows more e f
 numbered_either false rows more e f = e

@@ -12,10 +12,11 @@ use Rattle.desk_model.specs.Tables.{moved_by, with_duty_state}
 use Rattle.desk_model.specs.declared.row.ChangeRow.{ChangeRow}
 use Rattle.desk_model.specs.declared.row.DutyRow.{DutyRow}
 use Rattle.desk_memory_rows.specs.declared.ledger.Place.{Place}
-use Rattle.desk_memory_rows.specs.Ledgers.{numbered, all_of, grouped, more_at, pushed, place_of}
+use Rattle.desk_memory_rows.specs.Ledgers.{all_of, grouped, more_at, pushed, place_of}
 use Rattle.desk_memory_rows.specs.Ledgers.{is_within, AreWithin, standing_by}
 use Rattle.desk_memory_rows.proofs.Ledgering.{numbered-updated}
 use Rattle.desk_base.proofs.Bools.{and_left, and_right}
+use Rattle.desk_access.specs.Follows.{are_numbered}
 
 -- the groups are the earlier ones with the changes of these places
 pub record Remains (before : List (List ChangeRow)) (places : List Place)
@@ -173,8 +174,8 @@ pub popped : (items group : List ChangeRow) (n : ℕ) → items ≡ group → n 
 popped items group n e f = ap (λ (k : ℕ). take (k - 1) items) f
     ∙ ap (λ (xs : List ChangeRow). take (length xs - 1) xs) e
 
-pub numbered-standing : (places : List Place) (n : ℕ) (rows : List DutyRow) → numbered n rows ≡ true
-    → numbered n (standing_by places rows) ≡ true
+pub numbered-standing : (places : List Place) (n : ℕ) (rows : List DutyRow) → are_numbered n rows ≡ true
+    → are_numbered n (standing_by places rows) ≡ true
 numbered-standing [] n rows e = e
 numbered-standing (place ∷ places) n rows e = numbered-updated (with_duty_state place.state)
     (λ row. refl) place.duty n (standing_by places rows) (numbered-standing places n rows e)

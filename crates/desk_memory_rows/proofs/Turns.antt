@@ -1,7 +1,7 @@
 -- Changes that are the next ones of their duties.
-use Rattle.std.proofs.Common.{◌≡◌, ℕ, zero, suc, ◌+◌, ◌-◌, ◌<◌, ◌≤◌, Bool, true, false, cond, List}
+use Rattle.std.proofs.Common.{◌≡◌, ℕ, zero, suc, ◌+◌, ◌-◌, ◌<◌, ◌≤◌, Bool, true, false, List}
 use Rattle.std.proofs.Common.{[], ◌∷◌, ◌++◌, length, map, refl, sym, ap, ◌∙◌, subst, arith}
-use Rattle.std.specs.Prelude.{◌==◌, ◌&&◌, nat_le, nat_lt, filter, find, is_ok, is_some, Some, Result, Ok, Err}
+use Rattle.std.specs.Prelude.{◌==◌, ◌&&◌, nat_le, nat_lt, filter, is_ok, is_some, Result, Ok, Err}
 use Rattle.std.specs.Result.{IsOk}
 use Rattle.std.specs.List.{list_all}
 use Rattle.std.proofs.lemmas.List.Elements.{filter-append}
@@ -18,11 +18,12 @@ use Rattle.desk_history.specs.FromTables.{duty_found, steps_found}
 use Rattle.desk_access.specs.Follows.{Follows, AreNext, are_first, are_next, are_numbered, are_of_duties, rise}
 use Rattle.desk_memory_rows.specs.declared.ledger.Place.{Place}
 use Rattle.desk_memory_rows.specs.Ledgers.{AreSingles, AreWithin, all_of, are_in_turn, can_append}
-use Rattle.desk_memory_rows.specs.Ledgers.{can_take, is_in_turn, is_within, more_at, numbered}
+use Rattle.desk_memory_rows.specs.Ledgers.{can_take, is_in_turn, is_within, more_at}
 use Rattle.desk_memory_rows.specs.Ledgers.{place_of, standing_by}
 use Rattle.desk_memory_rows.proofs.Ledgering.{SinglesOn, singles_push}
 use Rattle.desk_base.proofs.Bools.{and_left, and_right}
 use Rattle.desk_base.proofs.Numbers.{numbers_equal}
+use Rattle.desk_tally.proofs.Steps.{found_within}
 
 -- First changes
 
@@ -199,58 +200,35 @@ length-standing (place ∷ places) rows = length-updated (is_duty place.duty)
 
 -- What follows some tables is taken
 
-numbered_from : (n : ℕ) (rows : List DutyRow) → are_numbered n rows ≡ true → numbered n rows ≡ true
-numbered_from n [] e = refl
-numbered_from n (row ∷ rows) e =
-    and_from (row.number == n) (numbered (n + 1) rows)
-    (and_left (row.number == n) (are_numbered (n + 1) rows) e)
-    (numbered_from (n + 1) rows (and_right (row.number == n) (are_numbered (n + 1) rows) e))
-
 abbrev numbers_of : List DutyRow → List ℕ
 numbers_of rows = map (λ (row : DutyRow). row.number) rows
 
 abbrev duties_of : List ChangeRow → List ℕ
 duties_of rows = map (λ (row : ChangeRow). row.duty) rows
 
-numbers_above : (m n : ℕ) (rows : List DutyRow) → m < n → numbered n rows ≡ true
+numbers_above : (m n : ℕ) (rows : List DutyRow) → m < n → are_numbered n rows ≡ true
     → list_all (nat_lt m) (numbers_of rows) ≡ true
 numbers_above m n [] lt e = refl
 numbers_above m n (row ∷ rows) lt e =
     let same : row.number ≡ n = numbers_equal row.number n
-    (and_left (row.number == n) (numbered (n + 1) rows) e) in
+    (and_left (row.number == n) (are_numbered (n + 1) rows) e) in
     let here : nat_lt m row.number ≡ true = grind (arith, nat_tests) in
     and_from (nat_lt m row.number) (list_all (nat_lt m) (numbers_of rows)) here
     (numbers_above m (n + 1) rows (omega (arith, lt))
-    (and_right (row.number == n) (numbered (n + 1) rows) e))
+    (and_right (row.number == n) (are_numbered (n + 1) rows) e))
 
-numbers_rise : (n : ℕ) (rows : List DutyRow) → numbered n rows ≡ true
+numbers_rise : (n : ℕ) (rows : List DutyRow) → are_numbered n rows ≡ true
     → rise (numbers_of rows) ≡ true
 numbers_rise n [] e = refl
 numbers_rise n (row ∷ rows) e =
     let same : row.number ≡ n = numbers_equal row.number n
-    (and_left (row.number == n) (numbered (n + 1) rows) e) in
-    let rest = and_right (row.number == n) (numbered (n + 1) rows) e in
+    (and_left (row.number == n) (are_numbered (n + 1) rows) e) in
+    let rest = and_right (row.number == n) (are_numbered (n + 1) rows) e in
     and_from (list_all (nat_lt row.number) (numbers_of rows)) (rise (numbers_of rows))
     (numbers_above row.number (n + 1) rows (omega (arith, same)) rest)
     (numbers_rise (n + 1) rows rest)
 
-found_within : (n q : ℕ) (rows : List DutyRow) → numbered n rows ≡ true
-    → is_some (find (is_duty q) rows) ≡ true → (n ≤ q) × (q < n + length rows)
-found_within n q [] e some = absurd (cc)
-found_within n q (row ∷ rows) e some =
-    let same : row.number ≡ n = numbers_equal row.number n
-    (and_left (row.number == n) (numbered (n + 1) rows) e) in
-    let rest = and_right (row.number == n) (numbered (n + 1) rows) e in
-    elim (row.number == q) as (λ b. (row.number == q) ≡ b
-    → is_some (cond b (Some row) (find (is_duty q) rows)) ≡ true
-    → (n ≤ q) × (q < n + suc (length rows))) [
-      | true ↦ λ f g. let at : row.number ≡ q = numbers_equal row.number q f in
-          (omega (arith, same, at), omega (arith, same, at))
-      | false ↦ λ f g. let later = found_within (n + 1) q rows rest g in
-          (omega (arith, later.0), omega (arith, later.1))
-    ] refl some
-
-above_none : (t : Tables) (rows : List ChangeRow) → numbered 1 t.duty ≡ true
+above_none : (t : Tables) (rows : List ChangeRow) → are_numbered 1 t.duty ≡ true
     → are_of_duties t rows ≡ true → list_all (nat_lt 0) (duties_of rows) ≡ true
 above_none t [] e all = refl
 above_none t (row ∷ rows) e all =
@@ -261,7 +239,7 @@ above_none t (row ∷ rows) e all =
     and_from (nat_lt 0 row.duty) (list_all (nat_lt 0) (duties_of rows)) here
     (above_none t rows e (and_right (is_some (duty_found t row.duty)) (are_of_duties t rows) all))
 
-turns_from : (t : Tables) (n : ℕ) (rows : List ChangeRow) → numbered 1 t.duty ≡ true
+turns_from : (t : Tables) (n : ℕ) (rows : List ChangeRow) → are_numbered 1 t.duty ≡ true
     → list_all (nat_lt n) (duties_of rows) ≡ true → rise (duties_of rows) ≡ true
     → are_next t rows ≡ true → are_of_duties t rows ≡ true
     → are_in_turn n (length t.duty) t.changes rows ≡ true
@@ -284,11 +262,11 @@ turns_from t n (row ∷ rows) e above up next all =
     (and_right (is_some (duty_found t row.duty)) (are_of_duties t rows) all))
 
 next_turns : (t : Tables) (duties : List DutyRow) (groups : List (List ChangeRow))
-    (rows : List ChangeRow) → t.duty ≡ duties → t.changes ≡ all_of groups → numbered 1 duties ≡ true
+    (rows : List ChangeRow) → t.duty ≡ duties → t.changes ≡ all_of groups → are_numbered 1 duties ≡ true
     → length groups ≡ length duties
     → AreNext t rows → are_in_turn 0 (length groups) (all_of groups) rows ≡ true
 next_turns t duties groups rows same held fresh paired next =
-    let e : numbered 1 t.duty ≡ true = ap (numbered 1) same ∙ fresh in
+    let e : are_numbered 1 t.duty ≡ true = ap (are_numbered 1) same ∙ fresh in
     let count : length groups ≡ length t.duty = paired ∙ ap length (sym same) in
     ap (λ (n : ℕ). are_in_turn 0 n (all_of groups) rows) count
     ∙ (ap (λ (all : List ChangeRow). are_in_turn 0 (length t.duty) all rows) (sym held)
@@ -296,7 +274,7 @@ next_turns t duties groups rows same held fresh paired next =
     next.2)
 
 pub taken : (c : Change) (t : Tables) (duties : List DutyRow) (groups : List (List ChangeRow))
-    → numbered 1 duties ≡ true → length groups ≡ length duties → t.duty ≡ duties
+    → are_numbered 1 duties ≡ true → length groups ≡ length duties → t.duty ≡ duties
     → t.changes ≡ all_of groups → Follows c t → can_take c duties groups ≡ true
 taken (change.Froze release revision rows new
     changes) t duties groups fresh paired same held follows =
@@ -304,9 +282,9 @@ taken (change.Froze release revision rows new
     let as_many : (length changes == length new) ≡ true = let e : length changes ≡ length new =
     follows.2 in grind (arith, nat_tests) in
     ap (λ (n : ℕ). can_append n new changes) count
-    ∙ and_from (numbered (length t.duty + 1) new)
+    ∙ and_from (are_numbered (length t.duty + 1) new)
     (are_first (length t.duty + 1) changes && (length changes == length new))
-    (numbered_from (length t.duty + 1) new follows.0)
+    follows.0
     (and_from (are_first (length t.duty + 1) changes)
     (length changes == length new) follows.1 as_many)
 taken (change.Moved rows) t duties groups fresh paired same held follows = next_turns t duties
@@ -325,15 +303,15 @@ taken (change.Adopted row) t duties groups fresh paired same held follows = refl
 
 -- what new duties that are taken are
 pub append_numbered : (count : ℕ) (duties : List DutyRow) (changes : List ChangeRow)
-    → can_append count duties changes ≡ true → numbered (count + 1) duties ≡ true
-append_numbered count duties changes e = and_left (numbered (count + 1) duties)
+    → can_append count duties changes ≡ true → are_numbered (count + 1) duties ≡ true
+append_numbered count duties changes e = and_left (are_numbered (count + 1) duties)
     (are_first (count + 1) changes && (length changes == length duties)) e
 
 pub append_first : (count : ℕ) (duties : List DutyRow) (changes : List ChangeRow)
     → can_append count duties changes ≡ true → are_first (count + 1) changes ≡ true
 append_first count duties changes e =
     and_left (are_first (count + 1) changes) (length changes == length duties)
-    (and_right (numbered (count + 1) duties)
+    (and_right (are_numbered (count + 1) duties)
     (are_first (count + 1) changes && (length changes == length duties)) e)
 
 pub append_paired : (count : ℕ) (duties : List DutyRow) (changes : List ChangeRow)
@@ -341,7 +319,7 @@ pub append_paired : (count : ℕ) (duties : List DutyRow) (changes : List Change
 append_paired count duties changes e =
     numbers_equal (length changes) (length duties)
     (and_right (are_first (count + 1) changes) (length changes == length duties)
-    (and_right (numbered (count + 1) duties)
+    (and_right (are_numbered (count + 1) duties)
     (are_first (count + 1) changes && (length changes == length duties)) e))
 
 -- room was made

@@ -11,15 +11,10 @@ use Rattle.desk_model.specs.Tables.{with_duty_state}
 use Rattle.desk_model.specs.declared.row.Standing.{Standing}
 use Rattle.desk_model.specs.declared.command.Change.{Change}
 use Rattle.desk_model.specs.declared.command.Change.TheVariants as change
-use Rattle.desk_access.specs.Follows.{are_first}
+use Rattle.desk_access.specs.Follows.{are_first, are_numbered}
 use Rattle.desk_memory_rows.specs.declared.ledger.Place.{Place}
 use Rattle.desk_model.specs.declared.row.DutyRow.{DutyRow}
 use Rattle.desk_model.specs.declared.row.ChangeRow.{ChangeRow}
-
--- the numbers go up by one, from n
-abbrev pub numbered : ℕ → List DutyRow → Bool
-numbered n [] = true
-numbered n (row ∷ rows) = (row.number == n) && numbered (n + 1) rows
 
 -- the changes of duty n, their steps going up by one from k
 abbrev pub stepped : ℕ → ℕ → List ChangeRow → Bool
@@ -60,7 +55,7 @@ are_in_turn n count all (row ∷ rows) = is_in_turn n count all row
 
 -- duties with the numbers that follow this many, each with its first change
 abbrev pub can_append : ℕ → List DutyRow → List ChangeRow → Bool
-can_append count duties changes = numbered (count + 1) duties
+can_append count duties changes = are_numbered (count + 1) duties
     && (are_first (count + 1) changes && (length changes == length duties))
 
 -- the duties and changes of a change follow these duties and groups

@@ -6,8 +6,8 @@ ghost use Rattle.desk_model.specs.Lists.{put, put_all, updated};
 ghost use Rattle.desk_model.specs.Keys.{is_duty, is_duty_of, is_change_of, change_below};
 ghost use Rattle.desk_model.specs.Tables.{Tables, moved_by, with_duty_state};
 ghost use Rattle.desk_model.specs.Queries.{last_day};
-ghost use Rattle.desk_access.specs.Follows.{Follows, are_first};
-ghost use Rattle.desk_memory_rows.specs.Ledgers.{end_in, ends_in, numbered, grouped, all_of, more_at, pushed, place_of, standing_by, standing_in, are_in_turn, can_append, can_take, is_in_turn, AreSingles, ArePlaces, AreWithin};
+ghost use Rattle.desk_access.specs.Follows.{Follows, are_first, are_numbered};
+ghost use Rattle.desk_memory_rows.specs.Ledgers.{end_in, ends_in, grouped, all_of, more_at, pushed, place_of, standing_by, standing_in, are_in_turn, can_append, can_take, is_in_turn, AreSingles, ArePlaces, AreWithin};
 
 use desk_base::{Day, Items};
 use desk_model::{Change, ChangeRow, DutyRow, DutyState, Fault, Standing};
@@ -22,14 +22,14 @@ pub struct Ledger {
     alloc: Global,
     duties: Vec<DutyRow>,
     groups: Vec<Items<ChangeRow>>,
-    ghost duties_numbered: { numbered 1 duties.items ≡ true },
+    ghost duties_numbered: { are_numbered 1 duties.items ≡ true },
     ghost changes_grouped: { grouped 1 groups.items ≡ true },
     ghost paired: { length groups.items ≡ length duties.items },
 }
 
 /// The duty at a number.
 fn duty_at(rows: &[DutyRow], number: u64) -> Option<&DutyRow>
-    requires { numbered 1 rows.now ≡ true }
+    requires { are_numbered 1 rows.now ≡ true }
     ensures { option_copied result ≡ find (is_duty number) rows.now }
 {
     if number == 0 {
@@ -72,7 +72,7 @@ fn end_of(rows: &[ChangeRow]) -> Option<Day>
 
 /// Whether the numbers of duties go up by one from this number.
 fn is_numbered(first: u64, rows: &[DutyRow]) -> bool
-    ensures { result ≡ numbered first rows.now }
+    ensures { result ≡ are_numbered first rows.now }
 {
     let mut number = first;
     for row in rows {
@@ -86,7 +86,7 @@ fn is_numbered(first: u64, rows: &[DutyRow]) -> bool
 
 fn set_state(rows: &mut Vec<DutyRow>, place: usize, state: DutyState)
     requires place { place < vec_len rows.old }
-    requires numbered { numbered 1 rows.old.items ≡ true }
+    requires numbered { are_numbered 1 rows.old.items ≡ true }
     ensures len { vec_len rows.new ≡ vec_len rows.old }
     ensures state { rows.new.items
         ≡ updated (is_duty (1 + place)) (with_duty_state state) rows.old.items }
@@ -335,7 +335,7 @@ fn push_all(
 
 /// Sets the state of each duty, the last one first.
 fn set_states(rows: &mut Vec<DutyRow>, places: &[Place])
-    requires numbered { numbered 1 rows.old.items ≡ true }
+    requires numbered { are_numbered 1 rows.old.items ≡ true }
     requires within { AreWithin (vec_len rows.old) places.now }
     ensures { rows.new.items ≡ standing_by places.now rows.old.items }
 {

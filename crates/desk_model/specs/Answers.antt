@@ -10,7 +10,7 @@ use Rattle.std.specs.Str.{bytes_eq}
 use Rattle.desk_base.specs.Day.{is_day}
 use Rattle.desk_base.specs.Limits as most
 use Rattle.desk_model.specs.Lists.{or_else}
-use Rattle.desk_model.specs.Texts.{is_before, is_release_name, is_note}
+use Rattle.desk_model.specs.Texts.{is_release_name, is_note}
 use Rattle.desk_model.specs.Readings.{Readings}
 use Rattle.desk_model.specs.Keys.{is_document, has_namespace, is_package, is_attachment, is_adoption_in}
 use Rattle.desk_model.specs.History.{revisions, in_force, rules_in, forms_in, documents, packages}
@@ -20,7 +20,7 @@ use Rattle.desk_model.specs.Conclusions.{licence_for, is_reference, is_plain, ho
 use Rattle.desk_model.specs.Tables.{release_rows, choices}
 use Rattle.desk_model.specs.declared.row.Owed.{Owed}
 use Rattle.desk_model.specs.Raised.{shipped, rule_adopted, chosen_in, owed_at, raised, numbered}
-use Rattle.desk_model.specs.Moves.{duty_at, moves, place, end_after, has_ended}
+use Rattle.desk_model.specs.Moves.{duty_at, moves, place, end_after, has_ended, is_over}
 use Rattle.desk_model.specs.States.{goes_from}
 use Rattle.desk_model.specs.declared.state.Word.{Word}
 use Rattle.desk_model.specs.declared.state.Word.TheVariants as word
@@ -281,10 +281,6 @@ gone _ = None
 -- a duty in a state from which it can't be moved like this
 abbrev pub settled : Word → DutyState → Option Refusal
 settled word state = unless (goes_from word state) (why.DutyState state)
-
--- a waiver with this last day ends before the day
-abbrev pub is_over : List ℕ → Option (List ℕ) → Bool
-is_over day until = option_map_or (λ last. is_before last day) until false
 
 -- what a Meet, a Waive and a Reopen look up: the duty's state, the state of its release, how many
 -- changes it has

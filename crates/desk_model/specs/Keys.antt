@@ -53,11 +53,20 @@ abbrev pub adoption_order : AdoptionRow → AdoptionRow → Ordering
 adoption_order = then_cmp (on (λ row. row.document) nat_cmp)
     (on (λ row. row.reference) (slice_cmp nat_cmp))
 
+abbrev pub extracted_order : ExtractedRow → ExtractedRow → Ordering
+extracted_order = then_cmp (on (λ row. row.document) nat_cmp)
+    (on (λ row. row.reference) (slice_cmp nat_cmp))
+
 abbrev pub change_below : ChangeRow → ChangeRow → Bool
 change_below a b = nat_lt a.duty b.duty || ((a.duty == b.duty) && nat_lt a.step b.step)
 
 abbrev pub is_rule : List ℕ → List ℕ → Rule → Bool
 is_rule term form rule = bytes_eq rule.term term && bytes_eq rule.form form
+
+-- the rule of a revision for a term and a form
+abbrev pub is_rule_at : ℕ → List ℕ → List ℕ → RuleRow → Bool
+is_rule_at revision term form row = (row.revision == revision)
+    && (bytes_eq row.term term && bytes_eq row.form form)
 
 abbrev pub is_revision : ℕ → CatalogueRow → Bool
 is_revision revision row = row.revision == revision

@@ -1,6 +1,6 @@
 -- The moves of a duty, its state, and its changes.
 use Rattle.std.specs.Prelude.{ℕ, ◌+◌, ◌==◌, ◌&&◌, not, nat_lt, nat_le, Bool, false, List, [], ◌∷◌}
-use Rattle.std.specs.Prelude.{◌++◌, length, map, find, Option, Some, None, if◌then◌else◌}
+use Rattle.std.specs.Prelude.{◌++◌, length, map, find, Option, Some, None, is_some, if◌then◌else◌}
 use Rattle.std.specs.List.{flat_map}
 use Rattle.std.specs.Option.{option_map_or}
 use Rattle.std.specs.Str.{bytes_eq}
@@ -28,9 +28,13 @@ abbrev pub end_after : List Move → Option (List ℕ)
 end_after [] = None
 end_after (m ∷ ms) = m.last_day
 
--- a duty is waived, and the waiver's last day is before this one
+-- a waiver with this last day ends before the day
+abbrev pub is_over : List ℕ → Option (List ℕ) → Bool
+is_over day until = option_map_or (λ last. is_before last day) until false
+
+-- a duty is waived, and its waiver ends before the day
 abbrev pub has_ended : List ℕ → DutyState → Option (List ℕ) → Bool
-has_ended day state end = is_waived state && option_map_or (λ last. is_before last day) end false
+has_ended day state end = is_waived state && is_over day end
 
 -- a duty by its number
 abbrev pub duty_at : Readings → List Command → ℕ → Option (ℕ × Owed)
@@ -121,3 +125,7 @@ duties w h = map (λ d. duty_row (place w h d.0) d) (numbered w h)
 -- the changes of all duties, by duty and step
 abbrev pub all_changes : Readings → List Command → List ChangeRow
 all_changes w h = flat_map (λ d. changes w h d.0) (numbered w h)
+
+-- a change is a waiver that ends
+abbrev pub is_waiver : ChangeRow → Bool
+is_waiver row = is_some row.last_day

@@ -1,6 +1,7 @@
 -- The names by which replies and tables show refusals, states, words of changes, limits and the
 -- parts of a catalogue.
-use Rattle.std.specs.Prelude.{ℕ, List, codes}
+use Rattle.std.specs.Prelude.{ℕ, List, [], ◌∷◌, Option, codes, find}
+use Rattle.std.specs.Str.{bytes_eq}
 use Rattle.desk_model.specs.declared.refusal.CataloguePart.{CataloguePart}
 use Rattle.desk_model.specs.declared.refusal.CataloguePart.TheVariants as part
 use Rattle.desk_model.specs.declared.refusal.Limit.{Limit}
@@ -79,3 +80,17 @@ part_name part.Forms = codes "forms"
 part_name part.Duty = codes "duty"
 part_name part.Rule = codes "rule"
 part_name part.Text = codes "text"
+
+-- ---- states and words by their names
+
+abbrev pub release_state_named : List ℕ → Option ReleaseState
+release_state_named text = find (λ state. bytes_eq (release_state_name state) text)
+    (release.IsOpen ∷ release.Frozen ∷ release.Withdrawn ∷ [])
+
+abbrev pub duty_state_named : List ℕ → Option DutyState
+duty_state_named text = find (λ state. bytes_eq (duty_state_name state) text)
+    (duty.IsOpen ∷ duty.Met ∷ duty.Waived ∷ duty.Withdrawn ∷ [])
+
+abbrev pub word_named : List ℕ → Option Word
+word_named text = find (λ word. bytes_eq (word_name word) text)
+    (word.Raised ∷ word.Met ∷ word.Waived ∷ word.Reopened ∷ word.Withdrawn ∷ word.Ended ∷ [])

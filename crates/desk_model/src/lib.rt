@@ -9,6 +9,7 @@
 pub mod bill;
 pub mod command;
 pub mod finding;
+pub mod note;
 pub mod reading;
 pub mod refusal;
 pub mod row;
@@ -20,6 +21,7 @@ pub use command::{
     Query, ReleaseLine, StoreFault, Totals,
 };
 pub use finding::{Finding, FindingKind, MissingField};
+pub use note::is_note;
 pub use reading::{
     Catalogue, Cheapest, Conclusion, Document, LicenceText, ListFault, Package, Profile, Reference,
     Rule, Verdict,

@@ -9,8 +9,8 @@ pub enum ReleaseState {
 }
 
 impl ReleaseState {
-    ghost use Rattle.std.specs.Prelude.{◌≡◌};
-    ghost use Rattle.desk_model.specs.Names.{release_state_name};
+    ghost use Rattle.std.specs.Prelude.{◌≡◌, IfNone, IfSome};
+    ghost use Rattle.desk_model.specs.Names.{release_state_name, release_state_named};
 
     /// The word for the state.
     pub fn name(&self) -> &'static str
@@ -20,6 +20,20 @@ impl ReleaseState {
             ReleaseState::IsOpen => "open",
             ReleaseState::Frozen => "frozen",
             ReleaseState::Withdrawn => "withdrawn",
+        }
+    }
+
+    /// The state with this name, if there is one.
+    pub fn named(text: &str) -> Option<ReleaseState>
+        ensures value { result ≡ release_state_named text.now }
+        ensures some { IfSome result (λ it. text.now ≡ release_state_name it) }
+        ensures none { IfNone result ((it : ReleaseState) → text.now ≡ release_state_name it → ⊥) }
+    {
+        match text {
+            "open" => Some(ReleaseState::IsOpen),
+            "frozen" => Some(ReleaseState::Frozen),
+            "withdrawn" => Some(ReleaseState::Withdrawn),
+            _ => None,
         }
     }
 }
@@ -34,8 +48,8 @@ pub enum DutyState {
 }
 
 impl DutyState {
-    ghost use Rattle.std.specs.Prelude.{◌≡◌};
-    ghost use Rattle.desk_model.specs.Names.{duty_state_name};
+    ghost use Rattle.std.specs.Prelude.{◌≡◌, IfNone, IfSome};
+    ghost use Rattle.desk_model.specs.Names.{duty_state_name, duty_state_named};
 
     /// The word for the state.
     pub fn name(&self) -> &'static str
@@ -46,6 +60,21 @@ impl DutyState {
             DutyState::Met => "met",
             DutyState::Waived => "waived",
             DutyState::Withdrawn => "withdrawn",
+        }
+    }
+
+    /// The state with this name, if there is one.
+    pub fn named(text: &str) -> Option<DutyState>
+        ensures value { result ≡ duty_state_named text.now }
+        ensures some { IfSome result (λ it. text.now ≡ duty_state_name it) }
+        ensures none { IfNone result ((it : DutyState) → text.now ≡ duty_state_name it → ⊥) }
+    {
+        match text {
+            "open" => Some(DutyState::IsOpen),
+            "met" => Some(DutyState::Met),
+            "waived" => Some(DutyState::Waived),
+            "withdrawn" => Some(DutyState::Withdrawn),
+            _ => None,
         }
     }
 }
@@ -63,8 +92,8 @@ pub enum Word {
 }
 
 impl Word {
-    ghost use Rattle.std.specs.Prelude.{◌≡◌};
-    ghost use Rattle.desk_model.specs.Names.{word_name};
+    ghost use Rattle.std.specs.Prelude.{◌≡◌, IfNone, IfSome};
+    ghost use Rattle.desk_model.specs.Names.{word_name, word_named};
     ghost use Rattle.desk_model.specs.States.{state_after};
 
     /// The word as it is printed.
@@ -78,6 +107,23 @@ impl Word {
             Word::Reopened => "reopened",
             Word::Withdrawn => "withdrawn",
             Word::Ended => "ended",
+        }
+    }
+
+    /// The word with this name, if there is one.
+    pub fn named(text: &str) -> Option<Word>
+        ensures value { result ≡ word_named text.now }
+        ensures some { IfSome result (λ it. text.now ≡ word_name it) }
+        ensures none { IfNone result ((it : Word) → text.now ≡ word_name it → ⊥) }
+    {
+        match text {
+            "raised" => Some(Word::Raised),
+            "met" => Some(Word::Met),
+            "waived" => Some(Word::Waived),
+            "reopened" => Some(Word::Reopened),
+            "withdrawn" => Some(Word::Withdrawn),
+            "ended" => Some(Word::Ended),
+            _ => None,
         }
     }
 

@@ -6,14 +6,14 @@ use Rattle.std.specs.List.{list_all}
 use Rattle.std.specs.Option.{option_map, option_map_or}
 use Rattle.std.specs.Str.{bytes_eq}
 use Rattle.desk_base.specs.Day.{is_day}
-use Rattle.desk_model.specs.Names.{duty_state_name, word_name}
+use Rattle.desk_model.specs.Names.{duty_state_name, word_name, word_named}
 use Rattle.desk_model.specs.States.{state_after}
 use Rattle.desk_model.specs.Texts.{is_before, is_note}
 use Rattle.desk_model.specs.declared.state.DutyState.{DutyState}
 use Rattle.desk_model.specs.declared.state.DutyState.TheVariants as stands
 use Rattle.desk_model.specs.declared.state.Word.{Word}
 use Rattle.desk_model.specs.declared.state.Word.TheVariants as word
-use Rattle.desk_snapshot.specs.Rows.{AreFrom, is_change_at, is_change_of, is_waiver_at, word_named}
+use Rattle.desk_snapshot.specs.Rows.{AreFrom, is_change_at, is_change_of, is_waiver_at}
 use Rattle.desk_snapshot.specs.declared.rows.StoredChange.{StoredChange}
 use Rattle.desk_snapshot.specs.declared.rows.StoredDuty.{StoredDuty}
 use Rattle.desk_snapshot.specs.declared.rows.StoredWaiver.{StoredWaiver}

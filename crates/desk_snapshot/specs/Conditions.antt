@@ -14,7 +14,7 @@ use Rattle.desk_base.specs.declared.profile.Profile.{Profile}
 use Rattle.desk_base.specs.declared.profile.Profile.TheVariants.{Capitals, Either}
 use Rattle.desk_model.specs.Conclusions.{conclusion_by}
 use Rattle.desk_model.specs.History.{rules_in}
-use Rattle.desk_model.specs.Names.{release_state_name, duty_state_name}
+use Rattle.desk_model.specs.Names.{release_state_name, duty_state_name, release_state_named}
 use Rattle.desk_model.specs.Readings.{Readings}
 use Rattle.desk_model.specs.declared.reading.Conclusion.{Conclusion}
 use Rattle.desk_model.specs.declared.reading.Document.{Document}
@@ -29,7 +29,7 @@ use Rattle.desk_model.specs.declared.state.ReleaseState.TheVariants as release
 use Rattle.desk_snapshot.specs.Changes.{AreChangesOf, is_waived, is_within}
 use Rattle.desk_snapshot.specs.Rows.{AreFrom, is_attachment, is_choice_in, is_choice_of}
 use Rattle.desk_snapshot.specs.Rows.{is_conclusion, is_frozen_in, is_package, is_reading_of}
-use Rattle.desk_snapshot.specs.Rows.{is_release, is_rule_spelled, release_state_named}
+use Rattle.desk_snapshot.specs.Rows.{is_release, is_rule_spelled}
 use Rattle.desk_snapshot.specs.declared.rows.StoredAdoption.{StoredAdoption}
 use Rattle.desk_snapshot.specs.declared.rows.StoredCatalogue.{StoredCatalogue}
 use Rattle.desk_snapshot.specs.declared.rows.StoredChoice.{StoredChoice}

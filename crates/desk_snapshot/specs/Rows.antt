@@ -1,14 +1,7 @@
 -- Which rows are those of a document, a package, a release, a duty.
-use Rattle.std.specs.Prelude.{◌≡◌, ℕ, ◌+◌, ℤ, pos, ◌&&◌, Bool, List, [], ◌∷◌, Option, find}
+use Rattle.std.specs.Prelude.{◌≡◌, ℕ, ◌+◌, ℤ, pos, ◌&&◌, Bool, List, [], ◌∷◌}
 use Rattle.std.specs.Ordering.{int_eq}
 use Rattle.std.specs.Str.{bytes_eq}
-use Rattle.desk_model.specs.Names.{release_state_name, duty_state_name, word_name}
-use Rattle.desk_model.specs.declared.state.DutyState.{DutyState}
-use Rattle.desk_model.specs.declared.state.DutyState.TheVariants as duty
-use Rattle.desk_model.specs.declared.state.ReleaseState.{ReleaseState}
-use Rattle.desk_model.specs.declared.state.ReleaseState.TheVariants as release
-use Rattle.desk_model.specs.declared.state.Word.{Word}
-use Rattle.desk_model.specs.declared.state.Word.TheVariants as word
 use Rattle.desk_snapshot.specs.declared.rows.StoredAttached.{StoredAttached}
 use Rattle.desk_snapshot.specs.declared.rows.StoredChange.{StoredChange}
 use Rattle.desk_snapshot.specs.declared.rows.StoredChoice.{StoredChoice}
@@ -64,17 +57,3 @@ is_change_at duty step row = int_eq row.duty duty && int_eq row.step step
 
 abbrev pub is_waiver_at : ℤ → ℤ → StoredWaiver → Bool
 is_waiver_at duty step row = int_eq row.duty duty && int_eq row.step step
-
--- States and words, by their texts
-
-abbrev pub release_state_named : List ℕ → Option ReleaseState
-release_state_named text = find (λ state. bytes_eq (release_state_name state) text)
-    (release.IsOpen ∷ release.Frozen ∷ release.Withdrawn ∷ [])
-
-abbrev pub duty_state_named : List ℕ → Option DutyState
-duty_state_named text = find (λ state. bytes_eq (duty_state_name state) text)
-    (duty.IsOpen ∷ duty.Met ∷ duty.Waived ∷ duty.Withdrawn ∷ [])
-
-abbrev pub word_named : List ℕ → Option Word
-word_named text = find (λ word. bytes_eq (word_name word) text)
-    (word.Raised ∷ word.Met ∷ word.Waived ∷ word.Reopened ∷ word.Withdrawn ∷ word.Ended ∷ [])

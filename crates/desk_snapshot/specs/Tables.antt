@@ -1,5 +1,5 @@
 -- The snapshot of tables that a desk holds.
-use Rattle.std.specs.Prelude.{pos, Bool, [], ◌∷◌, map, filter, is_some, unwrap_or, if◌then◌else◌}
+use Rattle.std.specs.Prelude.{pos, [], ◌∷◌, map, filter, unwrap_or, if◌then◌else◌}
 use Rattle.std.specs.List.{join_with_byte}
 use Rattle.desk_base.specs.Profiles.{profile_number}
 use Rattle.desk_model.specs.Names.{release_state_name, duty_state_name, word_name}
@@ -17,6 +17,7 @@ use Rattle.desk_model.specs.declared.row.FrozenRow.{FrozenRow}
 use Rattle.desk_model.specs.declared.row.PackageRow.{PackageRow}
 use Rattle.desk_model.specs.declared.row.ReleaseRow.{ReleaseRow}
 use Rattle.desk_model.specs.declared.row.RuleRow.{RuleRow}
+use Rattle.desk_model.specs.Moves.{is_waiver}
 use Rattle.desk_snapshot.specs.declared.rows.StoredAdoption.{StoredAdoption}
 use Rattle.desk_snapshot.specs.declared.rows.StoredAttached.{StoredAttached}
 use Rattle.desk_snapshot.specs.declared.rows.StoredCatalogue.{StoredCatalogue}
@@ -140,9 +141,6 @@ change_stored row = record {
   word = word_name row.word;
   body = row.body;
 }
-
-abbrev pub is_waiver : ChangeRow → Bool
-is_waiver row = is_some row.last_day
 
 abbrev pub waiver_stored : ChangeRow → StoredWaiver
 waiver_stored row = record {

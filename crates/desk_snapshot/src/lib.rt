@@ -9,6 +9,7 @@
 mod fault;
 mod keys;
 mod listed;
+mod lookups;
 mod orders;
 mod rows;
 mod snapshot;
@@ -18,6 +19,7 @@ pub use keys::{
     ByAttachment, ByChoice, ByDocument, ByDuty, ByFrozen, ByHolder, ById, ByName, ByPackage, ByStep,
 };
 pub use listed::Listed;
+pub use lookups::{last_day_at, profile_at};
 pub use rows::{
     StoredAdoption, StoredAttached, StoredCatalogue, StoredChange, StoredChoice, StoredConclusion,
     StoredDocument, StoredDuty, StoredExtracted, StoredFrozen, StoredMeta, StoredPackage,

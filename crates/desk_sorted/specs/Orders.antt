@@ -1,13 +1,12 @@
 -- The orders of the tables.
-use Rattle.std.specs.Ordering.{nat_cmp, on, then_cmp}
+use Rattle.std.specs.Ordering.{nat_cmp, on}
 use Rattle.std.specs.Cmp.{IsTotalOrder}
 use Rattle.std.specs.Cmp.Lexicographic.{slice_cmp}
 use Rattle.std.specs.declared.cmp.Ordering.{Ordering}
 use Rattle.std.proofs.lemmas.Cmp.{on_total, then_total, nat_list_cmp_total, nat_cmp_total}
-use Rattle.desk_model.specs.Keys.{adoption_order, attached_order, choice_order, conclusion_order}
+use Rattle.desk_model.specs.Keys.{adoption_order, attached_order, choice_order, conclusion_order, extracted_order}
 use Rattle.desk_model.specs.Keys.{frozen_order, package_order}
 use Rattle.desk_model.specs.declared.row.DocumentRow.{DocumentRow}
-use Rattle.desk_model.specs.declared.row.ExtractedRow.{ExtractedRow}
 use Rattle.desk_model.specs.declared.row.ReleaseRow.{ReleaseRow}
 
 abbrev pub document_order : DocumentRow → DocumentRow → Ordering
@@ -15,10 +14,6 @@ document_order = on (λ row. row.number) nat_cmp
 
 abbrev pub release_order : ReleaseRow → ReleaseRow → Ordering
 release_order = on (λ row. row.name) (slice_cmp nat_cmp)
-
-abbrev pub extracted_order : ExtractedRow → ExtractedRow → Ordering
-extracted_order = then_cmp (on (λ row. row.document) nat_cmp)
-    (on (λ row. row.reference) (slice_cmp nat_cmp))
 
 pub document_total : IsTotalOrder document_order
 document_total = on_total (λ row. row.number) nat_cmp_total

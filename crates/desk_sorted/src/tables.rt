@@ -1,7 +1,7 @@
 //! The orders of the tables' rows.
 
-ghost use Rattle.desk_model.specs.Keys.{adoption_order, attached_order, choice_order, conclusion_order, frozen_order, package_order};
-ghost use Rattle.desk_sorted.specs.Orders.{document_order, extracted_order, release_order, document_total, extracted_total, package_total, release_total, attached_total, choice_total, frozen_total, conclusion_total, adoption_total};
+ghost use Rattle.desk_model.specs.Keys.{adoption_order, attached_order, choice_order, conclusion_order, frozen_order, package_order, extracted_order};
+ghost use Rattle.desk_sorted.specs.Orders.{document_order, release_order, document_total, extracted_total, package_total, release_total, attached_total, choice_total, frozen_total, conclusion_total, adoption_total};
 
 use crate::sorted::Keyed;
 use desk_model::{

@@ -9,7 +9,8 @@ use Rattle.sqlite.specs.Effect.{Database, IsDatabase}
 use Rattle.sqlite.specs.State.{State}
 use Rattle.desk_base.specs.Profiles.{profile_number}
 use Rattle.desk_model.specs.Tables.{Tables}
-use Rattle.desk_sql_layout.specs.Cells.{number, is_waiver}
+use Rattle.desk_model.specs.Moves.{is_waiver}
+use Rattle.desk_sql_layout.specs.Cells.{number}
 use Rattle.desk_sql_layout.specs.Held.{AreOrderly, rows_of}
 use Rattle.desk_sql_layout.specs.Layout.{desk_schema, meta_table, document_table, reading_table, waiver_table}
 use Rattle.desk_sql_layout.specs.Stored.{AllStored}

@@ -18,24 +18,8 @@ use Rattle.desk_model.specs.declared.row.FrozenRow.{FrozenRow}
 use Rattle.desk_model.specs.declared.row.PackageRow.{PackageRow}
 use Rattle.desk_model.specs.declared.row.ReleaseRow.{ReleaseRow}
 use Rattle.desk_model.specs.declared.row.RuleRow.{RuleRow}
-use Rattle.desk_sql_layout.specs.Cells.{
-  adoption_cells,
-  attached_cells,
-  catalogue_cells,
-  change_cells,
-  choice_cells,
-  conclusion_cells,
-  document_cells,
-  duty_cells,
-  extracted_cells,
-  frozen_cells,
-  is_waiver,
-  package_cells,
-  reading_cells,
-  release_cells,
-  rule_cells,
-  waiver_cells,
-}
+use Rattle.desk_model.specs.Moves.{is_waiver}
+use Rattle.desk_sql_layout.specs.Cells.{adoption_cells, attached_cells, catalogue_cells, change_cells, choice_cells, conclusion_cells, document_cells, duty_cells, extracted_cells, frozen_cells, package_cells, reading_cells, release_cells, rule_cells, waiver_cells}
 use Rattle.desk_sql_layout.specs.Held.{Holds, rows_of}
 use Rattle.desk_sql_layout.specs.Layout as d
 use Rattle.desk_sql_layout.specs.Stored.{cells}

@@ -1,6 +1,6 @@
 -- The cells of each row, in the order of its table's columns.
 use Rattle.std.specs.Prelude.{ℕ, pos, Bool, not, ◌&&◌, ◌==◌, nat_lt, if◌then◌else◌, List, [], ◌∷◌}
-use Rattle.std.specs.Prelude.{length, Option, is_some}
+use Rattle.std.specs.Prelude.{length, Option}
 use Rattle.std.specs.List.{list_all, join_with_byte}
 use Rattle.sqlite_value.specs.declared.value.Value.{Value}
 use Rattle.sqlite_value.specs.declared.value.Value.TheVariants.{Int, Text, Blob}
@@ -93,10 +93,6 @@ duty_cells row =
 abbrev pub change_cells : ChangeRow → Row
 change_cells row = number row.duty ∷ number row.step ∷ Text row.day ∷ Text (word_name row.word)
     ∷ Text row.body ∷ []
-
--- a change is a waiver that ends
-abbrev pub is_waiver : ChangeRow → Bool
-is_waiver row = is_some row.last_day
 
 -- its last day
 abbrev pub waiver_cells : ChangeRow → Row

@@ -11,6 +11,7 @@ use Rattle.desk_model.specs.Texts.{text_below}
 use Rattle.desk_model.specs.declared.row.PackageRow.{PackageRow}
 use Rattle.desk_model.specs.declared.command.Change.{Change}
 use Rattle.desk_model.specs.declared.command.Change.TheVariants as change
+use Rattle.desk_model.specs.Moves.{is_waiver}
 use Rattle.desk_history.specs.Laws.{Ascends, AreSorted}
 use Rattle.desk_access.specs.Seen.{Seen}
 use Rattle.desk_sql_layout.specs.Layout.{desk_schema, meta_table, catalogue_table, rule_table}
@@ -23,7 +24,7 @@ use Rattle.desk_sql_layout.specs.Cells.{meta_cells, catalogue_cells, rule_cells,
 use Rattle.desk_sql_layout.specs.Cells.{reading_cells, package_cells, extracted_cells}
 use Rattle.desk_sql_layout.specs.Cells.{conclusion_cells, adoption_cells, release_cells}
 use Rattle.desk_sql_layout.specs.Cells.{attached_cells, choice_cells, frozen_cells, duty_cells}
-use Rattle.desk_sql_layout.specs.Cells.{change_cells, is_waiver, waiver_cells, is_word}
+use Rattle.desk_sql_layout.specs.Cells.{change_cells, waiver_cells, is_word}
 
 -- the rows, as cells, of the table with this tree
 abbrev pub rows_of : Tables → ℕ → List Row

@@ -122,12 +122,7 @@ pub fn release_state_at(row: &Row, at: usize) -> Result<ReleaseState, Fault>
         → column row.now at ≡ Words (release_state_name state)
         → IsWritten (column row.now at) → fault ≡ Fault.Memory) }
 {
-    match str_at(row, at)? {
-        "open" => Ok(ReleaseState::IsOpen),
-        "frozen" => Ok(ReleaseState::Frozen),
-        "withdrawn" => Ok(ReleaseState::Withdrawn),
-        _ => Err(ROWS),
-    }
+    ReleaseState::named(str_at(row, at)?).ok_or(ROWS)
 }
 
 /// The state of a duty, by its word.
@@ -137,13 +132,7 @@ pub fn duty_state_at(row: &Row, at: usize) -> Result<DutyState, Fault>
         → column row.now at ≡ Words (duty_state_name state)
         → IsWritten (column row.now at) → fault ≡ Fault.Memory) }
 {
-    match str_at(row, at)? {
-        "open" => Ok(DutyState::IsOpen),
-        "met" => Ok(DutyState::Met),
-        "waived" => Ok(DutyState::Waived),
-        "withdrawn" => Ok(DutyState::Withdrawn),
-        _ => Err(ROWS),
-    }
+    DutyState::named(str_at(row, at)?).ok_or(ROWS)
 }
 
 /// The word for a change.
@@ -153,23 +142,14 @@ pub fn word_at(row: &Row, at: usize) -> Result<Word, Fault>
         → column row.now at ≡ Words (word_name word)
         → IsWritten (column row.now at) → fault ≡ Fault.Memory) }
 {
-    match str_at(row, at)? {
-        "raised" => Ok(Word::Raised),
-        "met" => Ok(Word::Met),
-        "waived" => Ok(Word::Waived),
-        "reopened" => Ok(Word::Reopened),
-        "withdrawn" => Ok(Word::Withdrawn),
-        "ended" => Ok(Word::Ended),
-        _ => Err(ROWS),
-    }
+    Word::named(str_at(row, at)?).ok_or(ROWS)
 }
 
-/// Bytes.
+/// Bytes, whoever wrote them.
 pub fn bytes_at(alloc: Global, row: &Row, at: usize) -> Result<Items<u8>, Fault>
     ensures value { IfOk result (λ bytes. column row.now at ≡ Blob bytes) }
     ensures cause { IfErr result (λ fault. (bytes : List ℕ)
-        → column row.now at ≡ Blob bytes
-        → IsWritten (column row.now at) → fault ≡ Fault.Memory) }
+        → column row.now at ≡ Blob bytes → fault ≡ Fault.Memory) }
 {
     match row.get_ref(at) {
         Ok(ValueRef::Blob(bytes)) => Ok(Items::from_vec(Vec::from_slice(alloc, bytes)?)),

@@ -19,7 +19,8 @@ use Rattle.desk_sql_layout.specs.Shown.{day_cells, number_cells}
 use Rattle.desk_sql_lookup.specs.Steps.{is_change_within}
 use Rattle.desk_model.specs.Keys.{is_change_of}
 use Rattle.desk_model.specs.declared.row.ChangeRow.{ChangeRow}
-use Rattle.desk_sql_layout.specs.Cells.{change_cells, is_waiver, number, text_or_null}
+use Rattle.desk_model.specs.Moves.{is_waiver}
+use Rattle.desk_sql_layout.specs.Cells.{change_cells, number, text_or_null}
 use Rattle.desk_sql_layout.proofs.Casts.{run_test, same, within}
 use Rattle.desk_sql_layout.proofs.Finding.{Finds, FindsRows, finds_all, finds_apart, finds_count}
 use Rattle.desk_sql_layout.proofs.Keyed.{changes_sorted}

@@ -14,9 +14,10 @@ use Rattle.sqlite_sql.specs.Query.{key_cmp}
 use Rattle.sqlite_sql.proofs.QueryLemmas.{key_cmp_total}
 use Rattle.sqlite_rules.specs.Lists.{Has}
 use Rattle.sqlite_rules.proofs.ListLemmas.{has_filtered}
-use Rattle.desk_sql_layout.specs.Cells.{number, text_or_null, is_waiver, waiver_cells}
+use Rattle.desk_sql_layout.specs.Cells.{number, text_or_null, waiver_cells}
 use Rattle.desk_model.specs.Keys.{is_change_of}
 use Rattle.desk_model.specs.declared.row.ChangeRow.{ChangeRow}
+use Rattle.desk_model.specs.Moves.{is_waiver}
 use Rattle.desk_sql_layout.specs.Shown.{EndsOnDay, ending_cells}
 use Rattle.desk_sql_lookup.specs.Waivers.{AreSteps, waivers_in, taken}
 use Rattle.desk_sql_layout.specs.Causes.{HasLastDay, IsRow}

@@ -8,9 +8,8 @@ use Rattle.desk_base.proofs.Texts.{texts_equal}
 use Rattle.sqlite_sql.specs.Term.{col}
 use Rattle.sqlite_tied.specs.Compute.{everything}
 use Rattle.sqlite.specs.Listing.{understood}
-use Rattle.desk_sql_lookup.specs.Rules.{is_rule_at}
 use Rattle.desk_sql_layout.specs.Shown.{is_conclusion_in, text_cells}
-use Rattle.desk_model.specs.Keys.{is_adoption, is_adoption_in, is_conclusion}
+use Rattle.desk_model.specs.Keys.{is_adoption, is_adoption_in, is_conclusion, is_rule_at}
 use Rattle.desk_model.specs.declared.row.AdoptionRow.{AdoptionRow}
 use Rattle.desk_model.specs.declared.row.ConclusionRow.{ConclusionRow}
 use Rattle.desk_model.specs.declared.row.RuleRow.{RuleRow}

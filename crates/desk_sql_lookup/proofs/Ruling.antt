@@ -11,10 +11,10 @@ use Rattle.std.proofs.lemmas.List.Elements.{All-from_recursion}
 use Rattle.std.proofs.lemmas.List.Splits.{slice_split_none, slice_split_at}
 use Rattle.desk_history.specs.FromTables.{rule_of}
 use Rattle.desk_sql_layout.specs.Cells.{is_word, joined, rule_cells}
-use Rattle.desk_model.specs.Keys.{is_rule, is_rule_of}
+use Rattle.desk_model.specs.Keys.{is_rule, is_rule_of, is_rule_at}
 use Rattle.desk_model.specs.declared.reading.Rule.{Rule}
 use Rattle.desk_model.specs.declared.row.RuleRow.{RuleRow}
-use Rattle.desk_sql_lookup.specs.Rules.{are_words, is_rule_at}
+use Rattle.desk_sql_lookup.specs.Rules.{are_words}
 
 pub words_kept : (p : RuleRow → Bool) (rows : List RuleRow) → are_words rows ≡ true
     → are_words (filter p rows) ≡ true

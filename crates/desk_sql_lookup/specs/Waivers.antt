@@ -2,8 +2,8 @@
 use Rattle.std.specs.Prelude.{◌≡◌, ◌==◌, ℕ, false, if◌then◌else◌, List, [], ◌∷◌, map, filter}
 use Rattle.std.specs.Prelude.{Option, Some, None, unwrap_or}
 use Rattle.sqlite_trees.specs.Tree.{IsAscending}
-use Rattle.desk_sql_layout.specs.Cells.{is_waiver}
 use Rattle.desk_model.specs.declared.row.ChangeRow.{ChangeRow}
+use Rattle.desk_model.specs.Moves.{is_waiver}
 use Rattle.desk_sql_layout.specs.declared.rows.Waiver.{Waiver}
 
 -- no two changes have the same step

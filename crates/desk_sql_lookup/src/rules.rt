@@ -7,9 +7,11 @@ ghost use Rattle.desk_history.specs.FromTables.{rule_of, rules_found};
 ghost use Rattle.desk_sql_layout.specs.Cells.{is_word, joined, rule_cells};
 ghost use Rattle.desk_model.specs.History.{rule_for};
 ghost use Rattle.desk_model.specs.declared.row.RuleRow.{RuleRow};
-ghost use Rattle.desk_sql_lookup.specs.Rules.{are_words, is_rule_at, texts};
+ghost use Rattle.desk_model.specs.Keys.{is_rule_at};
+ghost use Rattle.desk_sql_lookup.specs.Rules.{are_words};
 ghost use Rattle.desk_sql_layout.specs.Causes.{IsRow};
 ghost use Rattle.desk_sql_lookup.specs.LookUps.{LooksUp};
+ghost use Rattle.desk_base.specs.Borrowed.{texts};
 
 use desk_base::{Items, Text};
 use desk_model::{Fault, Rule};

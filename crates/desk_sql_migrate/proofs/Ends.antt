@@ -15,7 +15,8 @@ use Rattle.desk_model.specs.Readings.{Readings}
 use Rattle.desk_model.specs.Tables.{Tables}
 use Rattle.desk_model.specs.declared.row.ChangeRow.{ChangeRow}
 use Rattle.desk_model.specs.declared.row.DocumentRow.{DocumentRow}
-use Rattle.desk_sql_layout.specs.Cells.{number, document_cells, reading_cells, is_waiver, waiver_cells}
+use Rattle.desk_model.specs.Moves.{is_waiver}
+use Rattle.desk_sql_layout.specs.Cells.{number, document_cells, reading_cells, waiver_cells}
 use Rattle.desk_sql_layout.specs.Held.{HasRows, Holds, rows_of}
 use Rattle.desk_sql_layout.specs.Layout.{desk_schema}
 use Rattle.desk_sql_layout.specs.Stored.{AllStored}

@@ -12,7 +12,7 @@ use Rattle.sqlite_tied.specs.Compute.{everything}
 use Rattle.sqlite.specs.Listing.{understood}
 use Rattle.desk_history.specs.Laws.{duty_below}
 use Rattle.desk_snapshot.specs.Orders.{change_order, waiver_order}
-use Rattle.desk_snapshot.specs.Tables.{duty_stored, change_stored, waiver_stored, is_waiver}
+use Rattle.desk_snapshot.specs.Tables.{duty_stored, change_stored, waiver_stored}
 use Rattle.desk_sql_layout.proofs.Selects.{order_by}
 use Rattle.desk_sql_scan.specs.Cells.{stored_duty_cells, stored_change_cells, stored_waiver_cells}
 use Rattle.desk_sql_scan.specs.Orders.{duty_order}
@@ -23,6 +23,7 @@ use Rattle.desk_sql_scan.proofs.Waivers.{waivers_are}
 use Rattle.desk_sql_adopt.proofs.Selecting.{IsBareSelect}
 use Rattle.desk_sql_scan.specs.declared.source.Source.{Ghosts}
 use Rattle.desk_sql_scan.proofs.Queries.{TellsRows, read_by_key, read_by_rowid}
+use Rattle.desk_model.specs.Moves.{is_waiver}
 
 -- ---- duty
 

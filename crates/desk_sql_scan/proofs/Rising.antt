@@ -10,11 +10,11 @@ use Rattle.std.proofs.lemmas.Cmp.{on_total, then_total, nat_cmp_total, nat_list_
 use Rattle.std.proofs.lemmas.Int.{ints}
 use Rattle.sqlite_trees.specs.Tree.{IsAscending}
 use Rattle.sqlite_trees.proofs.ListLemmas.{ascending_weaker}
-use Rattle.desk_history.specs.Laws.{Ascends, Rises, rule_row_order, extracted_order}
+use Rattle.desk_history.specs.Laws.{Ascends, Rises, rule_row_order}
 use Rattle.desk_sql_layout.specs.Held.{package_below}
 use Rattle.desk_sql_layout.proofs.Ties.{ascends}
 use Rattle.desk_sql_layout.proofs.Keyed.{lower, two_lower}
-use Rattle.desk_model.specs.Keys.{below_by, attached_order, choice_order, frozen_order}
+use Rattle.desk_model.specs.Keys.{below_by, attached_order, choice_order, frozen_order, extracted_order}
 use Rattle.desk_model.specs.Keys.{conclusion_order, adoption_order, change_below, release_below}
 use Rattle.desk_model.specs.declared.row.AdoptionRow.{AdoptionRow}
 use Rattle.desk_model.specs.declared.row.AttachedRow.{AttachedRow}

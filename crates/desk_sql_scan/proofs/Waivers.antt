@@ -4,7 +4,8 @@ use Rattle.std.specs.Prelude.{is_some, unwrap_or}
 use Rattle.sqlite_value.specs.declared.value.Value.TheVariants.{Text}
 use Rattle.desk_sql_layout.specs.Cells.{text_or_null, waiver_cells}
 use Rattle.desk_model.specs.declared.row.ChangeRow.{ChangeRow}
-use Rattle.desk_snapshot.specs.Tables.{is_waiver, waiver_stored}
+use Rattle.desk_model.specs.Moves.{is_waiver}
+use Rattle.desk_snapshot.specs.Tables.{waiver_stored}
 use Rattle.desk_sql_scan.specs.Cells.{stored_waiver_cells}
 
 day_is : (day : Option (List ℕ)) → is_some day ≡ true → text_or_null day ≡ Text (unwrap_or day [])

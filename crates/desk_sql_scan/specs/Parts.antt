@@ -8,6 +8,7 @@ use Rattle.desk_sql_layout.specs.Layout.{conclusion_table, adoption_table, relea
 use Rattle.desk_sql_layout.specs.Layout.{attached_table, choice_table, frozen_table, duty_table}
 use Rattle.desk_sql_layout.specs.Layout.{change_table, waiver_table}
 use Rattle.desk_model.specs.Tables.{Tables}
+use Rattle.desk_model.specs.Moves.{is_waiver}
 use Rattle.desk_snapshot.specs.Orders.{reading_order, package_order, conclusion_order}
 use Rattle.desk_snapshot.specs.Orders.{release_order, attached_order, choice_order, frozen_order}
 use Rattle.desk_snapshot.specs.Orders.{change_order, waiver_order}
@@ -15,7 +16,7 @@ use Rattle.desk_snapshot.specs.Tables.{catalogue_stored, rule_stored, document_s
 use Rattle.desk_snapshot.specs.Tables.{reading_stored, package_stored, extracted_stored}
 use Rattle.desk_snapshot.specs.Tables.{conclusion_stored, adoption_stored, release_stored}
 use Rattle.desk_snapshot.specs.Tables.{attached_stored, choice_stored, frozen_stored, duty_stored}
-use Rattle.desk_snapshot.specs.Tables.{change_stored, waiver_stored, is_waiver}
+use Rattle.desk_snapshot.specs.Tables.{change_stored, waiver_stored}
 use Rattle.desk_sql_scan.specs.Cells.{stored_meta_cells, stored_catalogue_cells, stored_rule_cells}
 use Rattle.desk_sql_scan.specs.Cells.{stored_document_cells, stored_reading_cells}
 use Rattle.desk_sql_scan.specs.Cells.{stored_package_cells, stored_extracted_cells}

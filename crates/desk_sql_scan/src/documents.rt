@@ -11,13 +11,13 @@ ghost use Rattle.desk_sql_scan.specs.Parts.{HasDocuments, OfDocuments};
 ghost use Rattle.desk_sql_scan.specs.Scanning.{Scans};
 ghost use Rattle.desk_sql_scan.specs.Scans.{IsScan};
 
-use crate::columns::{bytes_at, number_at};
+use crate::columns::number_at;
 use crate::scan::{Stored, items, listed};
 use crate::source::Source;
 use desk_base::Items;
 use desk_model::Fault;
 use desk_snapshot::{Listed, StoredDocument, StoredExtracted, StoredPackage, StoredReading};
-use desk_sql_layout::columns::{text_at, text_or_null_at};
+use desk_sql_layout::columns::{bytes_at, text_at, text_or_null_at};
 use sqlite::Row;
 use std::alloc::Global;
 

@@ -3,12 +3,13 @@
 ghost use Rattle.std.specs.Prelude.{◌≡◌, map, filter};
 ghost use Rattle.desk_sql_layout.specs.Layout.{duty_table, change_table, waiver_table};
 ghost use Rattle.desk_snapshot.specs.Orders.{change_order, waiver_order};
-ghost use Rattle.desk_snapshot.specs.Tables.{duty_stored, change_stored, waiver_stored, is_waiver};
+ghost use Rattle.desk_snapshot.specs.Tables.{duty_stored, change_stored, waiver_stored};
 ghost use Rattle.desk_sql_scan.specs.Cells.{stored_duty_cells, stored_change_cells, stored_waiver_cells};
 ghost use Rattle.desk_sql_scan.specs.Orders.{duty_order};
 ghost use Rattle.desk_sql_scan.specs.Parts.{HasDuties, OfDuties};
 ghost use Rattle.desk_sql_scan.specs.Scanning.{Scans};
 ghost use Rattle.desk_sql_scan.specs.Scans.{IsScan};
+ghost use Rattle.desk_model.specs.Moves.{is_waiver};
 
 use crate::columns::number_at;
 use crate::scan::{Stored, items, listed};

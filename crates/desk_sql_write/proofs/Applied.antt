@@ -44,6 +44,7 @@ use Rattle.desk_model.specs.declared.command.Change.TheVariants.{Loaded, Importe
 use Rattle.desk_model.specs.declared.command.Change.TheVariants.{Chosen, Froze, Moved, Withdrew}
 use Rattle.desk_model.specs.declared.command.Change.TheVariants.{Concluded, Adopted}
 use Rattle.desk_model.specs.declared.command.Fault.{Fault}
+use Rattle.desk_model.specs.Moves.{is_waiver}
 use Rattle.desk_sql_layout.specs.Layout.{desk_schema, catalogue_table, rule_table, conclusion_table}
 use Rattle.desk_sql_layout.specs.Layout.{adoption_table, releases_table, attached_table}
 use Rattle.desk_sql_layout.specs.Layout.{choice_table, frozen_table}
@@ -51,7 +52,7 @@ use Rattle.desk_sql_layout.specs.Stored.{AreStored}
 use Rattle.desk_sql_layout.specs.Cells.{catalogue_cells, rule_cells, document_cells, reading_cells}
 use Rattle.desk_sql_layout.specs.Cells.{package_cells, extracted_cells, duty_cells, release_cells}
 use Rattle.desk_sql_layout.specs.Cells.{attached_cells, choice_cells, frozen_cells, change_cells}
-use Rattle.desk_sql_layout.specs.Cells.{conclusion_cells, adoption_cells, is_waiver, waiver_cells}
+use Rattle.desk_sql_layout.specs.Cells.{conclusion_cells, adoption_cells, waiver_cells}
 use Rattle.desk_sql_layout.specs.Held.{HasRows, rows_of}
 use Rattle.desk_sql_layout.proofs.Writes.{stored_as}
 use Rattle.desk_sql_write.specs.Replacing.{Taking, rows_before, rows_after}

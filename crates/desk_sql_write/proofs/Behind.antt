@@ -14,7 +14,8 @@ use Rattle.sqlite_value.specs.Order.{Row}
 use Rattle.sqlite.specs.State.{State}
 use Rattle.desk_model.specs.declared.command.Fault.{Fault}
 use Rattle.desk_model.specs.declared.row.ChangeRow.{ChangeRow}
-use Rattle.desk_sql_layout.specs.Cells.{is_waiver, waiver_cells}
+use Rattle.desk_model.specs.Moves.{is_waiver}
+use Rattle.desk_sql_layout.specs.Cells.{waiver_cells}
 use Rattle.desk_sql_write.specs.Turning.{Adds, with_rows}
 use Rattle.desk_sql_write.proofs.Extending.{never_extends, table_extends, then_extends}
 use Rattle.desk_sql_write.proofs.Going.{as_turns, more_turns, none_turns}

@@ -16,8 +16,9 @@ use Rattle.desk_model.specs.declared.row.DutyRow.{DutyRow}
 use Rattle.desk_model.specs.declared.row.ExtractedRow.{ExtractedRow}
 use Rattle.desk_model.specs.declared.row.FrozenRow.{FrozenRow}
 use Rattle.desk_model.specs.declared.row.PackageRow.{PackageRow}
+use Rattle.desk_model.specs.Moves.{is_waiver}
 use Rattle.desk_sql_layout.specs.Cells.{package_cells, extracted_cells, frozen_cells, duty_cells}
-use Rattle.desk_sql_layout.specs.Cells.{change_cells, is_waiver, waiver_cells}
+use Rattle.desk_sql_layout.specs.Cells.{change_cells, waiver_cells}
 use Rattle.desk_sql_layout.specs.Held.{rows_of}
 use Rattle.desk_sql_layout.specs.Layout.{desk_schema}
 use Rattle.desk_sql_write.specs.Taking.{CanStand}

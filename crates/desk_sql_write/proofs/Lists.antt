@@ -7,7 +7,7 @@ use Rattle.std.proofs.lemmas.List.Elements.{filter-append}
 use Rattle.std.proofs.Common.{◌≡◌, Bool, true, false, cond, drop, filter, flat_map, map, ℕ}
 use Rattle.std.proofs.Common.{◌<◌, List, [], ◌∷◌, ◌++◌, take, length, get_or, refl, sym}
 use Rattle.desk_model.specs.declared.row.ChangeRow.{ChangeRow}
-use Rattle.desk_sql_layout.specs.Cells.{is_waiver}
+use Rattle.desk_model.specs.Moves.{is_waiver}
 use Rattle.std.proofs.Common.{ap, arith, add-one, length-append, ◌∙◌, ◌+◌}
 
 -- after others, the front and the next item are the longer front

@@ -8,10 +8,11 @@ use Rattle.desk_model.specs.declared.row.PackageRow.{PackageRow}
 use Rattle.desk_model.specs.declared.row.ExtractedRow.{ExtractedRow}
 use Rattle.desk_model.specs.declared.row.DutyRow.{DutyRow}
 use Rattle.desk_model.specs.declared.row.ChangeRow.{ChangeRow}
+use Rattle.desk_model.specs.Moves.{is_waiver}
 use Rattle.desk_sql_layout.specs.Layout.{document_table, package_table, extracted_table, duty_table}
 use Rattle.desk_sql_layout.specs.Layout.{change_table, reading_table, waiver_table}
 use Rattle.desk_sql_layout.specs.Cells.{document_cells, package_cells, extracted_cells, duty_cells}
-use Rattle.desk_sql_layout.specs.Cells.{change_cells, reading_cells, is_waiver, waiver_cells}
+use Rattle.desk_sql_layout.specs.Cells.{change_cells, reading_cells, waiver_cells}
 use Rattle.desk_sql_write.specs.Taking.{FailsOnlyAs}
 use Rattle.desk_sql_write.specs.Written.{WritesAs}
 

@@ -8,12 +8,12 @@ use Rattle.desk_base.specs.declared.profile.Profile.TheVariants.{Capitals}
 use Rattle.desk_expr.specs.declared.fault.ParseFault.{ParseFault}
 use Rattle.desk_expr.specs.declared.term.Term.{Term}
 use Rattle.desk_expr.specs.Tree.{Tree}
-use Rattle.desk_expr.specs.Spelling.{SpellsWithinBy}
+use Rattle.desk_expr.specs.Spelling.{SpellsWithinBy, SpellsNoTerm}
 use Rattle.desk_expr.specs.Meaning.{Holds, CanGo, IsFirst}
 use Rattle.desk_expr.proofs.ParseLemmas.{one_within}
 use Rattle.desk_expr.proofs.TermLemmas.{spells_term_once}
 use Rattle.desk_alts.proofs.Minimal.{holds_more, not_minimal_if_can_go}
-use Rattle.desk_subcommands.specs.Report.{IsBad, IsFirstBad, IsReport, IsVerdict, SpellTerms}
+use Rattle.desk_subcommands.specs.Report.{IsFirstBad, IsReport, IsVerdict, SpellTerms}
 use Rattle.desk_subcommands.specs.Report.{TellsOnce, status_of, text_of}
 use Rattle.desk_subcommands.specs.declared.report.Report.{Report}
 use Rattle.desk_subcommands.specs.declared.report.Report.TheVariants.{Minimal, NotEnough, Superfluous, BadTerm, Fault}
@@ -36,7 +36,7 @@ same_terms (w ∷ ws) (t ∷ ts) (u ∷ us) h k =
 
 -- a word among words that spell terms spells one
 no_bad_within : (front : List (List ℕ)) (bad : List ℕ) (behind : List (List ℕ)) (terms : List Term)
-    → SpellTerms (front ++ bad ∷ behind) terms → IsBad bad → ⊥
+    → SpellTerms (front ++ bad ∷ behind) terms → SpellsNoTerm bad → ⊥
 no_bad_within [] bad behind [] spell is = spell
 no_bad_within [] bad behind (t ∷ ts) spell is = is t spell.0
 no_bad_within (w ∷ front) bad behind [] spell is = spell

@@ -13,9 +13,9 @@ use Rattle.desk_expr.specs.declared.fault.ParseFault.{ParseFault}
 use Rattle.desk_expr.specs.declared.fault.ParseFault.TheVariants.{Memory}
 use Rattle.desk_expr.specs.Tree.{Tree}
 use Rattle.desk_expr.specs.Grammar.{SpellsTree}
-use Rattle.desk_expr.specs.Spelling.{SpellsWithinBy, SpellsTermWithin, IsStopBy}
+use Rattle.desk_expr.specs.Spelling.{SpellsWithinBy, SpellsTermWithin, IsStopBy, SpellsNoTerm}
 use Rattle.desk_expr.proofs.FaultLemmas.{not_memory}
-use Rattle.desk_subcommands.specs.Report.{SpellTerms, IsBad, IsFirstBad, IsReport, IsVerdict, StopsWith}
+use Rattle.desk_subcommands.specs.Report.{SpellTerms, IsFirstBad, IsReport, IsVerdict, StopsWith}
 use Rattle.desk_subcommands.specs.declared.report.Report.{Report}
 use Rattle.desk_subcommands.specs.declared.report.Report.TheVariants.{Minimal, NotEnough, Superfluous, BadTerm, Fault}
 
@@ -59,7 +59,7 @@ spell_next words i d terms term within spell one =
 -- a bad word after words that spell terms is the first bad word
 pub first_bad : (words : List (Bor (List ℕ))) (i : ℕ) (d : Bor (List ℕ)) (terms : List Term)
     → i < length words
-    → SpellTerms (texts (take i words)) terms → IsBad (get_or words i d).now
+    → SpellTerms (texts (take i words)) terms → SpellsNoTerm (get_or words i d).now
     → IsFirstBad (texts words) (get_or words i d).now
 first_bad words i d terms within spell bad =
     let parts : words ≡ take i words ++ get_or words i d ∷ drop (suc i) words =

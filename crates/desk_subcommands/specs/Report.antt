@@ -5,7 +5,7 @@ use Rattle.desk_expr.specs.declared.fault.ParseFault.{ParseFault}
 use Rattle.desk_expr.specs.declared.term.Term.{Term}
 use Rattle.desk_expr.specs.Tree.{Tree}
 use Rattle.desk_expr.specs.Grammar.{SpellsTree}
-use Rattle.desk_expr.specs.Spelling.{SpellsWithinBy, SpellsTermWithin, IsStopBy}
+use Rattle.desk_expr.specs.Spelling.{SpellsWithinBy, SpellsTermWithin, IsStopBy, SpellsNoTerm}
 use Rattle.desk_expr.specs.Faults.{fault_name, fault_number, fault_place}
 use Rattle.desk_expr.specs.Meaning.{Holds, IsMinimal, CanGo, IsFirst}
 use Rattle.desk_subcommands.specs.declared.report.Report.{Report}
@@ -22,15 +22,11 @@ SpellTerms [] (term ∷ more) = ⊥
 SpellTerms (word ∷ words) [] = ⊥
 SpellTerms (word ∷ words) (term ∷ more) = SpellsTermWithin word term × SpellTerms words more
 
--- the word spells no term
-abbrev pub IsBad : List ℕ → Type 0
-IsBad word = (term : Term) → SpellsTermWithin word term → ⊥
-
 -- the first word that spells no term; each word before it spells one
 abbrev pub IsFirstBad : List (List ℕ) → List ℕ → Type 0
 IsFirstBad words bad =
     (front : List (List ℕ)) × (behind : List (List ℕ)) × (words ≡ front ++ bad ∷ behind)
-    × ((terms : List Term) × SpellTerms front terms) × IsBad bad
+    × ((terms : List Term) × SpellTerms front terms) × SpellsNoTerm bad
 
 -- ---- the answer
 

@@ -24,7 +24,7 @@ use Rattle.desk_base.proofs.Bools.{and_left, and_right}
 use Rattle.desk_base.proofs.Texts.{texts_equal}
 
 -- no duty has a number below the first
-updated_none : (change : DutyRow → DutyRow) (q n : ℕ) (rows : List DutyRow)
+pub updated_none : (change : DutyRow → DutyRow) (q n : ℕ) (rows : List DutyRow)
     → are_numbered n rows ≡ true → q < n → updated (is_duty q) change rows ≡ rows
 updated_none change q n [] e below = refl
 updated_none change q n (row ∷ rows) e below =

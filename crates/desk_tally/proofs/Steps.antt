@@ -40,7 +40,7 @@ raised_from n release (row ∷ rows) numbered fresh =
     (and_right (is_duty_of release row && is_open row.state) (are_open_of release rows) fresh))
 
 -- a duty found among duties with the numbers n, n + 1 and so on has one of their numbers
-found_within : (n q : ℕ) (rows : List DutyRow) → are_numbered n rows ≡ true
+pub found_within : (n q : ℕ) (rows : List DutyRow) → are_numbered n rows ≡ true
     → is_some (find (is_duty q) rows) ≡ true → (n ≤ q) × (q < n + length rows)
 found_within n q [] numbered some = absurd (cc)
 found_within n q (row ∷ rows) numbered some =

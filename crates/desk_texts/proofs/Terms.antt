@@ -8,8 +8,8 @@ use denote.Ref.{Bor}
 use Rattle.std.proofs.Math.Seq.{take-suc, drop-cons}
 use Rattle.std.proofs.lemmas.List.{take-append-drop}
 use Rattle.desk_expr.specs.declared.term.Term.{Term}
-use Rattle.desk_expr.specs.Spelling.{SpellsTermWithin}
-use Rattle.desk_texts.specs.Terms.{AreTerms, SpellsNoTerm, behind_with}
+use Rattle.desk_expr.specs.Spelling.{SpellsTermWithin, SpellsNoTerm}
+use Rattle.desk_texts.specs.Terms.{AreTerms, behind_with}
 
 one_more : (texts : List (List ℕ)) (ts : List Term) (text : List ℕ) (t : Term) → AreTerms texts ts
     → SpellsTermWithin text t → AreTerms (texts ++ text ∷ []) (ts ++ t ∷ [])

@@ -5,12 +5,8 @@ use Rattle.std.specs.List.{starts_with}
 use Rattle.desk_base.specs.Idstring.{is_idstring}
 use Rattle.desk_expr.specs.declared.term.Term.{Term}
 use Rattle.desk_tokens.specs.Words.{is_reference, without_plus}
-use Rattle.desk_expr.specs.Spelling.{SpellsTermWithin}
+use Rattle.desk_expr.specs.Spelling.{SpellsTermWithin, SpellsNoTerm}
 use Rattle.desk_fields.specs.Text.{first_word, after_word}
-
--- the text spells no term
-abbrev pub SpellsNoTerm : List ℕ → Type 0
-SpellsNoTerm text = (t : Term) → SpellsTermWithin text t → ⊥
 
 -- the term that a text spells, if it spells one
 abbrev pub IsTerm : List ℕ → Option Term → Type 0

@@ -15,9 +15,8 @@ ghost use Rattle.desk_views.specs.Proposing.{ProposesHeld, document_held, is_doc
 use crate::proposals::{refuse_document, write_proposals};
 use desk_access::texts::Texts;
 use desk_base::{Items, Text};
-use desk_lists::profile_at;
 use desk_model::ReleaseState;
-use desk_snapshot::{ByAttachment, ByPackage, Snapshot, StoredDocument, StoredRelease};
+use desk_snapshot::{ByAttachment, ByPackage, Snapshot, StoredDocument, StoredRelease, profile_at};
 use desk_subcommands::Failure;
 use desk_tagvalue::{Document, Package, read};
 use std::alloc::{AllocError, Global};

@@ -3,10 +3,10 @@ use Rattle.std.specs.Prelude.{slice_index_or}
 use Rattle.desk_model.specs.Tables.{with_duty_state}
 use Rattle.desk_model.specs.declared.state.DutyState.TheVariants.{IsOpen}
 use Rattle.desk_memory_rows.specs.declared.ledger.Place.{Place}
-use Rattle.desk_memory_rows.specs.Ledgers.{numbered}
 use Rattle.desk_memory_rows.proofs.Ledgering.{numbered-updated}
 use Rattle.desk_memory_rows.proofs.Pushing.{set_next}
 use Rattle.desk_memory_rows.proofs.ledger.set_states.Goals as goal
+use Rattle.desk_access.specs.Follows.{are_numbered}
 
 pub loop-left-preserved : goal.loop-left-preserved
 loop-left-preserved c =
@@ -20,7 +20,7 @@ loop-left-preserved c =
     record {
       within = omega (arith, c.loop-left.invariant.within);
       len = c.set_state.ensures.len ∙ c.loop-left.invariant.len;
-      numbers = ap (numbered 1) c.set_state.ensures.state
+      numbers = ap (are_numbered 1) c.set_state.ensures.state
           ∙ numbered-updated (with_duty_state place.state) (λ row. refl) (1 + (place.duty - 1)) 1
           c.loop-left.rows.items c.loop-left.invariant.numbers;
       set = set_next _ places (left - 1) left none c.loop-left.rows.items c.args.rows.now.items

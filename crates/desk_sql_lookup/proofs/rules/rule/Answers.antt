@@ -4,9 +4,8 @@ use Rattle.std.proofs.lemmas.Result.{IfOk-weaker}
 use Rattle.sqlite.specs.Held.{state}
 use Rattle.desk_history.specs.FromTables.{rule_of, rules_found}
 use Rattle.desk_model.specs.History.{rule_for}
-use Rattle.desk_model.specs.Keys.{is_rule, is_rule_of}
+use Rattle.desk_model.specs.Keys.{is_rule, is_rule_of, is_rule_at}
 use Rattle.desk_sql_layout.specs.Cells.{rule_cells}
-use Rattle.desk_sql_lookup.specs.Rules.{is_rule_at}
 use Rattle.desk_sql_layout.proofs.Causes.{filter_written, rows_cause}
 use Rattle.desk_sql_lookup.proofs.LookUps.{then_tells}
 use Rattle.desk_sql_lookup.proofs.Ruling.{rule_is}

@@ -2,10 +2,11 @@ use Rattle.std.proofs.Common.{◌≡◌, filter, map, true}
 use Rattle.desk_sql_layout.specs.Cells.{rule_cells}
 use Rattle.desk_sql_layout.proofs.Finding.{finds_more}
 use Rattle.desk_sql_lookup.proofs.OfficeQueries.{rule_finds}
-use Rattle.desk_sql_lookup.specs.Rules.{are_words, is_rule_at}
+use Rattle.desk_sql_lookup.specs.Rules.{are_words}
 use Rattle.desk_sql_lookup.proofs.Ruling.{words_kept}
 use Rattle.desk_sql_lookup.proofs.LookUps.{query_finds}
 use Rattle.desk_sql_lookup.proofs.rules.select_rule.Goals as goal
+use Rattle.desk_model.specs.Keys.{is_rule_at}
 
 pub returns : goal.returns
 returns g c =

@@ -1,7 +1,7 @@
 use Rattle.std.proofs.Common.{ap, sym, ◌∙◌}
-use Rattle.desk_sql_lookup.specs.Rules.{texts}
 use Rattle.desk_sql_lookup.proofs.Ruling.{empty_is, none_joined, split_some}
 use Rattle.desk_sql_lookup.proofs.rules.words_of.Goals as goal
+use Rattle.desk_base.specs.Borrowed.{texts}
 
 pub returns-then-is_empty : goal.returns-then-is_empty
 returns-then-is_empty c = λ xs words is. c.new.ensures

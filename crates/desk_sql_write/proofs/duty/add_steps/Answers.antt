@@ -1,8 +1,9 @@
 use Rattle.std.proofs.Common.{filter, map, arith}
-use Rattle.desk_sql_layout.specs.Cells.{is_waiver, waiver_cells}
+use Rattle.desk_sql_layout.specs.Cells.{waiver_cells}
 use Rattle.desk_sql_write.proofs.Behind.{waivers_put}
 use Rattle.desk_sql_write.proofs.Extending.{never_extends, then_extends, table_extends}
 use Rattle.desk_sql_write.proofs.duty.add_steps.Goals as goal
+use Rattle.desk_model.specs.Moves.{is_waiver}
 
 pub returns-clause-adds : goal.returns-clause-adds
 returns-clause-adds g c =

@@ -1,8 +1,8 @@
 use Rattle.std.proofs.Common.{◌≡◌, ◌∙◌, ◌<◌, ℕ, List, [], ◌∷◌, ◌++◌, length, take, sym, subst, arith}
 use Rattle.std.proofs.lemmas.List.{length-take-le, take_all}
 use Rattle.desk_expr.specs.declared.term.Term.{Term}
-use Rattle.desk_expr.specs.Spelling.{SpellsTermWithin}
-use Rattle.desk_texts.specs.Terms.{AreTerms, IsTerm, SpellsNoTerm}
+use Rattle.desk_expr.specs.Spelling.{SpellsTermWithin, SpellsNoTerm}
+use Rattle.desk_texts.specs.Terms.{AreTerms, IsTerm}
 use Rattle.desk_texts.proofs.Terms.{bad_term, next_term, terms_length}
 use Rattle.desk_texts.proofs.ChoiceLemmas.{kept_few, slot_within}
 use Rattle.desk_texts.proofs.choice.kept_of.Goals as goal

@@ -2,8 +2,8 @@ use Rattle.std.proofs.Common.{◌≡◌, ◌∙◌, ◌+◌, ◌++◌, ap, arith
 use Rattle.std.specs.Prelude.{is_ok, if◌then◌else◌}
 use Rattle.desk_model.specs.declared.row.ChangeRow.{ChangeRow}
 use Rattle.desk_model.specs.declared.row.DutyRow.{DutyRow}
-use Rattle.desk_access.specs.Follows.{are_first}
-use Rattle.desk_memory_rows.specs.Ledgers.{numbered, grouped, AreSingles}
+use Rattle.desk_access.specs.Follows.{are_first, are_numbered}
+use Rattle.desk_memory_rows.specs.Ledgers.{grouped, AreSingles}
 use Rattle.desk_memory_rows.proofs.Ledgering.{numbered_either, grouped-append}
 use Rattle.desk_memory_rows.proofs.Turns.{append_numbered, append_first, append_paired, had_room}
 use Rattle.desk_memory_rows.proofs.ledger.Ledger.append.Goals as goal
@@ -15,8 +15,8 @@ invariant_of-self-2 c =
     let more : List DutyRow = c.args.duties.items in
     let groups : List (List ChangeRow) = self.groups.items in
     let changes : List ChangeRow = c.args.changes.items in
-    let fresh : numbered (1 + length old) more ≡ true =
-    ap (λ (n : ℕ). numbered n more) (let e : 1 + length old ≡ length old + 1 = omega arith in e)
+    let fresh : are_numbered (1 + length old) more ≡ true =
+    ap (λ (n : ℕ). are_numbered n more) (let e : 1 + length old ≡ length old + 1 = omega arith in e)
     ∙ append_numbered (length old) more changes c.requires in
     let first : are_first (1 + length groups) changes ≡ true =
     ap (λ (n : ℕ). are_first n changes)
@@ -31,8 +31,8 @@ invariant_of-self-2 c =
     c.append-2.ensures.items ∙ ap (λ (b : Bool). if b then c.reserve.new.self.items ++ more
     else c.reserve.new.self.items) room in
     record {
-      duties_numbered = ap (numbered 1) c.append-2.ensures.items
-          ∙ (ap (λ (rows : List DutyRow). numbered 1
+      duties_numbered = ap (are_numbered 1) c.append-2.ensures.items
+          ∙ (ap (λ (rows : List DutyRow). are_numbered 1
           (if is_ok c.append-2.result then rows ++ more else rows)) c.in_ok-reserve.ensures.items
           ∙ numbered_either (is_ok c.append-2.result) old more self.duties_numbered fresh);
       changes_grouped = ap (grouped 1) c.in_ok-append.ensures.items

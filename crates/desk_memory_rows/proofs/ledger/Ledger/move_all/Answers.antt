@@ -2,10 +2,11 @@ use Rattle.std.proofs.Common.{◌≡◌, ◌∙◌, ap, sym, arith, length, map,
 use Rattle.desk_model.specs.Tables.{moved_by}
 use Rattle.desk_model.specs.declared.row.DutyRow.{DutyRow}
 use Rattle.desk_memory_rows.specs.declared.ledger.Place.{Place}
-use Rattle.desk_memory_rows.specs.Ledgers.{all_of, numbered, place_of, standing_by}
+use Rattle.desk_memory_rows.specs.Ledgers.{all_of, place_of, standing_by}
 use Rattle.desk_memory_rows.proofs.Pushing.{standing_moved, numbered-standing}
 use Rattle.desk_memory_rows.proofs.Turns.{length-standing, within_places}
 use Rattle.desk_memory_rows.proofs.ledger.Ledger.move_all.Goals as goal
+use Rattle.desk_access.specs.Follows.{are_numbered}
 
 pub push_all-requires-clause-places : goal.push_all-requires-clause-places
 push_all-requires-clause-places c =
@@ -47,7 +48,7 @@ invariant_of-self-2 c =
     let groups = c.push_all.new.groups in
     let rows = c.set_states.new.rows in
     record {
-      duties_numbered = ap (numbered 1) c.set_states.ensures
+      duties_numbered = ap (are_numbered 1) c.set_states.ensures
           ∙ numbered-standing c.as_slice-3.result.now 1 self.duties.items self.duties_numbered;
       changes_grouped = c.in_ok-push_all.ensures.grouped;
       paired = omega (
