@@ -1,14 +1,11 @@
 -- The cells of rows within the limits, with short texts, are small and as a desk writes them.
-use Rattle.std.proofs.Common.{◌≡◌, ℕ, ◌^◌, ◌<◌, ◌≤◌, Bool, true, false, List, [], ◌∷◌, length, map}
+use Rattle.std.proofs.Common.{◌≡◌, ℕ, ◌^◌, ◌≤◌, Bool, true, false, List, [], ◌∷◌, length, map}
 use Rattle.std.proofs.Common.{filter, Option, Some, None, refl, subst, arith, inl, inr}
-use Rattle.std.specs.Prelude.{All, codes, IfSome, IsTrue, IsUtf8, ◌==◌, if◌then◌else◌, nat_lt}
+use Rattle.std.specs.Prelude.{codes, IfSome, IsTrue, IsUtf8, ◌==◌, if◌then◌else◌, nat_lt}
 use Rattle.std.specs.List.{AllByRecursion, list_all}
 use Rattle.std.proofs.lemmas.Str.{IsUtf8-from_ascii}
-use Rattle.std.proofs.lemmas.Str.Ascii.{IsAscii-from_all}
-use Rattle.std.proofs.lemmas.Bool.Decides.{nat_tests}
-use Rattle.std.proofs.lemmas.List.Elements.{All-nil, All-cons}
-use Rattle.desk_base.proofs.Bools.{and_left, and_right}
-use Rattle.desk_base.proofs.Days.{ten_bytes}
+use Rattle.desk_base.proofs.Days.{ten_bytes, written_day_is_text}
+use Rattle.desk_base.proofs.Texts.{are_ascii}
 use Rattle.sqlite_value.specs.declared.value.Value.{Value}
 use Rattle.sqlite_value.specs.declared.value.Value.TheVariants.{Text}
 use Rattle.sqlite_value.specs.Order.{Row}
@@ -27,12 +24,13 @@ use Rattle.desk_model.specs.declared.state.ReleaseState.{ReleaseState}
 use Rattle.desk_model.specs.declared.state.ReleaseState.TheVariants as release
 use Rattle.desk_model.specs.declared.state.Word.{Word}
 use Rattle.desk_model.specs.declared.state.Word.TheVariants as word
+use Rattle.desk_model.specs.Moves.{is_waiver}
 use Rattle.desk_history_laws.specs.OwnKeys.{HaveOwnKeys}
 use Rattle.desk_history_laws.specs.Within.{AreWithin}
 use Rattle.desk_sql_layout.specs.Cells.{adoption_cells, attached_cells, catalogue_cells}
 use Rattle.desk_sql_layout.specs.Cells.{change_cells, choice_cells, conclusion_cells}
 use Rattle.desk_sql_layout.specs.Cells.{document_cells, duty_cells, extracted_cells, frozen_cells}
-use Rattle.desk_sql_layout.specs.Cells.{is_waiver, meta_cells, number, package_cells, reading_cells}
+use Rattle.desk_sql_layout.specs.Cells.{meta_cells, number, package_cells, reading_cells}
 use Rattle.desk_sql_layout.specs.Cells.{release_cells, rule_cells, text_or_null, waiver_cells}
 use Rattle.desk_sql_layout.specs.Held.{rows_of}
 use Rattle.desk_sql_layout.specs.Layout.{desk_schema}
@@ -68,42 +66,11 @@ shipped_fits : (b : Bool) → Fits (number (if b then 1 else 0))
 shipped_fits true = (omega arith, omega arith)
 shipped_fits false = (omega arith, omega arith)
 
-ascii : (bs : List ℕ) → list_all (λ b. nat_lt b 128) bs ≡ true → All (λ b. b < 128) bs
-ascii [] e = All-nil (λ b. b < 128)
-ascii (b ∷ bs) e =
-    All-cons (λ b. b < 128) b bs (let it : nat_lt b 128 ≡ true =
-    and_left (nat_lt b 128) (list_all (λ b. nat_lt b 128) bs) e in grind (arith, nat_tests))
-    (ascii bs (and_right (nat_lt b 128) (list_all (λ b. nat_lt b 128) bs) e))
-
 plain : (bs : List ℕ) → list_all (λ b. nat_lt b 128) bs ≡ true → IsUtf8 bs
-plain bs e = IsUtf8-from_ascii bs (IsAscii-from_all bs (ascii bs e))
+plain bs e = IsUtf8-from_ascii bs (are_ascii bs e)
 
 day_short : (day : List ℕ) → IsTrue (is_day day) → IsShort day
-day_short [] is = absurd (omega (arith, ten_bytes [] is))
-day_short (y ∷ []) is = absurd (omega (arith, ten_bytes (y ∷ []) is))
-day_short (y ∷ e ∷ []) is = absurd (omega (arith, ten_bytes (y ∷ e ∷ []) is))
-day_short (y ∷ e ∷ a ∷ []) is = absurd (omega (arith, ten_bytes (y ∷ e ∷ a ∷ []) is))
-day_short (y ∷ e ∷ a ∷ r ∷ []) is = absurd (omega (arith, ten_bytes (y ∷ e ∷ a ∷ r ∷ []) is))
-day_short (y ∷ e ∷ a ∷ r ∷ f ∷ []) is = absurd
-    (omega (arith, ten_bytes (y ∷ e ∷ a ∷ r ∷ f ∷ []) is))
-day_short (y ∷ e ∷ a ∷ r ∷ f ∷ m
-    ∷ []) is = absurd (omega (arith, ten_bytes (y ∷ e ∷ a ∷ r ∷ f ∷ m ∷ []) is))
-day_short (y ∷ e ∷ a ∷ r ∷ f ∷ m ∷ n
-    ∷ []) is = absurd (omega (arith, ten_bytes (y ∷ e ∷ a ∷ r ∷ f ∷ m ∷ n ∷ []) is))
-day_short (y ∷ e ∷ a ∷ r ∷ f ∷ m ∷ n ∷ s
-    ∷ []) is = absurd (omega (arith, ten_bytes (y ∷ e ∷ a ∷ r ∷ f ∷ m ∷ n ∷ s ∷ []) is))
-day_short (y ∷ e ∷ a ∷ r ∷ f ∷ m ∷ n ∷ s ∷ d
-    ∷ []) is = absurd (omega (arith, ten_bytes (y ∷ e ∷ a ∷ r ∷ f ∷ m ∷ n ∷ s ∷ d ∷ []) is))
-day_short (y ∷ e ∷ a ∷ r ∷ f ∷ m ∷ n ∷ s ∷ d ∷ c ∷ []) is = (
-  plain (y ∷ e ∷ a ∷ r ∷ f ∷ m ∷ n ∷ s ∷ d ∷ c ∷ []) (below is),
-  omega arith,
-)
-  where
-    below : IsTrue (is_day (y ∷ e ∷ a ∷ r ∷ f ∷ m ∷ n ∷ s ∷ d ∷ c ∷ []))
-        → list_all (λ b. nat_lt b 128) (y ∷ e ∷ a ∷ r ∷ f ∷ m ∷ n ∷ s ∷ d ∷ c ∷ []) ≡ true
-    below is = grind (arith, nat_tests)
-day_short (y ∷ e ∷ a ∷ r ∷ f ∷ m ∷ n ∷ s ∷ d ∷ c ∷ x
-    ∷ xs) is = absurd (omega (arith, ten_bytes (y ∷ e ∷ a ∷ r ∷ f ∷ m ∷ n ∷ s ∷ d ∷ c ∷ x ∷ xs) is))
+day_short day is = (written_day_is_text day is, omega (arith, ten_bytes day is))
 
 release_fits : (s : ReleaseState) → Fits (Text (release_state_name s))
 release_fits release.IsOpen = (omega arith, plain (codes "open") refl)

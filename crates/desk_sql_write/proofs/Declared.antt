@@ -1,12 +1,11 @@
 -- Declaring tables one after another.
-use Rattle.std.proofs.Common.{◌≡◌, ◌∙◌, inl, inr, ℕ, zero, suc, ◌+◌, ◌*◌, ◌^◌, ◌<◌, ◌≤◌, true}
+use Rattle.std.proofs.Common.{◌≡◌, ◌∙◌, inl, inr, ℕ, suc, ◌+◌, ◌*◌, ◌^◌, ◌<◌, ◌≤◌, true}
 use Rattle.std.proofs.Common.{false, not, length, codes, Option, IsTrue, IfErr, refl, arith, List}
 use Rattle.std.proofs.Common.{[], ◌∷◌, ◌++◌, map, None, Some, drop, slice_get, Ok, Err, Result, sym}
 use Rattle.std.proofs.Common.{ap, subst, add-one, drop-cons}
-use Rattle.std.specs.Prelude.{nat_lt, IsUtf8, IsAscii}
+use Rattle.std.specs.Prelude.{nat_lt, IsUtf8}
 use Rattle.std.proofs.lemmas.Str.{IsUtf8-from_ascii}
-use Rattle.std.specs.List.{AllByRecursion, list_all}
-use Rattle.std.proofs.lemmas.Bool.{and_parts}
+use Rattle.std.specs.List.{AllByRecursion}
 use Rattle.std.proofs.lemmas.Bool.Decides.{nat_tests}
 use Rattle.sqlite_value.specs.declared.value.Value.TheVariants.{Text}
 use Rattle.sqlite_schema.specs.declared.schema.Index.{Index}
@@ -46,6 +45,7 @@ use Rattle.desk_sql_layout.specs.Faults.{fault_by}
 use Rattle.desk_sql_write.specs.Written.{Ran}
 use Rattle.desk_sql_layout.proofs.Steps.{same_value, went}
 use Rattle.desk_sql_layout.proofs.Clean.{clean_before}
+use Rattle.desk_base.proofs.Texts.{are_ascii}
 
 pub creates : (text : List ℕ) (table : Table) (schema : Schema) (old new : State) (count : ℕ)
     → Declares text table schema → old.now.schema ≡ schema → Executes text [] old new (Ok count)
@@ -151,14 +151,6 @@ went_on texts k text a b c (Err fault) at done is before ran clean = absurd (cc)
 
 -- ---- a text that can be accepted is never refused
 
-ascii : (text : List ℕ) → list_all (λ byte. nat_lt byte 128) text ≡ true → IsAscii text
-ascii [] all i = omega arith
-ascii (b ∷ text) all zero = let here =
-    (and_parts (nat_lt b 128) (list_all (λ byte. nat_lt byte 128) text) all).0 in
-    grind (arith, nat_tests)
-ascii (b ∷ text) all (suc i) = ascii text
-    (and_parts (nat_lt b 128) (list_all (λ byte. nat_lt byte 128) text) all).1 i
-
 module _ (text : List ℕ) (table : Table) (schema : Schema) (d : Declares text table schema)
     (t : IsTaken text table schema) where
   one : (other : Table) → table_defined_by text ≡ Ok other → other ≡ table
@@ -180,7 +172,7 @@ module _ (text : List ℕ) (table : Table) (schema : Schema) (d : Declares text 
       absurd (let no = rw used at free in cc)
   never BadName (other, is, inl wrong) = wrong
       (subst (λ (o : Table). IsUtf8 o.name) (sym (one other is))
-      (IsUtf8-from_ascii table.name (ascii table.name t.named)))
+      (IsUtf8-from_ascii table.name (are_ascii table.name t.named)))
   never BadName (other, is, inr reserved) = absurd (let no = sym t.own
       ∙ subst (λ (o : Table). is_reserved o.name ≡ true) (one other is) reserved.0 in cc)
   never TooBig (other, is, inl many) = low (next_tree schema + length table.uniques) 65536 t.few
@@ -211,7 +203,7 @@ module _ (text : List ℕ) (table : Table) (schema : Schema) (d : Declares text 
       t.small (subst (λ (o : Table). 10 ^ 9 ≤ 2 * length o.name + length text + 200) (one other is)
       long)
   no_table db has (Some e) (inl (wrong, told)) = wrong
-      (IsUtf8-from_ascii text (ascii text t.written))
+      (IsUtf8-from_ascii text (are_ascii text t.written))
   no_table db has (Some e) (inr (why, refused, told)) = never why
       (subst (λ s. RefusesTable s text why) has refused)
 
