@@ -8,5 +8,6 @@ pub mod Numbers
 pub mod Texts
 pub mod Pieces
 pub mod Results
+pub mod Shown
 pub mod SetLemmas
 pub mod SortedOnce

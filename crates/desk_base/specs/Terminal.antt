@@ -1,29 +1,14 @@
--- Texts as a terminal shows them. 63 is `?`, and the bytes 194 and 128 to 159 are a control
--- character from U+0080 to U+009F (UTF-8, RFC 3629).
-use Rattle.std.specs.Prelude.{ℕ, ◌==◌, ◌||◌, ◌&&◌, nat_lt, Bool, true, false}
-use Rattle.std.specs.Prelude.{List, [], ◌∷◌, ◌++◌, if◌then◌else◌}
+-- Texts as a terminal shows them. Control characters are those of the general category Cc (The
+-- Unicode Standard, 4.5): U+0000 to U+001F and U+007F to U+009F.
+use Rattle.std.specs.Prelude.{ℕ, List, codes, if◌then◌else◌}
+use Rattle.std.specs.Char.{encode_utf8, is_control}
+use Rattle.std.specs.List.{flat_map}
+use Rattle.std.specs.Str.{chars}
 
--- a question mark for a control byte
-abbrev pub shown_byte : ℕ → ℕ
-shown_byte b = if nat_lt b 32 || b == 127 then 63 else b
+-- a question mark for a control character
+abbrev pub shown_char : ℕ → List ℕ
+shown_char c = if is_control c then codes "?" else encode_utf8 c
 
--- a byte 194 that waits for what follows it
-abbrev pub held : Bool → List ℕ
-held true = 194 ∷ []
-held false = []
-
--- what is shown for a byte, whether a 194 waits before it or not
-abbrev pub shown_at : Bool → ℕ → List ℕ
-shown_at lead b =
-    if b == 194 then held lead
-    else (if lead && (nat_lt 127 b && nat_lt b 160) then 63 ∷ []
-    else held lead ++ shown_byte b ∷ [])
-
-abbrev pub shown_behind : Bool → List ℕ → List ℕ
-shown_behind lead [] = held lead
-shown_behind lead (b ∷ bs) = shown_at lead b ++ shown_behind (b == 194) bs
-
--- a question mark for each control character, so that a text can't end its line or change a
--- terminal
-abbrev pub shown : List ℕ → List ℕ
-shown text = shown_behind false text
+-- each character as a terminal shows it, so that a text can't end its line or change a terminal
+unfoldable pub shown : List ℕ → List ℕ
+shown text = flat_map shown_char (chars text)

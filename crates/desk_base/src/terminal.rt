@@ -1,43 +1,22 @@
 //! Texts as a terminal shows them.
 
-ghost use Rattle.std.specs.Prelude.{◌≡◌, ◌++◌, OnOk};
-ghost use Rattle.desk_base.specs.Terminal.{shown_byte, held, shown_at, shown};
+ghost use Rattle.std.specs.Prelude.{◌≡◌, ◌++◌, ℕ, List, OnOk, IsUtf8, chars, false, length};
+ghost use Rattle.std.specs.Char.{is_control};
+ghost use Rattle.std.specs.List.{list_any};
+ghost use Rattle.desk_base.specs.Terminal.{shown_char, shown};
 
 use std::alloc::AllocError;
 
-// The first byte of control characters from U+0080 on, and of other characters.
-const LEAD: u8 = 194;
-
-// A byte, or a question mark instead of a control byte.
-fn shown_byte(byte: u8) -> u8
-    ensures { result ≡ shown_byte byte }
+// Adds a character, or a question mark instead of a control character.
+fn add_char(bytes: &mut Vec<u8>, ch: char) -> Result<(), AllocError>
+    ensures { OnOk result (bytes.new.items ≡ bytes.old.items ++ shown_char ch) }
 {
-    if byte < 32 || byte == 127 { b'?' } else { byte }
-}
-
-// Adds the first byte, if one waits.
-fn add_held(bytes: &mut Vec<u8>, lead: bool) -> Result<(), AllocError>
-    ensures { OnOk result (bytes.new.items ≡ bytes.old.items ++ held lead) }
-{
-    if lead {
-        bytes.push(LEAD)?;
-    }
-    Ok(())
-}
-
-// Adds what is shown for a byte.
-fn add_at(bytes: &mut Vec<u8>, lead: bool, byte: u8) -> Result<(), AllocError>
-    ensures { OnOk result (bytes.new.items ≡ bytes.old.items ++ shown_at lead byte) }
-{
-    if byte == LEAD {
-        return add_held(bytes, lead);
-    }
-    if lead && (byte > 127 && byte < 160) {
+    if ch.is_control() {
         bytes.push(b'?')?;
-        return Ok(());
+    } else {
+        let mut buffer = [0; 4];
+        bytes.extend_from_slice(ch.encode_utf8(&mut buffer).as_bytes())?;
     }
-    add_held(bytes, lead)?;
-    bytes.push(shown_byte(byte))?;
     Ok(())
 }
 
@@ -46,10 +25,19 @@ fn add_at(bytes: &mut Vec<u8>, lead: bool, byte: u8) -> Result<(), AllocError>
 pub fn add_shown(bytes: &mut Vec<u8>, text: &str) -> Result<(), AllocError>
     ensures { OnOk result (bytes.new.items ≡ bytes.old.items ++ shown text.now) }
 {
-    let mut lead = false;
-    for byte in text.as_bytes() {
-        add_at(bytes, lead, *byte)?;
-        lead = *byte == LEAD;
+    for ch in text.chars() {
+        add_char(bytes, ch)?;
     }
-    add_held(bytes, lead)
+    Ok(())
 }
+
+/// What is shown of a text has as many characters as the text, and none is a control character. A
+/// text that has none is shown as it is.
+pub fn shown_texts_are_inert()
+    ensures hidden { (text : List ℕ) → IsUtf8 text
+        → list_any is_control (chars (shown text)) ≡ false }
+    ensures length { (text : List ℕ) → IsUtf8 text
+        → length (chars (shown text)) ≡ length (chars text) }
+    ensures same { (text : List ℕ) → IsUtf8 text
+        → list_any is_control (chars text) ≡ false → shown text ≡ text }
+{}

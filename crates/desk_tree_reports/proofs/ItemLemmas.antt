@@ -1,7 +1,7 @@
 -- Rows and their parts, as lines and as the items of a JSON array.
 use Rattle.std.proofs.Common.{◌≡◌, ◌∙◌, ℕ, List, [], ◌∷◌, ◌++◌, false, map, ap, sym, refl, append_assoc, Option}
-use Rattle.std.proofs.Common.{Some, None}
-use Rattle.std.specs.Prelude.{codes, decimal, option_map}
+use Rattle.std.proofs.Common.{Some, None, IsUtf8}
+use Rattle.std.specs.Prelude.{IfSome, codes, decimal, option_map}
 use Rattle.std.proofs.lemmas.List.{append-nil}
 use Rattle.std.proofs.lemmas.List.Concat.{flat_map-append}
 use denote.Ref.{Bor}
@@ -24,7 +24,7 @@ use Rattle.desk_tree_reports.specs.Reports.{json_text}
 use Rattle.desk_tree_problems.specs.Rows.{kind_name, named_words, text_words, missing_row}
 use Rattle.desk_tree_reports.specs.Telling.{rows_text}
 use Rattle.desk_tree_reports.specs.Ways.{rendered}
-use Rattle.desk_tree_reports.proofs.ShownLemmas.{shown_parts}
+use Rattle.desk_tree_reports.proofs.ShownLemmas.{front_shown, message_shown, shown_parts}
 use Rattle.desk_tree_reports.proofs.TellingLemmas.{items_are}
 
 -- ---- an item up to its path
@@ -108,18 +108,21 @@ missing_item_is name =
     ∙ sym (append_assoc (escape (id ++ (named ++ words))) (34 ∷ [])
     (codes ",\"path\":\"LICENSES/\"}")))
 
-pub missing_line_is : (name : Name) → (codes "LICENSES/: no text of " ++ shown name.id)
+pub missing_line_is : (name : Name) → IsUtf8 name.id → IfSome name.path IsUtf8
+    → (codes "LICENSES/: no text of " ++ shown name.id)
     ++ (share_text (option_map (rendered way.NamedLine) name.path)
     ++ (shown (text_words name.id) ++ codes "\n"))
     ≡ row_line (missing_row name)
-missing_line_is name =
+missing_line_is name id_text path_text =
     let id = name.id in
     let named = share_text (option_map (rendered way.NamedLine) name.path) in
     let words = shown (text_words id) in
     ap (λ l. codes "LICENSES/: no text of " ++ l)
     (ap (λ l. shown id ++ l) (sym (append_assoc named words (codes "\n")))
     ∙ sym (append_assoc (shown id) (named ++ words) (codes "\n"))
-    ∙ ap (λ l. l ++ codes "\n") (sym (shown_parts id name.path)))
+    ∙ ap (λ l. l ++ codes "\n") (sym (shown_parts id name.path id_text path_text)))
+    ∙ sym (λ i. front_shown i ++ (codes ": "
+    ++ (message_shown (id ++ (named_words name.path ++ text_words id)) i ++ codes "\n")))
 
 -- what is kept of the file that names a licence
 pub named_is : (w : Way) (path : Option (Bor (List ℕ)))

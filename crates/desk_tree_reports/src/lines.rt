@@ -1,6 +1,7 @@
 //! The lines of rows.
 
-ghost use Rattle.std.specs.Prelude.{◌≡◌, ◌++◌, IfOk, codes};
+ghost use Rattle.std.specs.Prelude.{◌≡◌, ◌++◌, IfOk, codes, true};
+ghost use Rattle.std.specs.Str.{is_utf8};
 ghost use Rattle.std.specs.String.{string_bytes};
 ghost use Rattle.desk_base.specs.Terminal.{shown};
 ghost use Rattle.desk_tree_reports.specs.Lines.{place, has_line};
@@ -41,7 +42,9 @@ pub(crate) fn behind_path(alloc: Global, row: &Row) -> Result<Vec<u8>, AllocErro
 
 /// The line of a text that is missing up to the words about the file that names it.
 pub(crate) fn missing_front(alloc: Global, id: &str) -> Result<Vec<u8>, AllocError>
-    ensures { IfOk result (λ bytes. bytes.items ≡ codes "LICENSES/: no text of " ++ shown id.now) }
+    ensures bytes { IfOk result
+        (λ bytes. bytes.items ≡ codes "LICENSES/: no text of " ++ shown id.now) }
+    ensures text { is_utf8 id.now ≡ true }
 {
     let mut bytes = String::from_str(alloc, "LICENSES/: no text of ")?.into_bytes();
     add_shown(&mut bytes, id)?;

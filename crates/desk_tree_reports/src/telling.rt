@@ -1,7 +1,8 @@
 //! The rows of problems, added to a text: each row is dropped once it is written.
 
-ghost use Rattle.std.specs.Prelude.{◌≡◌, ◌++◌, ◌∷◌, [], List, false, codes, IfOk, OnOk, map, option_map};
+ghost use Rattle.std.specs.Prelude.{◌≡◌, ◌++◌, ◌∷◌, [], List, false, true, codes, IfOk, IfSome, OnOk, map, option_map};
 ghost use Rattle.std.specs.List.{flat_map};
+ghost use Rattle.std.specs.Str.{is_utf8};
 ghost use Rattle.serde_json.specs.Written.{comma_if};
 ghost use Rattle.desk_tree_lint.specs.Shown.{name_at};
 ghost use Rattle.desk_tree_problems.specs.declared.row.Row.{Row};
@@ -112,16 +113,23 @@ impl Telling {
         Ok(())
     }
 
-    // Adds what is written of the file that names a licence, if one does.
+    // Adds what is written of the file that names a licence.
+    fn add_naming(&mut self, alloc: Global, way: Way, path: &str) -> Result<(), AllocError>
+        ensures grown { OnOk result (self.new.text ≡ self.old.text ++ rendered way path.now) }
+        ensures text { is_utf8 path.now ≡ true }
+    {
+        let share = share_of(alloc, &mut self.named, way, path)?;
+        self.text.add_shared(alloc, share)
+    }
+
+    // The same, if one does.
     fn add_named(&mut self, alloc: Global, way: Way, path: Option<&str>) -> Result<(), AllocError>
-        ensures { OnOk result (self.new.text ≡ self.old.text
+        ensures grown { OnOk result (self.new.text ≡ self.old.text
             ++ share_text (option_map (λ p. rendered way p.now) path.entry)) }
+        ensures text { IfSome path.entry (λ p. is_utf8 p.now ≡ true) }
     {
         match path {
-            Some(path) => {
-                let share = share_of(alloc, &mut self.named, way, path)?;
-                self.text.add_shared(alloc, share)
-            }
+            Some(path) => self.add_naming(alloc, way, path),
             None => Ok(()),
         }
     }

@@ -1,8 +1,8 @@
-use Rattle.std.proofs.Common.{◌≡◌, ◌++◌, drop}
-use Rattle.desk_base.specs.Terminal.{shown_behind, shown}
+use Rattle.std.proofs.Common.{◌≡◌, ◌++◌}
+use Rattle.std.specs.List.{flat_map}
+use Rattle.desk_base.specs.Terminal.{shown_char}
 use Rattle.desk_base.proofs.terminal.add_shown.Given as goal
 
--- what was added, and what is still to be shown, is all
-abbrev pub invariant-loop-byte : goal.invariant-loop-byte
-invariant-loop-byte l = l.bytes.items ++ shown_behind l.lead (drop l.byte-index l.text)
-    ≡ l.initial.bytes.items ++ shown l.text
+-- each character so far
+abbrev pub invariant-loop-ch : goal.invariant-loop-ch
+invariant-loop-ch l = l.bytes.items ≡ l.initial.bytes.items ++ flat_map shown_char l.yielded

@@ -17,7 +17,7 @@ returns c =
     let first = c.in_ok-add_shared.ensures ∙ ap (λ l. old ++ l) c.in_ok-front.ensures in
     let second = c.in_ok-add.ensures
     ∙ (λ j. first j ++ (c.as_slice.ensures.value ∙ c.in_ok-id.ensures) j) in
-    let third = c.in_ok-add_named.ensures
+    let third = c.in_ok-add_named.ensures.grown
     ∙ (λ j. second j ++ named_is NamedItem c.args.name.path j) in
     let fourth = c.in_ok-add-2.ensures ∙ (λ j. third j ++ words j) in
     on_ok_weaker c.add_shared-2.result (λ grown. grown
