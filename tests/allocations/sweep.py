@@ -1,7 +1,8 @@
 """Refuses each allocation of the program in turn: python3 tests/allocations/sweep.py PROGRAM
 
 The scripts, the checks, the listings and the trees are those of the acceptance cases of at most 16 KiB or 100 files, and the documents in
-JSON those of tests/convert. For each N the program runs once with its Nth allocation refused, until a run makes fewer. Then
+JSON those of tests/convert. Each allocation of a run is refused once: the program forks there (`refuse.c`), and a copy of it goes on without
+that memory. A run over a file isn't forked; it is made anew for each N with its Nth allocation refused, until it makes fewer. Then
 
 - a check or a listing tells its answer with its status, or nothing with status 3 and its words;
 - a text of a desk in a file (notices, the table of duties, totals, changes, a page, a list, what is wanting, choices, proposals) is written
@@ -63,6 +64,7 @@ class Program:
     def __init__(self, path, library, room):
         self.path, self.library, self.told = path, library, os.path.join(room, "refused")
         self.folder = os.path.join(room, "folder")
+        self.streams = [os.path.join(room, name) for name in ("in", "out", "err")]
         os.mkdir(self.folder)
 
     def stand_in(self, data, script):
@@ -86,6 +88,26 @@ class Program:
         self.clear()
         done = subprocess.run([self.path, *words], input=text, capture_output=True, env=self.env(refused), cwd=self.folder, check=False)
         return done.stdout, done.returncode, done.stderr, os.path.exists(self.told)
+
+    def refusals(self, words, text):
+        """Standard output and the status of a run; and of each allocation in it the number, with standard output, the status and standard
+        error of the copy that went on without it."""
+        self.clear()
+        with open(self.streams[0], "wb") as file:
+            file.write(text)
+        env = {"LD_PRELOAD": self.library, "REFUSE_FROM": "1", "REFUSED": self.told}
+        with open(self.streams[0], "rb") as given, open(self.streams[1], "w+b") as out, open(self.streams[2], "w+b") as err:
+            done = subprocess.run([self.path, *words], stdin=given, stdout=out, stderr=err, env=env, cwd=self.folder, check=False)
+            out.seek(0)
+            return (out.read(), done.returncode), self.copies()
+
+    def copies(self):
+        """What each copy of the last run came to."""
+        with open(self.told, "rb") as file:
+            while head := file.readline():
+                number, status, out, err = map(int, head.split())
+                stdout, stderr = file.read(out), file.read(err)
+                yield number, stdout, os.waitstatus_to_exitcode(status), stderr
 
     def serve(self, requests, refused=0):
         """The same of a desk that is served, with its replies in the place of standard output, if it comes to listen."""
@@ -255,8 +277,23 @@ def kind_of(words):
     return Shown if "--db" in words and words[0] != "script" else KINDS[words[0]]
 
 
-def sweep(program, name, words, text, first=1):
-    """How many allocations were refused, from the first one on."""
+def sweep(program, name, words, text):
+    """How many allocations of a run were refused."""
+    run = kind_of(words)(program, words, text)
+    whole, copies = program.refusals(words, text)
+    if whole != run.whole:
+        sys.exit(f"{name}: another answer of the run that was copied")
+    number = 0
+    for number, stdout, status, stderr in copies:
+        if not run.is_right(stdout, status, stderr):
+            sys.exit(f"{name}: allocation {number}: status {status}, {stdout[-200:]!r}, {stderr[:200]!r}")
+    if run.untold():
+        sys.exit(f"{name}: no want of memory was told for the requests {run.untold()}")
+    return number
+
+
+def sweep_on_file(program, name, words, text, first=1):
+    """How many allocations of a run over a file were refused, from the first one on."""
     run = kind_of(words)(program, words, text)
     refused = first
     while True:
@@ -471,10 +508,10 @@ def main():
             words = program.stand_in(data, script) or words
             if program.files() > FILES:
                 continue
-            swept, runs = swept + 1, runs + sweep(program, name, words, text)
+            swept, runs = swept + 1, runs + (sweep_on_file if "--db" in words else sweep)(program, name, words, text)
         program.stand_in(None, None)
         for words in texts(program):
-            swept, runs = swept + 1, runs + sweep(program, words[0], words, b"", first_of_texts(program, words))
+            swept, runs = swept + 1, runs + sweep_on_file(program, words[0], words, b"", first_of_texts(program, words))
         for count in sweep_files(program):
             swept, runs = swept + 1, runs + count
         swept, runs = swept + 1, runs + sweep_connections(program)
