@@ -81,6 +81,8 @@ def spent():
 
 
 def main():
+    if len(sys.argv) > 1:
+        sys.exit(__doc__)
     os.chdir(TOP)
     start, seconds = time.time(), {}
     for number, (what, words) in enumerate(STEPS, 1):
