@@ -213,6 +213,10 @@ agrees_fails (Err other) flaws y fault h is =
     let same : gather_fault h.0 ≡ fault = cc in
     ap Err (sym h.3 ∙ same)
 
+pub no_fault : (flaws : List Flaw) → first_fault flaws ≡ None → flaws ≡ []
+no_fault [] none = refl
+no_fault (flaw ∷ more) none = absurd cc
+
 tree_found_at : (r : Reader) (files : List SourceFile) (infos : List FileInfo)
     (tree : Read (List SourceFile)) → tree_of files ≡ tree
     → then_read tree (λ t. then_read (tomls_of r t) (infos_of r t)) ≡ Ok infos

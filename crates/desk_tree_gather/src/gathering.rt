@@ -1,14 +1,15 @@
 //! What is gathered from a tree.
 
-ghost use Rattle.std.specs.Prelude.{◌≡◌, ◌⊎◌, IfOk, IfErr, Ok, Err, alloc_error, map};
+ghost use Rattle.std.specs.Prelude.{◌≡◌, ◌⊎◌, [], IfOk, IfErr, Ok, Err, alloc_error, map};
 ghost use Rattle.desk_model.specs.Texts.{sorted_set};
 ghost use Rattle.desk_tree_annotations.specs.Tags.{tag_text};
 ghost use Rattle.desk_tree_infos.specs.Information.{given};
 ghost use Rattle.desk_tree_infos.specs.Readers.{Reader, IsRightReader};
 ghost use Rattle.desk_tree_infos.specs.Sharing.{annotations_at, all_texts, info_at};
+ghost use Rattle.desk_tree_gather.specs.Blanks.{blanks_in};
 ghost use Rattle.desk_tree_gather.specs.Gathering.{bad_line, stated_in, values, info_with, gathered};
 ghost use Rattle.desk_tree_gather.specs.Shown.{Gives, stated_of, tree_in};
-ghost use Rattle.desk_tree_gather.specs.Survey.{gather_fault, first_fault};
+ghost use Rattle.desk_tree_gather.specs.Survey.{gather_fault, first_fault, kept};
 ghost use Rattle.desk_tree_gather.specs.Trees.{tree_of};
 
 use crate::fault::GatherFault;
@@ -140,6 +141,9 @@ pub fn gathered<'a>(
         → IfOk result (Gives (gathered r files.now) (λ s. s.infos)) }
     ensures tree { (r : Reader) → IsRightReader r
         → IfOk result (λ x. IfOk x (λ s. tree_of files.now ≡ Ok (tree_in s.tree))) }
+    ensures flaws { IfOk result (λ x. IfOk x (λ s. s.flaws ≡ [])) }
+    ensures blanks { (r : Reader) → IsRightReader r
+        → IfOk result (λ x. IfOk x (λ s. s.blanks ≡ blanks_in r.reading (kept files.now))) }
 {
     let surveyed = survey(alloc, files)?;
     match first_fault(alloc, surveyed.flaws.as_slice())? {

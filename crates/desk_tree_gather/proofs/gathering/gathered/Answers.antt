@@ -1,7 +1,7 @@
 use Rattle.std.proofs.Common.{◌≡◌, ◌∙◌, ap, sym}
 use Rattle.desk_tree_gather.specs.Gathering.{gathered}
 use Rattle.desk_tree_gather.specs.Survey.{first_fault, flaws_of, infos_sifted, kept}
-use Rattle.desk_tree_gather.proofs.SurveyLaws.{agrees_fails, agrees_found, gathered_agrees, tree_found}
+use Rattle.desk_tree_gather.proofs.SurveyLaws.{agrees_fails, agrees_found, gathered_agrees, no_fault, tree_found}
 use Rattle.desk_tree_gather.proofs.gathering.gathered.Goals as goal
 use Rattle.std.specs.Prelude.{Ok}
 
@@ -31,3 +31,7 @@ returns-clause-tree c = λ r right.
     (ap first_fault (sym (c.as_slice.ensures ∙ c.in_ok-surveyed.ensures.flaws r right))
     ∙ sym c.in_ok-fault.ensures ∙ c.in-None.is))
     ∙ ap Ok (sym c.in_ok-surveyed.ensures.tree)
+
+pub returns-clause-flaws : goal.returns-clause-flaws
+returns-clause-flaws c = no_fault c.in_ok-surveyed.surveyed.flaws
+    (ap first_fault (sym c.as_slice.ensures) ∙ sym c.in_ok-fault.ensures ∙ c.in-None.is)
