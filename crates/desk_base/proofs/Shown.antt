@@ -1,12 +1,11 @@
 -- What a text is as a terminal shows it.
-use Rattle.std.proofs.Common.{◌≡◌, ◌∙◌, ℕ, Bool, true, false, cond, List, [], ◌∷◌, ◌++◌, length, map, IsUtf8}
+use Rattle.std.proofs.Common.{◌≡◌, ◌∙◌, ℕ, Bool, true, false, cond, List, [], ◌∷◌, ◌++◌, map, IsUtf8}
 use Rattle.std.proofs.Common.{ap, refl, codes}
 use Rattle.std.specs.Prelude.{◌||◌}
 use Rattle.std.specs.Char.{encode_utf8, is_control}
 use Rattle.std.specs.List.{flat_map, list_any}
 use Rattle.std.specs.Str.{chars}
 use Rattle.std.proofs.lemmas.Bool.{and_from}
-use Rattle.std.proofs.lemmas.List.{length-map}
 use Rattle.std.proofs.lemmas.Str.{chars-encodes, encodes-chars, scalars-chars}
 use lib.Utf8.{encodes, scalar, scalars}
 use Rattle.desk_base.specs.Terminal.{shown, shown_char}
@@ -37,7 +36,7 @@ scalars_for (c ∷ cs) is =
     (one_scalar c (is_control c) (and_left (scalar c) (scalars cs) is))
     (scalars_for cs (and_right (scalar c) (scalars cs) is))
 
-shown_chars : (text : List ℕ) → IsUtf8 text → chars (shown text) ≡ map char_for (chars text)
+pub shown_chars : (text : List ℕ) → IsUtf8 text → chars (shown text) ≡ map char_for (chars text)
 unfolding shown
 shown_chars text utf8 =
     ap chars (encoding_of (chars text))
@@ -54,10 +53,6 @@ all_hidden (c ∷ cs) = λ i. one_hidden c (is_control c) refl i || all_hidden c
 -- no control character is left
 pub hidden : (text : List ℕ) → IsUtf8 text → list_any is_control (chars (shown text)) ≡ false
 hidden text utf8 = ap (list_any is_control) (shown_chars text utf8) ∙ all_hidden (chars text)
-
--- no character is lost
-pub as_many : (text : List ℕ) → IsUtf8 text → length (chars (shown text)) ≡ length (chars text)
-as_many text utf8 = ap length (shown_chars text utf8) ∙ length-map (chars text) char_for
 
 all_same : (cs : List ℕ) → list_any is_control cs ≡ false → map char_for cs ≡ cs
 all_same [] none = refl

@@ -1,6 +1,6 @@
 //! Texts as a terminal shows them.
 
-ghost use Rattle.std.specs.Prelude.{◌≡◌, ◌++◌, ℕ, List, OnOk, IsUtf8, chars, false, length};
+ghost use Rattle.std.specs.Prelude.{◌≡◌, ◌++◌, ℕ, List, OnOk, IsUtf8, chars, false, map, if◌then◌else◌};
 ghost use Rattle.std.specs.Char.{is_control};
 ghost use Rattle.std.specs.List.{list_any};
 ghost use Rattle.desk_base.specs.Terminal.{shown_char, shown};
@@ -31,13 +31,13 @@ pub fn add_shown(bytes: &mut Vec<u8>, text: &str) -> Result<(), AllocError>
     Ok(())
 }
 
-/// What is shown of a text has as many characters as the text, and none is a control character. A
-/// text that has none is shown as it is.
+/// What is shown of a text are its characters, with a question mark for each control character, so
+/// that none of these is left. A text that has none is shown as it is.
 pub fn shown_texts_are_inert()
+    ensures each { (text : List ℕ) → IsUtf8 text
+        → chars (shown text) ≡ map (λ c. if is_control c then 63 else c) (chars text) }
     ensures hidden { (text : List ℕ) → IsUtf8 text
         → list_any is_control (chars (shown text)) ≡ false }
-    ensures length { (text : List ℕ) → IsUtf8 text
-        → length (chars (shown text)) ≡ length (chars text) }
     ensures same { (text : List ℕ) → IsUtf8 text
         → list_any is_control (chars text) ≡ false → shown text ≡ text }
 {}

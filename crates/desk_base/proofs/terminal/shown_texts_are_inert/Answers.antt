@@ -1,5 +1,5 @@
-use Rattle.desk_base.proofs.Shown.{as_many, hidden, same}
+use Rattle.desk_base.proofs.Shown.{hidden, same, shown_chars}
 use Rattle.desk_base.proofs.terminal.shown_texts_are_inert.Goals as goal
 
 pub returns : goal.returns
-returns c = record { hidden = hidden; length = as_many; same = same }
+returns c = record { each = shown_chars; hidden = hidden; same = same }
