@@ -23,7 +23,7 @@ pub(crate) struct Listed<'a> {
 
 impl Listed<'_> {
     // The place that is noted for a term, if it is one of the expression's terms.
-    fn noted(self, term: &Term) -> Option<usize>
+    fn noted_place(self, term: &Term) -> Option<usize>
         requires { IsNoted self.chosen.now self.own.now self.places.now }
         ensures there { IfSome result (λ place. place < length self.entry.chosen.now
             → slice_get self.entry.chosen.now place ≡ Some term.now) }
@@ -39,7 +39,7 @@ impl Listed<'_> {
         requires { IsNoted self.chosen.now self.own.now self.places.now }
         ensures { IsTrue result ↔ Contains self.entry.chosen.now term.now }
     {
-        match self.noted(term) {
+        match self.noted_place(term) {
             Some(place) => place < self.chosen.len(),
             None => contains(self.chosen, term),
         }
@@ -51,7 +51,7 @@ impl Listed<'_> {
         requires within { place < length self.chosen.now }
         ensures { IsTrue result → IsCopy self.entry.chosen.now place }
     {
-        match self.noted(&self.chosen[place]) {
+        match self.noted_place(&self.chosen[place]) {
             Some(first) => first < place,
             None => false,
         }

@@ -25,7 +25,7 @@ impl Union {
     pub(crate) fn of(one: Mask, other: Mask) -> Union
         ensures { result.mask ≡ united one other }
     {
-        let mask = one.united(other);
+        let mask = one.union_with(other);
         Union {
             size: mask.low.count_ones() + mask.high.count_ones(),
             mask,
@@ -69,7 +69,7 @@ impl Mask {
         is_within(self.low, other.low) && is_within(self.high, other.high)
     }
 
-    pub(crate) fn united(self, other: Mask) -> Mask
+    pub(crate) fn union_with(self, other: Mask) -> Mask
         ensures { result ≡ united self other }
     {
         Mask {

@@ -7,7 +7,7 @@ ghost use Rattle.desk_snapshot.specs.Conditions.{AreDuties, is_ruled, owed_by, o
 ghost use Rattle.desk_snapshot.specs.Reports.{IsFirst};
 ghost use Rattle.desk_snapshot.specs.declared.fault.AuditFault.TheVariants.{BadDuty};
 
-use crate::owed::{are_alike, owed_by_all, owed_of_all, sorted};
+use crate::owed::{are_alike, owed_by_all, owed_of_all, sort_owed};
 use crate::rules::Ruling;
 use desk_snapshot::{AuditFault, Snapshot};
 use std::alloc::{AllocError, Global};
@@ -32,8 +32,8 @@ fn are_owed(alloc: Global, ruling: &Ruling<'_>) -> Result<bool, AllocError>
     let Some(owed) = owed_by_all(alloc, ruling, rows, duties.len())? else {
         return Ok(false);
     };
-    let owed = sorted(owed);
-    let told = sorted(owed_of_all(alloc, duties)?);
+    let owed = sort_owed(owed);
+    let told = sort_owed(owed_of_all(alloc, duties)?);
     Ok(are_alike(&owed, &told))
 }
 

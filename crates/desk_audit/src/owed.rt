@@ -167,7 +167,7 @@ pub(crate) fn owed_of_all(
 }
 
 /// The same in the order of what is owed.
-pub(crate) fn sorted(mut owed: Vec<OwedFor<'_>>) -> Vec<OwedFor<'_>>
+pub(crate) fn sort_owed(mut owed: Vec<OwedFor<'_>>) -> Vec<OwedFor<'_>>
     ensures permutation { IsPermutation owed.entry.items result.items }
     ensures sorted { IsSorted (λ x y. owed_order (owed_in x) (owed_in y)) result.items }
 {

@@ -19,7 +19,7 @@ use crate::arrows::Arrow;
 use crate::codes::verification_code;
 use crate::places::Places;
 use crate::{Contents, Elements};
-use desk_fields::{skip_blanks, trimmed};
+use desk_fields::{skip_blanks, trim};
 use desk_tagvalue::{Document, FileEntry, Package, all_hex, behind};
 use hex::FromHex;
 use std::alloc::{AllocError, Global};
@@ -56,7 +56,7 @@ fn plain(name: &str) -> &str
 }
 
 // What is between `(` and `)`.
-fn listed(text: &str) -> Option<&str>
+fn list_inside(text: &str) -> Option<&str>
     ensures none { IfNone result (is_list text.now ≡ false) }
     ensures some { IfSome result (λ inner. is_list text.now ≡ true) }
     ensures inner { IfSome result (λ inner. inner.now ≡ inner_of text.now) }
@@ -97,7 +97,7 @@ fn code_field(value: &str) -> Option<CodeField<'_>>
             names: None,
         });
     }
-    match listed(skip_blanks(rest)) {
+    match list_inside(skip_blanks(rest)) {
         Some(inner) => Some(CodeField {
             digits,
             names: Some(names_in(inner)),
@@ -128,7 +128,7 @@ fn names_of<'a>(alloc: Global, parts: &[&'a str]) -> Result<Vec<&'a str>, AllocE
 {
     let mut names = Vec::with_capacity(alloc, parts.len())?;
     for part in parts {
-        names.push(plain(trimmed(part)))?;
+        names.push(plain(trim(part)))?;
     }
     Ok(names)
 }

@@ -102,7 +102,7 @@ pub(crate) fn add_rule(rules: &mut BTreeMap<Subject, Said>, rule: Rule) -> Resul
 }
 
 // The rules of a map, in its order.
-fn listed(
+fn rules_in_order(
     alloc: Global,
     rules: BTreeMap<Subject, Said>,
     count: usize,
@@ -131,7 +131,7 @@ pub(crate) fn rules_in(
     ensures { IfOk result (λ ordered. ordered ≡ rules_in rules) }
 {
     let count = rules.len();
-    let rules = listed(alloc, rules, count)?;
+    let rules = rules_in_order(alloc, rules, count)?;
     Ok(OrderedRules::of(rules))
 }
 

@@ -20,7 +20,7 @@ use desk_model::{
     Change, ChangeRow, DutyRow, DutyState, Fault, Limit, Move, Plan, Refusal, ReleaseState, Word,
     is_note,
 };
-use desk_packages::{done, refused};
+use desk_packages::{make, refuse};
 use std::alloc::{AllocError, Global};
 
 /// The day that a text is, if it is one.
@@ -31,7 +31,7 @@ pub(crate) fn read_day(text: &Text) -> Option<Day>
     Day::parse(text.as_str())
 }
 
-pub(crate) fn gone(state: ReleaseState) -> Option<Refusal>
+pub(crate) fn refusal_if_gone(state: ReleaseState) -> Option<Refusal>
     ensures { result ≡ gone state }
 {
     match state {
@@ -50,7 +50,7 @@ fn goes_from(word: Word, state: DutyState) -> bool
     }
 }
 
-fn settled(word: Word, state: DutyState) -> Option<Refusal>
+fn refusal_if_settled(word: Word, state: DutyState) -> Option<Refusal>
     ensures { result ≡ settled word state }
 {
     if goes_from(word, state) {
@@ -169,10 +169,10 @@ fn next_step<S: Store>(
     ensures kept { Looked (S.seen store.old) (S.seen store.new) result }
     ensures fault { IfErr result (MayFail S.tells) }
 {
-    if let Some(refusal) = gone(release_state(store, &row.release)?) {
+    if let Some(refusal) = refusal_if_gone(release_state(store, &row.release)?) {
         return Ok(Err(refusal));
     }
-    if let Some(refusal) = settled(word, row.state) {
+    if let Some(refusal) = refusal_if_settled(word, row.state) {
         return Ok(Err(refusal));
     }
     let steps = store.steps(u64::from(row.number))?;
@@ -197,8 +197,8 @@ fn move_found<S: Store>(
     ensures fault { IfErr result (MayFail S.tells) }
 {
     match next_step(store, made.word, row)? {
-        Ok(step) => Ok(done(one_change(alloc, row.number, step, made)?)),
-        Err(refusal) => Ok(refused(refusal)),
+        Ok(step) => Ok(make(one_change(alloc, row.number, step, made)?)),
+        Err(refusal) => Ok(refuse(refusal)),
     }
 }
 
@@ -216,7 +216,7 @@ fn move_numbered<S: Store>(
     ensures fault { IfErr result (MayFail S.tells) }
 {
     let Some(row) = store.duty(duty)? else {
-        return Ok(refused(Refusal::UnknownDuty));
+        return Ok(refuse(Refusal::UnknownDuty));
     };
     move_found(alloc, store, &row, made)
 }
@@ -240,7 +240,7 @@ fn move_duty<S: Store>(
     ensures fault { IfErr result (MayFail S.tells) }
 {
     match read_move(word, day, text, until)? {
-        Read::Refused(refusal) => Ok(refused(refusal)),
+        Read::Refused(refusal) => Ok(refuse(refusal)),
         Read::Move(made) => move_numbered(alloc, store, duty, made),
     }
 }

@@ -19,7 +19,7 @@ use desk_base::{Day, Items, Text, limits};
 use desk_model::{
     Answer, Change, ChangeRow, DutyRow, DutyState, Fault, Limit, Owed, Plan, Refusal, Word,
 };
-use desk_packages::{refused, shipped_packages, unready};
+use desk_packages::{refuse, shipped_packages, unready};
 use std::alloc::{AllocError, Global};
 
 /// The rows of new duties.
@@ -106,7 +106,7 @@ fn freeze_gathered<S: Store>(
     let old = store.duty_count()?;
     let new = gathered.owed.len() as u64;
     if old > limits::DUTIES || new > limits::DUTIES - old {
-        return Ok(refused(Refusal::Full(Limit::Duties)));
+        return Ok(refuse(Refusal::Full(Limit::Duties)));
     }
     let first = old as u32 + 1;
     let revision = store.revision_count()?;
@@ -138,7 +138,7 @@ fn freeze_open<T: Texts, S: Store>(
 {
     let attached = store.attached(release.as_str())?;
     if attached.is_empty() {
-        return Ok(refused(Refusal::EmptyRelease));
+        return Ok(refuse(Refusal::EmptyRelease));
     }
     let packages = shipped_packages(alloc, store, attached.as_slice())?;
     let mut gathered = Gathered {
@@ -154,7 +154,7 @@ fn freeze_open<T: Texts, S: Store>(
         packages.as_slice(),
         &mut gathered,
     )? {
-        return Ok(refused(refusal));
+        return Ok(refuse(refusal));
     }
     freeze_gathered(alloc, store, release, day, gathered)
 }
@@ -176,13 +176,13 @@ pub fn freeze<T: Texts, S: Store>(
     ensures fault { IfErr result (MayFail S.tells) }
 {
     let Some(day) = read_day(day) else {
-        return Ok(refused(Refusal::BadDay));
+        return Ok(refuse(Refusal::BadDay));
     };
     let Some(row) = store.release(release.as_str())? else {
-        return Ok(refused(Refusal::UnknownRelease));
+        return Ok(refuse(Refusal::UnknownRelease));
     };
     if let Some(refusal) = unready(row.state) {
-        return Ok(refused(refusal));
+        return Ok(refuse(refusal));
     }
     freeze_open(alloc, texts, store, release, &row.form, day)
 }

@@ -14,7 +14,7 @@ use desk_access::store::Store;
 use desk_access::texts::Texts;
 use desk_base::Text;
 use desk_model::{Fault, FrozenRow, Owed, PackageRow, Refusal, Rule};
-use desk_packages::{conclusion_of, no_rule, rule_adopted, unadopted};
+use desk_packages::{conclusion_of, no_rule, not_adopted, rule_adopted};
 use std::alloc::{AllocError, Global};
 
 /// What a freeze has gathered: the frozen terms, and the duties that they owe.
@@ -118,7 +118,7 @@ fn first_unadopted<T: Texts, S: Store>(
     ensures fault { IfErr result (MayFail S.tells) }
 {
     for term in terms {
-        if let Some(refusal) = unadopted(alloc, texts, store, document, term)? {
+        if let Some(refusal) = not_adopted(alloc, texts, store, document, term)? {
             return Ok(Some(refusal));
         }
     }

@@ -9,13 +9,13 @@ ghost use Rattle.desk_access.specs.Seen.{OfRows};
 ghost use Rattle.desk_access.specs.Plans.{IsPlanOf, Plans, SparesStore};
 ghost use Rattle.desk_model.specs.declared.command.Command.TheVariants.{Withdraw, CloseDay};
 
-use crate::duty::{gone, read_day};
+use crate::duty::{read_day, refusal_if_gone};
 use desk_access::store::Store;
 use desk_base::{Day, Items, Text};
 use desk_model::{
     Answer, Change, ChangeRow, DutyState, Fault, Move, Plan, Refusal, Standing, Word, is_note,
 };
-use desk_packages::{done, refused};
+use desk_packages::{make, refuse};
 use std::alloc::{AllocError, Global};
 
 /// The number of the step after this many. A duty of a recorded history has at most 1,001 changes
@@ -132,22 +132,22 @@ pub fn withdraw<S: Store>(
     ensures fault { IfErr result (MayFail S.tells) }
 {
     let Some(day) = read_day(day) else {
-        return Ok(refused(Refusal::BadDay));
+        return Ok(refuse(Refusal::BadDay));
     };
     if !is_note(text.as_str()) {
-        return Ok(refused(Refusal::BadText));
+        return Ok(refuse(Refusal::BadText));
     }
     let Some(row) = store.release(release.as_str())? else {
-        return Ok(refused(Refusal::UnknownRelease));
+        return Ok(refuse(Refusal::UnknownRelease));
     };
-    if let Some(refusal) = gone(row.state) {
-        return Ok(refused(refusal));
+    if let Some(refusal) = refusal_if_gone(row.state) {
+        return Ok(refuse(refusal));
     }
     let standings = store.standings_of(release.as_str())?;
-    Ok(done(withdrew(alloc, release, day, text, standings)?))
+    Ok(make(withdrew(alloc, release, day, text, standings)?))
 }
 
-fn closed(changes: Items<ChangeRow>) -> Plan
+fn close_plan(changes: Items<ChangeRow>) -> Plan
     ensures { result ≡ Plan.Make (Answer.Closed (length changes)) (Change.Moved changes) }
 {
     let count = changes.as_slice().len() as u64;
@@ -166,8 +166,8 @@ pub fn close_day<S: Store>(alloc: Global, store: &mut S, day: &Text) -> Result<P
     ensures fault { IfErr result (MayFail S.tells) }
 {
     let Some(day) = read_day(day) else {
-        return Ok(refused(Refusal::BadDay));
+        return Ok(refuse(Refusal::BadDay));
     };
     let standings = store.ended(day)?;
-    Ok(closed(ended_rows(alloc, day, standings.as_slice())?))
+    Ok(close_plan(ended_rows(alloc, day, standings.as_slice())?))
 }

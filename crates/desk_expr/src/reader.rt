@@ -8,7 +8,7 @@ ghost use Rattle.desk_expr.specs.Spelling.{symbol};
 ghost use Rattle.desk_expr.specs.Reading.{Rest, Steps, Stops, EndsWith};
 
 use crate::expr::{Expr, Leaf};
-use crate::word::{Halt, excepted, exception_of, leaf_of, push};
+use crate::word::{Halt, exception_of, leaf_of, push, with_exception};
 use desk_tokens::{Kind, Token};
 use std::alloc::Global;
 
@@ -168,7 +168,7 @@ fn exception(
     Ok(Reader {
         outer,
         inner,
-        state: State::Done(Expr::one(excepted(leaf, key))),
+        state: State::Done(Expr::one(with_exception(leaf, key))),
     })
 }
 

@@ -11,7 +11,7 @@ ghost use Rattle.desk_expr.specs.TermReading.{TermSteps, TermStops, TermEnds, Te
 use crate::expr::Leaf;
 use crate::fault::ParseFault;
 use crate::term::Term;
-use crate::word::{Halt, excepted, exception_of, is_bad, leaf_of};
+use crate::word::{Halt, exception_of, is_bad, leaf_of, with_exception};
 use desk_base::{Profile, limits};
 use desk_tokens::{Kind, Token, tokens_in};
 use std::alloc::Global;
@@ -46,7 +46,7 @@ impl TermState {
                 _ => Err(Halt::Unexpected),
             },
             TermState::Exception(leaf) => match exception_of(alloc, token.kind, token.text) {
-                Ok(key) => Ok(TermState::Done(excepted(leaf, key))),
+                Ok(key) => Ok(TermState::Done(with_exception(leaf, key))),
                 Err(halt) => Err(halt),
             },
             TermState::Done(_) => Err(Halt::Unexpected),

@@ -152,7 +152,7 @@ pub(crate) fn exception_of(alloc: Global, kind: Kind, text: &str) -> Result<Key,
 }
 
 // The term with an exception.
-pub(crate) fn excepted(leaf: Leaf, exception: Key) -> Leaf
+pub(crate) fn with_exception(leaf: Leaf, exception: Key) -> Leaf
     requires { IsTrue (is_folded_id exception) }
     ensures { result ≡ with_exception leaf exception }
 {

@@ -25,4 +25,4 @@ pub use fault::DocFault;
 pub use scan::Field;
 pub use scanner::{Scanner, fields, one_reading};
 pub use tag::Tag;
-pub use text::{skip_blanks, split_word, trim_end_bytes, trimmed, trimmed_bytes};
+pub use text::{skip_blanks, split_word, trim, trim_end_bytes, trimmed_bytes};

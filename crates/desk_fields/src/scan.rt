@@ -10,7 +10,7 @@ ghost use Rattle.desk_fields.specs.Found.{IsFound};
 ghost use Rattle.desk_fields.specs.NextField.{Reaches, FailsNext};
 
 use crate::DocFault;
-use crate::text::{first_line, skip_blanks, trimmed};
+use crate::text::{first_line, skip_blanks, trim};
 
 /// A field of a document.
 #[derive(Clone, Copy)]
@@ -51,7 +51,7 @@ fn around_colon(line: &str) -> Option<(&str, &str)>
     let Some((front, after)) = line.split_once(':') else {
         return None;
     };
-    if trimmed(front).is_empty() {
+    if trim(front).is_empty() {
         return None;
     }
     Some((front, after))
@@ -114,7 +114,7 @@ fn text_piece<'a>(
     let feeds = line_feeds(value) as u64;
     let field = Some(Field {
         line,
-        tag: trimmed(front),
+        tag: trim(front),
         value,
     });
     if more.is_empty() {
@@ -162,8 +162,8 @@ fn first_piece<'a>(text: &'a str, line: u64) -> Result<Found<'a>, DocFault>
     }
     let field = Field {
         line,
-        tag: trimmed(front),
-        value: trimmed(after),
+        tag: trim(front),
+        value: trim(after),
     };
     Ok(Found {
         field: Some(field),

@@ -28,7 +28,7 @@ fn blanks(bytes: &[u8]) -> usize
 }
 
 // How many bytes precede the blanks at the end.
-fn kept(bytes: &[u8]) -> usize
+fn kept_len(bytes: &[u8]) -> usize
     ensures within { result ≤ length bytes.now }
     ensures value { result ≡ length bytes.now - suffix_len is_blank bytes.now }
     ensures blank { (i : ℕ) → result ≤ i → i < length bytes.now
@@ -45,7 +45,7 @@ fn kept(bytes: &[u8]) -> usize
 pub fn trim_end_bytes(bytes: &[u8]) -> &[u8]
     ensures { result.now ≡ trim_end bytes.now }
 {
-    bytes.split_at(kept(bytes)).0
+    bytes.split_at(kept_len(bytes)).0
 }
 
 /// The bytes without the blanks at their ends.
@@ -66,7 +66,7 @@ fn kept_end(text: &str) -> usize
     ensures value { result ≡ length text.now - suffix_len is_blank text.now }
     ensures cut { IsCharBoundary text.now result }
 {
-    kept(text.as_bytes())
+    kept_len(text.as_bytes())
 }
 
 /// The text without the blanks at its front.
@@ -77,7 +77,7 @@ pub fn skip_blanks(text: &str) -> &str
 }
 
 /// The text without the blanks at its ends.
-pub fn trimmed(text: &str) -> &str
+pub fn trim(text: &str) -> &str
     ensures { result.now ≡ trimmed text.now }
 {
     let text = skip_blanks(text);

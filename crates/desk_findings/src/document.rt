@@ -310,7 +310,7 @@ fn known_of<'a>(
 }
 
 // All findings of a document, kind by kind.
-fn gathered(
+fn all_findings(
     alloc: Global,
     document: &Document,
     known: &Known,
@@ -344,7 +344,7 @@ pub fn findings_in(
 {
     let elements = Elements::of(alloc, document)?;
     let known = known_of(alloc, document, &elements, profile)?;
-    let mut found = gathered(alloc, document, &known, &elements)?;
+    let mut found = all_findings(alloc, document, &known, &elements)?;
     found.sort_unstable_by_key(|finding| key(finding));
     Ok(found)
 }

@@ -105,7 +105,7 @@ pub fn receive<R: Read>(alloc: Global, reader: &mut R) -> Result<Received, Serve
             return Err(ServeFault::Read);
         };
         if taken == 0 {
-            return Ok(ended(bytes));
+            return Ok(received_at_end(bytes));
         }
         let came = &piece[..taken];
         let Ok(()) = bytes.extend_from_slice(came) else {
@@ -120,7 +120,7 @@ pub fn receive<R: Read>(alloc: Global, reader: &mut R) -> Result<Received, Serve
 }
 
 /// What was received when the reader ended.
-fn ended(bytes: Vec<u8>) -> Received
+fn received_at_end(bytes: Vec<u8>) -> Received
     ensures { IsReceived bytes.items result }
 {
     if bytes.is_empty() {

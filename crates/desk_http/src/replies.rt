@@ -145,7 +145,7 @@ fn not_toml_line() -> &'static str
 }
 
 /// The message of a reply for which the desk wasn't asked.
-fn unasked(alloc: Global, status: Status, body: &str) -> Message
+fn unasked_reply(alloc: Global, status: Status, body: &str) -> Message
     ensures { (told : Told) × IsMessage told result
         × ((told ≡ (status, json body.now)) ⊎ (told ≡ no_memory)) }
 {
@@ -187,10 +187,10 @@ pub fn message_of(alloc: Global, reply: &Reply) -> Message
 {
     match reply {
         Reply::Became(outcome, shape, is_get) => outcome_message(alloc, outcome, *shape, *is_get),
-        Reply::Bad(status) => unasked(alloc, *status, "{\"fault\":\"request\"}"),
-        Reply::NoRoute => unasked(alloc, Status::NotFound, "{\"fault\":\"route\"}"),
-        Reply::BadCommand => unasked(alloc, Status::BadRequest, bad_command_line()),
-        Reply::NotText => unasked(alloc, Status::UnprocessableContent, not_toml_line()),
+        Reply::Bad(status) => unasked_reply(alloc, *status, "{\"fault\":\"request\"}"),
+        Reply::NoRoute => unasked_reply(alloc, Status::NotFound, "{\"fault\":\"route\"}"),
+        Reply::BadCommand => unasked_reply(alloc, Status::BadRequest, bad_command_line()),
+        Reply::NotText => unasked_reply(alloc, Status::UnprocessableContent, not_toml_line()),
         Reply::Memory => Message::NoMemory,
     }
 }

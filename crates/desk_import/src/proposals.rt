@@ -33,7 +33,7 @@ pub struct Proposals {
 
 impl Proposals {
     /// How many conclusions are proposed.
-    pub fn proposed(&self) -> usize
+    pub fn proposed_count(&self) -> usize
         ensures { result ≡ count_of Declared self.now }
     {
         summary::count_of(self.standings.as_slice(), Standing::Declared)
@@ -160,7 +160,7 @@ pub fn proposals_of(
 
 impl fmt::Display for Proposals {
     fn fmt<W: fmt::Write>(&self, f: &mut fmt::Formatter<W>) -> fmt::Result {
-        let (proposed, left_out) = (self.proposed(), self.left_out());
+        let (proposed, left_out) = (self.proposed_count(), self.left_out());
         write!(f, "conclusions proposed: {proposed}")?;
         write!(
             f,

@@ -27,19 +27,19 @@ fn document(alloc: Global, document: u32, new: bool) -> Result<Value, AllocError
     json!(in alloc; {"document": document, "new": new})
 }
 
-fn done(alloc: Global) -> Result<Value, AllocError>
+fn done_reply(alloc: Global) -> Result<Value, AllocError>
     ensures { IfOk result (λ v. view v ≡ done_reply) }
 {
     json!(in alloc; {"done": true})
 }
 
-fn frozen(alloc: Global, first: u32, count: u32) -> Result<Value, AllocError>
+fn frozen_reply(alloc: Global, first: u32, count: u32) -> Result<Value, AllocError>
     ensures { IfOk result (λ v. view v ≡ frozen_reply first count) }
 {
     json!(in alloc; {"count": count, "first": first})
 }
 
-fn closed(alloc: Global, count: u64) -> Result<Value, AllocError>
+fn closed_reply(alloc: Global, count: u64) -> Result<Value, AllocError>
     ensures { IfOk result (λ v. view v ≡ closed_reply count) }
 {
     json!(in alloc; {"closed": count})
@@ -101,9 +101,9 @@ fn answer_text(alloc: Global, answer: &Answer) -> Result<String, AllocError>
         Answer::Revision(number) => value_text(alloc, revision(alloc, *number)?),
         Answer::Imported(number) => value_text(alloc, document(alloc, *number, true)?),
         Answer::Again(number) => value_text(alloc, document(alloc, *number, false)?),
-        Answer::Done => value_text(alloc, done(alloc)?),
-        Answer::Frozen { first, count } => value_text(alloc, frozen(alloc, *first, *count)?),
-        Answer::Closed(count) => value_text(alloc, closed(alloc, *count)?),
+        Answer::Done => value_text(alloc, done_reply(alloc)?),
+        Answer::Frozen { first, count } => value_text(alloc, frozen_reply(alloc, *first, *count)?),
+        Answer::Closed(count) => value_text(alloc, closed_reply(alloc, *count)?),
         Answer::Duties(lines) => reply_of(alloc, lines.as_slice()),
         Answer::Totals(row) => totals(alloc, row),
         Answer::Changes(changes) => reply_of(alloc, changes.as_slice()),

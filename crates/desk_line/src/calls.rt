@@ -16,7 +16,7 @@ use crate::script::script_from;
 use crate::subcommands::{Kind, kind_at};
 use crate::texts::{alternatives_from, check_from, convert_from, explain_from};
 use crate::trees::{gather_from, lint_from};
-use crate::values::{Unfound, wanted};
+use crate::values::{Unfound, require};
 use clap::ArgMatches;
 use std::alloc::Global;
 
@@ -28,7 +28,7 @@ pub(crate) fn call_from(
 ) -> Result<Call, Unfound>
     ensures { IsFound (call_in name.now (rows_of (found_of matches.now))) result }
 {
-    match wanted(kind_at(name))? {
+    match require(kind_at(name))? {
         Kind::Check => check_from(alloc, matches),
         Kind::Alternatives => alternatives_from(alloc, matches),
         Kind::Script => script_from(alloc, matches),

@@ -7,7 +7,7 @@ ghost use Rattle.desk_line.specs.Fields.{begins_otherwise, ends_otherwise, can_s
 ghost use Rattle.desk_line.specs.Calls.{field_in};
 ghost use Rattle.desk_line.specs.Unfound.{IsFound};
 
-use crate::values::{Unfound, text_in, wanted};
+use crate::values::{Unfound, require, text_in};
 use clap::ArgMatches;
 use desk_base::Text;
 use std::alloc::Global;
@@ -57,6 +57,6 @@ pub(crate) fn wanted_field(
 ) -> Result<Text, Unfound>
     ensures { IsFound (field_in id.now (rows_of (found_of matches.now))) result }
 {
-    let value = wanted(field_in(matches, id))?;
+    let value = require(field_in(matches, id))?;
     Ok(Text::of(alloc, value)?)
 }

@@ -6,7 +6,7 @@ ghost use Rattle.desk_line.specs.Calls.{audit_in, catalogue_in, import_in, migra
 ghost use Rattle.desk_line.specs.Unfound.{IsFound};
 
 use crate::call::{Call, FileCall};
-use crate::values::{Unfound, number_in, profile_in, wanted, wanted_text};
+use crate::values::{Unfound, number_in, profile_in, require, wanted_text};
 use clap::ArgMatches;
 use std::alloc::Global;
 
@@ -15,7 +15,7 @@ pub(crate) fn import_from(alloc: Global, matches: &ArgMatches<'_>) -> Result<Cal
     ensures { IsFound (import_in (rows_of (found_of matches.now))) result }
 {
     let database = wanted_text(alloc, matches, "FILE")?;
-    let profile = wanted(profile_in(matches))?;
+    let profile = require(profile_in(matches))?;
     let document = wanted_text(alloc, matches, "DOC")?;
     let call = FileCall::Import { document, profile };
     Ok(Call::File { database, call })
@@ -60,8 +60,8 @@ pub(crate) fn serve_from(alloc: Global, matches: &ArgMatches<'_>) -> Result<Call
     ensures { IsFound (serve_in (rows_of (found_of matches.now))) result }
 {
     let database = wanted_text(alloc, matches, "FILE")?;
-    let port = wanted(port_in(matches))?;
-    let limit = wanted(number_in(matches, "N"))?;
+    let port = require(port_in(matches))?;
+    let limit = require(number_in(matches, "N"))?;
     let call = FileCall::Serve { port, limit };
     Ok(Call::File { database, call })
 }

@@ -7,7 +7,7 @@ ghost use Rattle.desk_line.specs.Calls.{filter_in, has_filter, is_day_if_given, 
 ghost use Rattle.desk_line.specs.Unfound.{IsFound};
 
 use crate::call::{Call, FileCall, Listed};
-use crate::values::{Unfound, is_used, optional_text, text_in, wanted, wanted_text};
+use crate::values::{Unfound, is_used, optional_text, require, text_in, wanted_text};
 use clap::ArgMatches;
 use desk_base::{Day, Text};
 use std::alloc::{AllocError, Global};
@@ -89,9 +89,9 @@ fn listed_in(alloc: Global, matches: &ArgMatches<'_>) -> Result<Listed, Unfound>
     if !is_day_if_given(text_in(matches, "DAY")) {
         return Err(Unfound::Lacking);
     }
-    let what = wanted(text_in(matches, "WHAT"))?;
+    let what = require(text_in(matches, "WHAT"))?;
     let filter = filter_in(alloc, matches)?;
-    wanted(listed_as(what, filter))
+    require(listed_as(what, filter))
 }
 
 /// The call of `list`.

@@ -7,7 +7,7 @@ ghost use Rattle.desk_line.specs.Numbers.{number_written};
 ghost use Rattle.desk_line.specs.Unfound.{IsFound};
 
 use crate::call::{Call, FileCall};
-use crate::values::{Unfound, number_in, profile_written, text_in, wanted, wanted_text};
+use crate::values::{Unfound, number_in, profile_written, require, text_in, wanted_text};
 use clap::ArgMatches;
 use desk_base::{Profile, Text};
 use std::alloc::Global;
@@ -55,7 +55,7 @@ fn held_proposals_from(
     if has_reading(matches) {
         return Err(Unfound::Lacking);
     }
-    let document = wanted(document_in(matches))?;
+    let document = require(document_in(matches))?;
     let database = Text::of(alloc, database)?;
     let call = FileCall::Proposals { document };
     Ok(Call::File { database, call })
@@ -65,8 +65,8 @@ fn held_proposals_from(
 fn filed_proposals_from(alloc: Global, matches: &ArgMatches<'_>) -> Result<Call, Unfound>
     ensures { IsFound (filed_proposals_in (rows_of (found_of matches.now))) result }
 {
-    let number = wanted(number_in(matches, "N"))?;
-    let profile = wanted(profile_if_given(text_in(matches, "PROFILE")))?;
+    let number = require(number_in(matches, "N"))?;
+    let profile = require(profile_if_given(text_in(matches, "PROFILE")))?;
     let document = wanted_text(alloc, matches, "DOC")?;
     Ok(Call::Propose {
         document,

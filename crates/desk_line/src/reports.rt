@@ -5,7 +5,7 @@ ghost use Rattle.desk_line.specs.Calls.{changes_in, choices_in, duties_in, notic
 ghost use Rattle.desk_line.specs.Unfound.{IsFound};
 
 use crate::call::{Call, FileCall};
-use crate::values::{Unfound, number_in, wanted, wanted_text};
+use crate::values::{Unfound, number_in, require, wanted_text};
 use clap::ArgMatches;
 use desk_base::Text;
 use std::alloc::Global;
@@ -84,7 +84,7 @@ pub(crate) fn changes_from(alloc: Global, matches: &ArgMatches<'_>) -> Result<Ca
     ensures { IsFound (changes_in (rows_of (found_of matches.now))) result }
 {
     let database = wanted_text(alloc, matches, "FILE")?;
-    let duty = wanted(number_in(matches, "DUTY"))?;
+    let duty = require(number_in(matches, "DUTY"))?;
     let call = FileCall::Changes { duty };
     Ok(Call::File { database, call })
 }

@@ -139,7 +139,7 @@ pub(crate) fn kind_at(name: &str) -> Option<Kind>
 }
 
 /// A command with a name and its help, and nothing else.
-fn titled<'a>(alloc: Global, name: &'static str, help: &'static Help) -> Command<'a>
+fn titled_command<'a>(alloc: Global, name: &'static str, help: &'static Help) -> Command<'a>
     ensures app { app_of result ≡ new_app name.now }
     ensures local { (out-Command result).has_globals ≡ false }
 {
@@ -155,7 +155,7 @@ fn command<'a>(alloc: Global, row: &Subcommand) -> Result<Command<'a>, AllocErro
     ensures local { IfOk result (λ c. (out-Command c).has_globals ≡ false) }
 {
     let args = args(alloc, row.arguments)?;
-    titled(alloc, row.name, help_of(row.kind)).args(args)
+    titled_command(alloc, row.name, help_of(row.kind)).args(args)
 }
 
 /// Subcommands as `clap` reads them.

@@ -6,7 +6,7 @@ ghost use Rattle.desk_line.specs.Calls.{alternatives_in, check_in, convert_in, e
 ghost use Rattle.desk_line.specs.Unfound.{IsFound};
 
 use crate::call::Call;
-use crate::values::{Unfound, profile_in, wanted, wanted_text, wanted_texts};
+use crate::values::{Unfound, profile_in, require, wanted_text, wanted_texts};
 use clap::ArgMatches;
 use std::alloc::Global;
 
@@ -14,7 +14,7 @@ use std::alloc::Global;
 pub(crate) fn check_from(alloc: Global, matches: &ArgMatches<'_>) -> Result<Call, Unfound>
     ensures { IsFound (check_in (rows_of (found_of matches.now))) result }
 {
-    let profile = wanted(profile_in(matches))?;
+    let profile = require(profile_in(matches))?;
     let expression = wanted_text(alloc, matches, "EXPR")?;
     let terms = wanted_texts(alloc, matches, "TERM")?;
     Ok(Call::Check {
@@ -28,7 +28,7 @@ pub(crate) fn check_from(alloc: Global, matches: &ArgMatches<'_>) -> Result<Call
 pub(crate) fn alternatives_from(alloc: Global, matches: &ArgMatches<'_>) -> Result<Call, Unfound>
     ensures { IsFound (alternatives_in (rows_of (found_of matches.now))) result }
 {
-    let profile = wanted(profile_in(matches))?;
+    let profile = require(profile_in(matches))?;
     let expression = wanted_text(alloc, matches, "EXPR")?;
     Ok(Call::Alternatives {
         expression,

@@ -30,7 +30,7 @@ impl From<AllocError> for Unfound {
 }
 
 /// A value that must be there.
-pub(crate) fn wanted<T>(value: Option<T>) -> Result<T, Unfound>
+pub(crate) fn require<T>(value: Option<T>) -> Result<T, Unfound>
     ensures { IsFound value result }
 {
     match value {
@@ -73,7 +73,7 @@ pub(crate) fn optional_text(
     }
 }
 
-fn copied(alloc: Global, values: &[&str]) -> Result<Items<Text>, AllocError>
+fn copy_texts(alloc: Global, values: &[&str]) -> Result<Items<Text>, AllocError>
     ensures { IfOk result (λ r. r ≡ map (λ v. v.now) values.now) }
 {
     let mut texts = Items::new(alloc);
@@ -93,7 +93,7 @@ pub(crate) fn wanted_texts(
     ensures { IsFound (all_of id.now (rows_of (found_of matches.now))) result }
 {
     match matches.get_strs(id) {
-        Some(values) => Ok(copied(alloc, values)?),
+        Some(values) => Ok(copy_texts(alloc, values)?),
         None => Err(Unfound::Lacking),
     }
 }

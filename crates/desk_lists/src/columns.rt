@@ -38,7 +38,7 @@ fn add_widened(found: &mut Vec<usize>, widths: &[usize], cells: &[Text]) -> Resu
 }
 
 // The widths of columns, widened for the cells of a row.
-fn widened(alloc: Global, widths: &[usize], cells: &[Text]) -> Result<Vec<usize>, AllocError>
+fn widen(alloc: Global, widths: &[usize], cells: &[Text]) -> Result<Vec<usize>, AllocError>
     ensures { IfOk result (λ found. found.items ≡ widened widths.now cells.now) }
 {
     let mut found = Vec::new(alloc);
@@ -64,7 +64,7 @@ fn widths(alloc: Global, table: &[Items<Text>]) -> Result<Vec<usize>, AllocError
         [names, rows @ ..] => {
             let mut found = widths_of_front(alloc, names.as_slice())?;
             for row in rows {
-                found = widened(alloc, found.as_slice(), row.as_slice())?;
+                found = widen(alloc, found.as_slice(), row.as_slice())?;
             }
             Ok(found)
         }

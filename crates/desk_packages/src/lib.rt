@@ -11,7 +11,7 @@ mod rule;
 mod shipped;
 
 pub use conclusion::{Claim, InForce, claim_of, conclusion_of, in_force, read_claim};
-pub use obstacle::{no_rule, unadopted};
-pub use plan::{done, refused, unready};
+pub use obstacle::{no_rule, not_adopted};
+pub use plan::{make, refuse, unready};
 pub use rule::rule_adopted;
 pub use shipped::shipped_packages;

@@ -13,7 +13,7 @@ use desk_model::{Fault, PackageRow, Refusal};
 use std::alloc::{AllocError, Global};
 
 /// Why a term of a document can't be frozen, if it is a reference that isn't adopted.
-pub fn unadopted<T: Texts, S: Store>(
+pub fn not_adopted<T: Texts, S: Store>(
     alloc: Global,
     texts: &T,
     store: &mut S,

@@ -7,14 +7,14 @@ ghost use Rattle.desk_model.specs.Answers.{unready};
 use desk_model::{Answer, Change, Plan, Refusal, ReleaseState};
 
 /// The command is refused.
-pub fn refused(refusal: Refusal) -> Plan
+pub fn refuse(refusal: Refusal) -> Plan
     ensures { result ≡ Plan.Leave (Answer.Refused refusal) }
 {
     Plan::Leave(Answer::Refused(refusal))
 }
 
 /// The command makes this change, and is then done.
-pub fn done(change: Change) -> Plan
+pub fn make(change: Change) -> Plan
     ensures { result ≡ Plan.Make Answer.Done change }
 {
     Plan::Make {

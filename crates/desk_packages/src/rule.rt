@@ -16,7 +16,7 @@ use std::alloc::Global;
 
 /// The term for which a rule is looked up: a reference of a document that is adopted is replaced by
 /// the licence as which it is adopted.
-fn adopted<T: Texts, S: Store>(
+fn ruled_term<T: Texts, S: Store>(
     alloc: Global,
     texts: &T,
     store: &mut S,
@@ -53,7 +53,7 @@ pub fn rule_adopted<T: Texts, S: Store>(
     ensures kept { Looked (S.seen store.old) (S.seen store.new) result }
     ensures fault { IfErr result (MayFail S.tells) }
 {
-    match adopted(alloc, texts, store, document, term)? {
+    match ruled_term(alloc, texts, store, document, term)? {
         Some(licence) => store.rule(licence.as_str(), form.as_str()),
         None => Ok(None),
     }

@@ -16,7 +16,7 @@ use desk_base::{Items, Text, limits};
 use desk_model::{
     Answer, Catalogue, CatalogueRow, Change, Fault, Limit, Plan, Refusal, Rule, RuleRow,
 };
-use desk_packages::refused;
+use desk_packages::refuse;
 use std::alloc::{AllocError, Global};
 
 fn rule_rows(alloc: Global, revision: u32, rules: Vec<Rule>) -> Result<Items<RuleRow>, AllocError>
@@ -51,7 +51,7 @@ fn load_read<S: Store>(
 {
     let count = store.revision_count()?;
     if count >= limits::REVISIONS {
-        return Ok(refused(Refusal::Full(Limit::Revisions)));
+        return Ok(refuse(Refusal::Full(Limit::Revisions)));
     }
     let revision = count as u32 + 1;
     let body = text.clone()?;
@@ -81,7 +81,7 @@ pub fn load_catalogue<T: Texts, S: Store>(
     ensures fault { IfErr result (MayFail S.tells) }
 {
     match texts.catalogue(alloc, text.as_str())? {
-        Err(fault) => Ok(refused(Refusal::BadCatalogue(fault))),
+        Err(fault) => Ok(refuse(Refusal::BadCatalogue(fault))),
         Ok(catalogue) => load_read(alloc, store, text, catalogue),
     }
 }

@@ -23,7 +23,7 @@ use desk_access::store::Store;
 use desk_access::texts::Texts;
 use desk_base::{Items, Text, TextList};
 use desk_model::{Change, ChoiceRow, Fault, PackageRow, Plan, Refusal, ReleaseState, Verdict};
-use desk_packages::{Claim, InForce, claim_of, done, read_claim, refused, unready};
+use desk_packages::{Claim, InForce, claim_of, make, read_claim, refuse, unready};
 use std::alloc::{AllocError, Global};
 use std::collections::BTreeSet;
 
@@ -90,7 +90,7 @@ fn refusal_of(
 }
 
 /// What is refused of a package without a conclusion.
-fn unconcluded(row: &PackageRow) -> Result<Refusal, AllocError>
+fn no_conclusion(row: &PackageRow) -> Result<Refusal, AllocError>
     ensures { IfOk result (λ refusal. refusal ≡ Refusal.NoConclusion row.now.document row.now.id) }
 {
     Ok(Refusal::NoConclusion {
@@ -129,7 +129,7 @@ fn judge<T: Texts>(
     match read_claim(alloc, texts, claim)? {
         InForce::Expression(expression) => judge_by(alloc, texts, &expression, terms),
         InForce::NoExpression => Ok(Some(Refusal::NotEnough)),
-        InForce::Nothing => Ok(Some(unconcluded(row)?)),
+        InForce::Nothing => Ok(Some(no_conclusion(row)?)),
     }
 }
 
@@ -267,9 +267,9 @@ fn choose_at<T: Texts>(
     ensures sound { IfOk result IsSound }
 {
     if let Some(refusal) = judge(alloc, texts, claim, &place.row, terms)? {
-        return Ok(refused(refusal));
+        return Ok(refuse(refusal));
     }
-    Ok(done(chosen(alloc, release, place.document, package_id, terms)?))
+    Ok(make(chosen(alloc, release, place.document, package_id, terms)?))
 }
 
 /// Chooses terms that were read, at a place that was found.
@@ -312,7 +312,7 @@ fn choose_terms<T: Texts, S: Store>(
     ensures fault { IfErr result (MayFail S.tells) }
 {
     match find_place(store, release, document, package_id)? {
-        Found::Nowhere(refusal) => Ok(refused(refusal)),
+        Found::Nowhere(refusal) => Ok(refuse(refusal)),
         Found::Here(place) => choose_here(alloc, texts, store, release, &place, package_id, terms),
     }
 }
@@ -337,7 +337,7 @@ pub fn choose<T: Texts, S: Store>(
     ensures fault { IfErr result (MayFail S.tells) }
 {
     match read_terms(alloc, texts, words)? {
-        TermsRead::BadTerm(i) => Ok(refused(Refusal::BadTerm(i))),
+        TermsRead::BadTerm(i) => Ok(refuse(Refusal::BadTerm(i))),
         TermsRead::Terms(terms) => choose_terms(
             alloc, texts, store, release, document, package_id, &terms,
         ),
@@ -345,7 +345,7 @@ pub fn choose<T: Texts, S: Store>(
 }
 
 /// The change that drops the choice for a package.
-fn dropped(
+fn drop_choice(
     alloc: Global,
     release: &Text,
     document: u32,
@@ -375,12 +375,12 @@ fn unchoose_terms(
     ensures sound { IfOk result IsSound }
 {
     if terms.is_empty() {
-        return Ok(refused(Refusal::NoChoice {
+        return Ok(refuse(Refusal::NoChoice {
             document,
             package_id: package_id.clone()?,
         }));
     }
-    Ok(done(dropped(alloc, release, document, package_id)?))
+    Ok(make(drop_choice(alloc, release, document, package_id)?))
 }
 
 /// Drops the choice for a package of a document that was found, in a release in this state.
@@ -400,10 +400,10 @@ fn unchoose_in<S: Store>(
     ensures fault { IfErr result (MayFail S.tells) }
 {
     if !has_package(store, document, package_id)? {
-        return Ok(refused(Refusal::UnknownPackage));
+        return Ok(refuse(Refusal::UnknownPackage));
     }
     if let Some(refusal) = unready(state) {
-        return Ok(refused(refusal));
+        return Ok(refuse(refusal));
     }
     let terms = store.chosen(release.as_str(), document, package_id.as_str())?;
     Ok(unchoose_terms(alloc, release, document, package_id, terms.as_slice())?)
@@ -426,10 +426,10 @@ pub fn unchoose<S: Store>(
     ensures fault { IfErr result (MayFail S.tells) }
 {
     let Some(state) = state_of(store, release)? else {
-        return Ok(refused(Refusal::UnknownRelease));
+        return Ok(refuse(Refusal::UnknownRelease));
     };
     let Some(number) = number_of(store, document)? else {
-        return Ok(refused(Refusal::UnknownDocument));
+        return Ok(refuse(Refusal::UnknownDocument));
     };
     unchoose_in(alloc, store, state, release, number, package_id)
 }

@@ -16,15 +16,15 @@ use desk_access::store::Store;
 use desk_access::texts::Texts;
 use desk_base::{Text, limits};
 use desk_model::{AdoptionRow, Change, ConclusionRow, Fault, Limit, Plan, Profile, Refusal};
-use desk_packages::{done, refused};
+use desk_packages::{make, refuse};
 use std::alloc::{AllocError, Global};
 
-fn concluded(document: u32, package_id: &Text, expression: &Text) -> Result<Plan, AllocError>
+fn conclusion_plan(document: u32, package_id: &Text, expression: &Text) -> Result<Plan, AllocError>
     ensures { IfOk result (λ plan. plan
         ≡ Plan.Make Done (Change.Concluded
         (conclusion_row document package_id.now expression.now))) }
 {
-    Ok(done(Change::Concluded(ConclusionRow {
+    Ok(make(Change::Concluded(ConclusionRow {
         document,
         package_id: package_id.clone()?,
         expression: expression.clone()?,
@@ -47,12 +47,12 @@ fn conclude_in<S: Store>(
     ensures fault { IfErr result (MayFail S.tells) }
 {
     if !has_package(store, document, package_id)? {
-        return Ok(refused(Refusal::UnknownPackage));
+        return Ok(refuse(Refusal::UnknownPackage));
     }
     if let Some(release) = store.holder(document, package_id.as_str())? {
-        return Ok(refused(Refusal::Chosen { release }));
+        return Ok(refuse(Refusal::Chosen { release }));
     }
-    Ok(concluded(document, package_id, expression)?)
+    Ok(conclusion_plan(document, package_id, expression)?)
 }
 
 /// Concludes an expression for a package, if no release holds a choice for it.
@@ -70,7 +70,7 @@ fn conclude_for<S: Store>(
     ensures fault { IfErr result (MayFail S.tells) }
 {
     let Some(number) = number_of(store, document)? else {
-        return Ok(refused(Refusal::UnknownDocument));
+        return Ok(refuse(Refusal::UnknownDocument));
     };
     conclude_in(store, number, package_id, expression)
 }
@@ -93,7 +93,7 @@ pub fn conclude<T: Texts, S: Store>(
     ensures fault { IfErr result (MayFail S.tells) }
 {
     if let Some(fault) = texts.expression_fault(alloc, Profile::Capitals, expression.as_str())? {
-        return Ok(refused(Refusal::BadExpression(fault)));
+        return Ok(refuse(Refusal::BadExpression(fault)));
     }
     conclude_for(store, document, package_id, expression)
 }
@@ -167,14 +167,14 @@ fn adopt_read<S: Store>(
     ensures fault { IfErr result (MayFail S.tells) }
 {
     let Some(number) = number_of(store, document)? else {
-        return Ok(refused(Refusal::UnknownDocument));
+        return Ok(refuse(Refusal::UnknownDocument));
     };
     if store.adoption(number, reference.as_str())?.is_none()
         && store.adoption_count(number)? >= limits::ADOPTIONS
     {
-        return Ok(refused(Refusal::Full(Limit::Adoptions)));
+        return Ok(refuse(Refusal::Full(Limit::Adoptions)));
     }
-    Ok(done(Change::Adopted(AdoptionRow {
+    Ok(make(Change::Adopted(AdoptionRow {
         document: number,
         reference,
         licence,
@@ -199,7 +199,7 @@ pub fn adopt<T: Texts, S: Store>(
     ensures fault { IfErr result (MayFail S.tells) }
 {
     match read_adoption(alloc, texts, reference, licence)? {
-        AdoptionRead::BadTerm(i) => Ok(refused(Refusal::BadTerm(i))),
+        AdoptionRead::BadTerm(i) => Ok(refuse(Refusal::BadTerm(i))),
         AdoptionRead::Pair { reference, licence } => {
             adopt_read(store, document, reference, licence)
         }

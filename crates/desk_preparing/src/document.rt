@@ -17,7 +17,7 @@ use desk_model::{
     Answer, Change, Document, DocumentRow, ExtractedRow, Fault, Limit, Package, PackageRow, Plan,
     Profile, Reference, Refusal,
 };
-use desk_packages::refused;
+use desk_packages::refuse;
 use std::alloc::{AllocError, Global};
 
 fn package_rows(
@@ -61,7 +61,7 @@ fn extracted_rows(
 }
 
 /// The rows of a new document.
-fn imported(
+fn import_change(
     alloc: Global,
     number: u32,
     bytes: Items<u8>,
@@ -106,14 +106,14 @@ fn import_read<S: Store>(
         if is_same {
             return Ok(Plan::Leave(Answer::Again(number)));
         }
-        return Ok(refused(Refusal::NamespaceTaken { document: number }));
+        return Ok(refuse(Refusal::NamespaceTaken { document: number }));
     }
     let count = store.document_count()?;
     if count >= limits::DOCUMENTS {
-        return Ok(refused(Refusal::Full(Limit::Documents)));
+        return Ok(refuse(Refusal::Full(Limit::Documents)));
     }
     let number = count as u32 + 1;
-    let change = imported(alloc, number, bytes, profile, document)?;
+    let change = import_change(alloc, number, bytes, profile, document)?;
     Ok(Plan::Make {
         answer: Answer::Imported(number),
         change,
@@ -136,7 +136,7 @@ pub fn import<T: Texts, S: Store>(
     ensures fault { IfErr result (MayFail S.tells) }
 {
     match texts.document(alloc, bytes.as_slice())? {
-        Err(fault) => Ok(refused(Refusal::BadDocument(fault))),
+        Err(fault) => Ok(refuse(Refusal::BadDocument(fault))),
         Ok(document) => import_read(alloc, store, bytes, profile, document),
     }
 }

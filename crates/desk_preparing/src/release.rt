@@ -16,7 +16,7 @@ use crate::looking::{number_of, state_of};
 use desk_access::store::Store;
 use desk_base::{Text, is_idstring, limits};
 use desk_model::{AttachedRow, Change, Fault, Limit, Plan, Refusal, ReleaseRow, ReleaseState};
-use desk_packages::{done, refused, unready};
+use desk_packages::{make, refuse, unready};
 
 /// Whether the text is a name for a release: an idstring of at most 64 bytes.
 pub fn is_release_name(text: &str) -> bool
@@ -35,9 +35,9 @@ fn open_next<S: Store>(store: &mut S, release: &Text, form: &Text) -> Result<Pla
 {
     let count = store.release_count()?;
     if count >= limits::RELEASES {
-        return Ok(refused(Refusal::Full(Limit::Releases)));
+        return Ok(refuse(Refusal::Full(Limit::Releases)));
     }
-    Ok(done(Change::Opened(ReleaseRow {
+    Ok(make(Change::Opened(ReleaseRow {
         name: release.clone()?,
         place: count as u32 + 1,
         form: form.clone()?,
@@ -57,13 +57,13 @@ pub fn open_release<S: Store>(store: &mut S, release: &Text, form: &Text) -> Res
     ensures fault { IfErr result (MayFail S.tells) }
 {
     if !is_release_name(release.as_str()) {
-        return Ok(refused(Refusal::BadName));
+        return Ok(refuse(Refusal::BadName));
     }
     if !store.has_form(form.as_str())? {
-        return Ok(refused(Refusal::UnknownForm));
+        return Ok(refuse(Refusal::UnknownForm));
     }
     if store.release(release.as_str())?.is_some() {
-        return Ok(refused(Refusal::NameTaken));
+        return Ok(refuse(Refusal::NameTaken));
     }
     open_next(store, release, form)
 }
@@ -83,15 +83,15 @@ fn attach_in<S: Store>(
     ensures fault { IfErr result (MayFail S.tells) }
 {
     if let Some(refusal) = unready(state) {
-        return Ok(refused(refusal));
+        return Ok(refuse(refusal));
     }
     if store.is_attached(release.as_str(), u64::from(document))? {
-        return Ok(refused(Refusal::AlreadyAttached));
+        return Ok(refuse(Refusal::AlreadyAttached));
     }
     if store.attached_count(release.as_str())? >= limits::ATTACHED {
-        return Ok(refused(Refusal::Full(Limit::Attached)));
+        return Ok(refuse(Refusal::Full(Limit::Attached)));
     }
-    Ok(done(Change::Attached(AttachedRow {
+    Ok(make(Change::Attached(AttachedRow {
         release: release.clone()?,
         document,
     })))
@@ -108,10 +108,10 @@ pub fn attach<S: Store>(store: &mut S, release: &Text, document: u64) -> Result<
     ensures fault { IfErr result (MayFail S.tells) }
 {
     let Some(state) = state_of(store, release)? else {
-        return Ok(refused(Refusal::UnknownRelease));
+        return Ok(refuse(Refusal::UnknownRelease));
     };
     let Some(number) = number_of(store, document)? else {
-        return Ok(refused(Refusal::UnknownDocument));
+        return Ok(refuse(Refusal::UnknownDocument));
     };
     attach_in(store, state, release, number)
 }

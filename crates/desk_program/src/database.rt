@@ -108,7 +108,7 @@ fn refuse<W: Write>(
 }
 
 // The desk behind a connection, or why there is none.
-fn adopted<S: Alter + Drop>(
+fn desk_behind<S: Alter + Drop>(
     alloc: Global,
     conn: Connection<S>,
     path: &str,
@@ -147,7 +147,7 @@ fn desk_of<S: Alter + Drop>(
             tell_new(rt, path);
             Ok(Ok(desk))
         }
-        Err((CreateFault::NotEmpty, conn)) => adopted(alloc, conn, path),
+        Err((CreateFault::NotEmpty, conn)) => desk_behind(alloc, conn, path),
         Err((CreateFault::Fault(fault), _)) => Err(unusable(alloc, path, Trouble::from(fault))),
     }
 }
@@ -172,7 +172,7 @@ fn teller(rt: &HostRuntime) -> Teller<Stderr> {
 }
 
 // Lets a desk do a task, and returns the program's status.
-fn done<S: Alter + Drop, W: Write>(
+fn do_task<S: Alter + Drop, W: Write>(
     rt: &HostRuntime,
     desk: &mut SqlDesk<S>,
     task: Task<'_>,
@@ -209,7 +209,7 @@ fn done<S: Alter + Drop, W: Write>(
 
 // The result of a piece of work after which the file was closed: the reason why it failed goes
 // before the reason why the file wasn't closed.
-fn ended(told: Result<u8, Failure>, closed: Result<(), Failure>) -> Result<u8, Failure> {
+fn closing_status(told: Result<u8, Failure>, closed: Result<(), Failure>) -> Result<u8, Failure> {
     let status = match told {
         Ok(status) => status,
         Err(failure) => {
@@ -237,9 +237,9 @@ fn do_over<D: Disk + Drop, W: Write>(
         Ok(desk) => desk,
         Err(refused) => return refuse(rt, refused, path, writer),
     };
-    let told = done(rt, &mut desk, task, writer);
+    let told = do_task(rt, &mut desk, task, writer);
     let closed = close(rt.alloc(), desk.into_connection(), path);
-    ended(told, closed)
+    closing_status(told, closed)
 }
 
 // The connection to a file whose tables are to be audited. If there is no table `meta`, an empty
@@ -264,7 +264,7 @@ fn tables_of<S: Alter + Drop>(
 }
 
 // Audits the tables that a connection shows, and returns the program's status.
-fn audited<S: Alter, W: Write>(
+fn audit_tables<S: Alter, W: Write>(
     rt: &HostRuntime,
     conn: &mut Connection<S>,
     path: &str,
@@ -290,9 +290,9 @@ fn audit_over<D: Disk + Drop, W: Write>(
     requires { conn.in_transaction ≡ false }
 {
     let mut conn = tables_of(rt, conn, path)?;
-    let told = audited(rt, &mut conn, path, writer);
+    let told = audit_tables(rt, &mut conn, path, writer);
     let closed = close(rt.alloc(), conn, path);
-    ended(told, closed)
+    closing_status(told, closed)
 }
 
 // Migrates the tables behind a connection. The file is closed whatever comes of that.

@@ -18,7 +18,7 @@ use std::alloc::Global;
 use std::io::{IsTerminal, Write};
 
 // Replies that the desk failed.
-fn failed<W: Write>(alloc: Global, fault: Fault, writer: &mut W) -> Result<u8, Failure> {
+fn reply_fault<W: Write>(alloc: Global, fault: Fault, writer: &mut W) -> Result<u8, Failure> {
     let outcome = Outcome::Failed(fault);
     let told = tell(alloc, &outcome, writer);
     drop(outcome);
@@ -67,12 +67,12 @@ pub fn list<S: Alter, W: Write>(
             drop(snapshot);
             told
         }
-        Err(fault) => failed(rt.alloc(), fault, writer),
+        Err(fault) => reply_fault(rt.alloc(), fault, writer),
     }
 }
 
 // Replies that the request is refused, and reports why.
-fn refused<W: Write, E: Write>(
+fn reply_refusal<W: Write, E: Write>(
     alloc: Global,
     refusal: Refusal,
     writer: &mut W,
@@ -96,8 +96,8 @@ pub fn choices<S: Alter, W: Write, E: Write>(
     let alloc = rt.alloc();
     match desk.sole_choices(alloc, release) {
         Ok(Ok(choices)) => write_choices(alloc, release, choices.as_slice(), writer),
-        Ok(Err(refusal)) => refused(alloc, refusal, writer, teller),
-        Err(fault) => failed(alloc, fault, writer),
+        Ok(Err(refusal)) => reply_refusal(alloc, refusal, writer, teller),
+        Err(fault) => reply_fault(alloc, fault, writer),
     }
 }
 
@@ -115,8 +115,8 @@ fn choices_for<S: Alter, W: Write, E: Write>(
             Ok(Ok(choices)) => {
                 write_choices_for(alloc, release, document, choices, writer)?;
             }
-            Ok(Err(refusal)) => return refused(alloc, refusal, writer, teller),
-            Err(fault) => return failed(alloc, fault, writer),
+            Ok(Err(refusal)) => return reply_refusal(alloc, refusal, writer, teller),
+            Err(fault) => return reply_fault(alloc, fault, writer),
         }
     }
     Ok(0)
@@ -133,7 +133,7 @@ fn propose_conclusions<W: Write, E: Write>(
 ) -> Result<Result<Vec<Text>, u8>, Failure> {
     let alloc = rt.alloc();
     let Some(row) = document_row(snapshot, document) else {
-        let status = refused(alloc, Refusal::UnknownDocument, writer, teller)?;
+        let status = reply_refusal(alloc, Refusal::UnknownDocument, writer, teller)?;
         return Ok(Err(status));
     };
     let status = propose_held(
@@ -163,7 +163,7 @@ pub fn proposals<S: Alter, W: Write, E: Write>(
     let alloc = rt.alloc();
     let snapshot = match desk.snapshot() {
         Ok(snapshot) => snapshot,
-        Err(fault) => return failed(alloc, fault, writer),
+        Err(fault) => return reply_fault(alloc, fault, writer),
     };
     let written = propose_conclusions(rt, &snapshot, document, writer, teller);
     drop(snapshot);
@@ -193,11 +193,11 @@ pub fn wanting<S: Alter, W: Write, E: Write>(
     let alloc = rt.alloc();
     let refusals = match desk.wanting(alloc, release) {
         Ok(refusals) => refusals,
-        Err(fault) => return failed(alloc, fault, writer),
+        Err(fault) => return reply_fault(alloc, fault, writer),
     };
     let idle = match desk.idle_documents(alloc, release) {
         Ok(numbers) => numbers,
-        Err(fault) => return failed(alloc, fault, writer),
+        Err(fault) => return reply_fault(alloc, fault, writer),
     };
     let status = tell_wanting(alloc, refusals, writer, teller)?;
     tell_idle(rt, idle.as_slice());

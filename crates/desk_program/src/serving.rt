@@ -30,7 +30,7 @@ impl<'a> Timed<'a> {
     }
 
     // What is left of the time, which starts with the first call.
-    fn left(&mut self) -> io::Result<Duration> {
+    fn time_left(&mut self) -> io::Result<Duration> {
         let patience = Duration::from_secs(PATIENCE);
         match self.since {
             Some(since) => Ok(patience.saturating_sub(since.elapsed(self.rt)?)),
@@ -44,7 +44,7 @@ impl<'a> Timed<'a> {
 
 impl Read for Timed<'_> {
     fn read(&mut self, buf: &mut [u8]) -> io::Result<usize> {
-        let left = self.left()?;
+        let left = self.time_left()?;
         // (a time of zero is refused)
         self.stream.set_read_timeout(Some(left))?;
         let mut stream = self.stream;
@@ -54,7 +54,7 @@ impl Read for Timed<'_> {
 
 impl Write for Timed<'_> {
     fn write(&mut self, buf: &[u8]) -> io::Result<usize> {
-        let left = self.left()?;
+        let left = self.time_left()?;
         self.stream.set_write_timeout(Some(left))?;
         let mut stream = self.stream;
         stream.write(buf)

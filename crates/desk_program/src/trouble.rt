@@ -33,7 +33,7 @@ fn may(rt: &HostRuntime, path: &str, is_written: bool) -> bool {
 }
 
 // Why a file that exists at a path can't be opened.
-fn closed(rt: &HostRuntime, path: &str, found: &Metadata) -> Trouble {
+fn trouble_with(rt: &HostRuntime, path: &str, found: &Metadata) -> Trouble {
     if found.is_dir() {
         return Trouble::Folder;
     }
@@ -61,7 +61,7 @@ fn is_missing(rt: &HostRuntime, folder: Path) -> bool {
 pub fn trouble_at(rt: &HostRuntime, path: &str, error: Error) -> Trouble {
     match trouble_of(error) {
         Trouble::CannotOpen => match fs::metadata(rt, path) {
-            Ok(found) => closed(rt, path, &found),
+            Ok(found) => trouble_with(rt, path, &found),
             Err(_) => absent(rt, path),
         },
         trouble => trouble,

@@ -25,7 +25,7 @@ fn list_refusal(fault: ListFault) -> Refusal
     }
 }
 
-fn unconcluded(row: PackageRow) -> Answer
+fn no_conclusion(row: PackageRow) -> Answer
     ensures { result ≡ Answer.Refused (Refusal.NoConclusion row.document row.id) }
 {
     Answer::Refused(Refusal::NoConclusion {
@@ -35,7 +35,7 @@ fn unconcluded(row: PackageRow) -> Answer
 }
 
 /// The sets of an expression, or why they aren't listed.
-fn listed<T: Texts>(
+fn list_sets<T: Texts>(
     alloc: Global,
     texts: &T,
     expression: &T::Expression,
@@ -85,9 +85,9 @@ fn listed_for<T: Texts, S: Store>(
     ensures fault { IfErr result (MayFail S.tells) }
 {
     match in_force(alloc, texts, store, &row)? {
-        InForce::Expression(expression) => Ok(listed(alloc, texts, &expression)?),
+        InForce::Expression(expression) => Ok(list_sets(alloc, texts, &expression)?),
         InForce::NoExpression => Ok(Answer::Alternatives(Items::new(alloc))),
-        InForce::Nothing => Ok(unconcluded(row)),
+        InForce::Nothing => Ok(no_conclusion(row)),
     }
 }
 
@@ -166,7 +166,7 @@ fn term_costs<T: Texts, S: Store>(
 
 /// The cheapest set of terms under which an expression is true, given what its terms of a document
 /// cost in a form.
-fn priced<T: Texts, S: Store>(
+fn price<T: Texts, S: Store>(
     alloc: Global,
     texts: &T,
     store: &mut S,
@@ -206,10 +206,10 @@ fn priced_by<T: Texts, S: Store>(
 {
     match in_force(alloc, texts, store, &row)? {
         InForce::Expression(expression) => {
-            priced(alloc, texts, store, form, row.document, &expression)
+            price(alloc, texts, store, form, row.document, &expression)
         }
         InForce::NoExpression => Ok(Answer::Cheapest(None)),
-        InForce::Nothing => Ok(unconcluded(row)),
+        InForce::Nothing => Ok(no_conclusion(row)),
     }
 }
 

@@ -70,7 +70,7 @@ fn add_widened(found: &mut Vec<usize>, widths: &[usize], cells: &[&str]) -> Resu
 }
 
 // The widths of columns, widened for the cells of a duty.
-fn widened(alloc: Global, widths: &[usize], line: &DutyLine) -> Result<Vec<usize>, AllocError>
+fn widen(alloc: Global, widths: &[usize], line: &DutyLine) -> Result<Vec<usize>, AllocError>
     ensures { IfOk result (λ found. found.items ≡ widened widths.now (front_cells line.now)) }
 {
     let number = line.number;
@@ -89,7 +89,7 @@ fn widths(alloc: Global, lines: &[DutyLine]) -> Result<Vec<usize>, AllocError>
 {
     let mut found = widths_of(alloc, &FRONT_NAMES)?;
     for line in lines {
-        found = widened(alloc, found.as_slice(), line)?;
+        found = widen(alloc, found.as_slice(), line)?;
     }
     Ok(found)
 }

@@ -5,7 +5,7 @@ ghost use Rattle.std.specs.List.{list_any};
 ghost use Rattle.desk_base.specs.Bytes.{is_blank};
 ghost use Rattle.desk_spdx_json.specs.Words.{is_word, is_name, is_keyword};
 
-use desk_fields::trimmed;
+use desk_fields::trim;
 
 fn is_blank(byte: u8) -> bool
     ensures { result ≡ is_blank byte }
@@ -36,7 +36,7 @@ pub(crate) fn is_word(text: &str) -> bool
 pub(crate) fn is_name(text: &str) -> bool
     ensures { result ≡ is_name text.now }
 {
-    !has_comma(text) && trimmed(text) == text
+    !has_comma(text) && trim(text) == text
 }
 
 /// Whether a text is one that the standard writes without `<text>`.

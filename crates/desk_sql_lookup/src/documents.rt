@@ -22,7 +22,7 @@ use sqlite_value::value::ValueRef;
 use std::alloc::Global;
 
 /// What is known of a document, if it has this number.
-fn numbered(found: Option<(u32, Profile)>, number: u64) -> Result<Option<(u32, Profile)>, Fault>
+fn with_number(found: Option<(u32, Profile)>, number: u64) -> Result<Option<(u32, Profile)>, Fault>
     ensures kept { IfOk result (λ kept. kept ≡ found) }
     ensures same { IfOk result (λ kept. IfSome kept (λ known. known.0 ≡ number)) }
     ensures cause { IfErr result (λ _. ¬ IfSome found (λ known. known.0 ≡ number)) }
@@ -51,7 +51,7 @@ pub fn document<S: Alter>(
         "SELECT document, profile FROM reading WHERE document = ?1 ORDER BY document",
         &[among(number, documents)],
     )?;
-    numbered(found, number)
+    with_number(found, number)
 }
 
 /// The bytes of a document, if there are this many documents.

@@ -13,7 +13,7 @@ use sqlite::{Alter, Connection};
 use std::alloc::Global;
 
 /// A duty, if it has this number.
-fn numbered(found: Option<DutyRow>, number: u64) -> Result<Option<DutyRow>, Fault>
+fn with_number(found: Option<DutyRow>, number: u64) -> Result<Option<DutyRow>, Fault>
     ensures kept { IfOk result (λ kept. kept ≡ found) }
     ensures same { IfOk result (λ kept. IfSome kept (λ row. row.number ≡ number)) }
     ensures cause { IfErr result (λ _. ¬ IfSome found (λ row. row.number ≡ number)) }
@@ -41,7 +41,7 @@ pub fn duty<S: Alter>(
         "SELECT number, release, document, package, term, code, rule, state FROM duty WHERE number = ?1 ORDER BY number",
         &[among(number, duties)],
     )?;
-    numbered(found, number)
+    with_number(found, number)
 }
 
 /// The duties of a release, by number.

@@ -61,7 +61,7 @@ fn count(counts: &mut Vec<u64>, first: u32, number: u32)
 }
 
 /// How often each of this many numbers, from a first one on, is among some numbers.
-fn counted(alloc: Global, first: u32, many: u32, numbers: &[u32]) -> Result<Vec<u64>, AllocError>
+fn counts_of(alloc: Global, first: u32, many: u32, numbers: &[u32]) -> Result<Vec<u64>, AllocError>
     ensures counts { IfOk result (λ counts. AreCounts first numbers.now counts.items) }
     ensures many { IfOk result (λ counts. length counts.items ≡ many) }
 {
@@ -85,7 +85,7 @@ fn steps_from<S: Alter>(
     let last = first.saturating_add(more);
     let changed = changed_duties(alloc, conn, first, last)?;
     let many = (last - first).saturating_add(1);
-    Ok(counted(alloc, first, many, &changed)?)
+    Ok(counts_of(alloc, first, many, &changed)?)
 }
 
 /// How many changes a duty has, by the counts from a first duty on.

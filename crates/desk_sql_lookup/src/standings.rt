@@ -106,7 +106,7 @@ pub fn standings_of<S: Alter>(
 }
 
 /// The duties that are waived, by number.
-fn waived<S: Alter>(alloc: Global, conn: &mut Connection<S>) -> Result<Vec<DutyRow>, Fault>
+fn waived_duties<S: Alter>(alloc: Global, conn: &mut Connection<S>) -> Result<Vec<DutyRow>, Fault>
     ensures { LooksUp S.Store conn.old conn.new result (λ found t.
         found.items ≡ filter (stands_at (duty_state_name DutyState.Waived)) t.duty) }
 {
@@ -199,6 +199,6 @@ pub fn ended<S: Alter>(
     ensures { LooksUpIf S.Store (λ t. length t.duty ≡ duties) conn.old conn.new result (λ found t.
         found.items ≡ ended_found t day) }
 {
-    let rows = waived(alloc, conn)?;
+    let rows = waived_duties(alloc, conn)?;
     ended_among(alloc, conn, duties, &rows, day)
 }

@@ -12,7 +12,7 @@ ghost use Rattle.desk_sql_scan.specs.Scanning.{Scans};
 ghost use Rattle.desk_sql_scan.specs.Scans.{IsScan};
 
 use crate::columns::number_at;
-use crate::scan::{Stored, items, listed};
+use crate::scan::{Stored, items, list};
 use crate::source::Source;
 use desk_base::Items;
 use desk_model::Fault;
@@ -69,7 +69,7 @@ fn reading_rows<R: Source>(alloc: Global, source: &mut R) -> Result<Listed<Store
         (IsScan reading_table stored_reading_cells reading_order)
         (λ rows t. rows ≡ map reading_stored t.document) }
 {
-    listed(
+    list(
         alloc,
         source,
         "SELECT document, profile FROM reading ORDER BY document",
@@ -101,7 +101,7 @@ fn package_rows<R: Source>(alloc: Global, source: &mut R) -> Result<Listed<Store
         (IsScan package_table stored_package_cells package_order)
         (λ rows t. rows ≡ map package_stored t.packages) }
 {
-    listed(
+    list(
         alloc,
         source,
         "SELECT document, id, name, version, concluded, copyright, shipped FROM package ORDER BY +document, id",

@@ -12,7 +12,7 @@ ghost use Rattle.desk_sql_scan.specs.Scans.{IsScan};
 ghost use Rattle.desk_model.specs.Moves.{is_waiver};
 
 use crate::columns::number_at;
-use crate::scan::{Stored, items, listed};
+use crate::scan::{Stored, items, list};
 use crate::source::Source;
 use desk_base::Items;
 use desk_model::Fault;
@@ -77,7 +77,7 @@ fn change_rows<R: Source>(alloc: Global, source: &mut R) -> Result<Listed<Stored
         (IsScan change_table stored_change_cells change_order)
         (λ rows t. rows ≡ map change_stored t.changes) }
 {
-    listed(
+    list(
         alloc,
         source,
         "SELECT duty, step, day, word, body FROM change ORDER BY +duty, step",
@@ -105,7 +105,7 @@ fn waiver_rows<R: Source>(alloc: Global, source: &mut R) -> Result<Listed<Stored
         (IsScan waiver_table stored_waiver_cells waiver_order)
         (λ rows t. rows ≡ map waiver_stored (filter is_waiver t.changes)) }
 {
-    listed(
+    list(
         alloc,
         source,
         "SELECT duty, step, last_day FROM waiver ORDER BY +duty, step",

@@ -11,7 +11,7 @@ ghost use Rattle.desk_sql_scan.specs.Scanning.{Scans};
 ghost use Rattle.desk_sql_scan.specs.Scans.{IsScan};
 
 use crate::columns::number_at;
-use crate::scan::{Stored, items, listed};
+use crate::scan::{Stored, items, list};
 use crate::source::Source;
 use desk_base::Items;
 use desk_model::Fault;
@@ -44,7 +44,7 @@ fn conclusion_rows<R: Source>(
         (IsScan conclusion_table stored_conclusion_cells conclusion_order)
         (λ rows t. rows ≡ map conclusion_stored t.conclusion) }
 {
-    listed(
+    list(
         alloc,
         source,
         "SELECT document, package, expression FROM conclusion ORDER BY +document, package",

@@ -10,7 +10,7 @@ ghost use Rattle.desk_sql_scan.specs.Scanning.{Scans};
 ghost use Rattle.desk_sql_scan.specs.Scans.{IsScan};
 
 use crate::columns::number_at;
-use crate::scan::{Stored, listed};
+use crate::scan::{Stored, list};
 use crate::source::Source;
 use desk_model::Fault;
 use desk_snapshot::{Listed, StoredAttached, StoredChoice, StoredFrozen, StoredRelease};
@@ -41,7 +41,7 @@ fn release_rows<R: Source>(alloc: Global, source: &mut R) -> Result<Listed<Store
         (IsScan releases_table stored_release_cells release_order)
         (λ rows t. rows ≡ map release_stored t.releases) }
 {
-    listed(
+    list(
         alloc,
         source,
         "SELECT name, place, form, state, revision FROM releases ORDER BY +name",
@@ -68,7 +68,7 @@ fn attached_rows<R: Source>(alloc: Global, source: &mut R) -> Result<Listed<Stor
         (IsScan attached_table stored_attached_cells attached_order)
         (λ rows t. rows ≡ map attached_stored t.attached) }
 {
-    listed(
+    list(
         alloc,
         source,
         "SELECT release, document FROM attached ORDER BY +release, document",
@@ -97,7 +97,7 @@ fn choice_rows<R: Source>(alloc: Global, source: &mut R) -> Result<Listed<Stored
         (IsScan choice_table stored_choice_cells choice_order)
         (λ rows t. rows ≡ map choice_stored t.choice) }
 {
-    listed(
+    list(
         alloc,
         source,
         "SELECT release, document, package, term FROM choice ORDER BY +release, document, package, term",
@@ -127,7 +127,7 @@ fn frozen_rows<R: Source>(alloc: Global, source: &mut R) -> Result<Listed<Stored
         (IsScan frozen_table stored_frozen_cells frozen_order)
         (λ rows t. rows ≡ map frozen_stored t.frozen) }
 {
-    listed(
+    list(
         alloc,
         source,
         "SELECT release, document, package, term, rule FROM frozen ORDER BY +release, document, package, term",

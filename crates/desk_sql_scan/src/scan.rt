@@ -74,7 +74,7 @@ pub(crate) fn items<T: Stored + Drop, R: Source>(
 }
 
 /// The rows that a query shows, as a list that is searched by its keys.
-pub(crate) fn listed<T: Stored + Keyed + Drop, R: Source>(
+pub(crate) fn list<T: Stored + Keyed + Drop, R: Source>(
     alloc: Global,
     source: &mut R,
     sql: &str,

@@ -74,7 +74,7 @@ fn second_part<R: Source>(alloc: Global, source: &mut R) -> Result<SecondPart, F
 }
 
 /// The snapshot of both parts.
-fn joined(first: FirstPart, second: SecondPart) -> Snapshot
+fn join(first: FirstPart, second: SecondPart) -> Snapshot
     ensures { result ≡ joined_of first second }
 {
     let FirstPart { documents, duties } = first;
@@ -111,7 +111,7 @@ fn read_whole<R: Source>(alloc: Global, source: &mut R) -> Result<Snapshot, Faul
 {
     let first = first_part(alloc, source)?;
     let second = second_part(alloc, source)?;
-    Ok(joined(first, second))
+    Ok(join(first, second))
 }
 
 /// Reads all rows of a desk's tables, each table in the order of its key.

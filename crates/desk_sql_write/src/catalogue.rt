@@ -40,7 +40,7 @@ pub(crate) fn add_revision<S: Alter>(
 }
 
 /// The codes of a rule, joined by one blank.
-fn joined(alloc: Global, codes: &[Text]) -> Result<String, AllocError>
+fn join_codes(alloc: Global, codes: &[Text]) -> Result<String, AllocError>
     ensures { IfOk result (λ text. string_bytes text ≡ joined codes.now) }
 {
     let mut text = String::new(alloc);
@@ -74,7 +74,7 @@ impl Added for RuleRow {
     ghost rows = { λ row. rule_cells row ∷ [] };
 
     fn add<S: Alter>(&self, alloc: Global, tx: &mut Transaction<'_, S>) -> Result<(), Fault> {
-        let codes = joined(alloc, self.codes.as_slice())?;
+        let codes = join_codes(alloc, self.codes.as_slice())?;
         execute(
             tx,
             "INSERT INTO rule VALUES (?1, ?2, ?3, ?4, ?5)",

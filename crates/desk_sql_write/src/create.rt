@@ -80,7 +80,7 @@ fn declare<S: Alter>(tx: &mut Transaction<'_, S>, texts: &[&str]) -> Result<(), 
 }
 
 /// Declares all tables, and records their version.
-fn found<S: Alter>(tx: &mut Transaction<'_, S>) -> Result<(), Fault>
+fn declare_tables<S: Alter>(tx: &mut Transaction<'_, S>) -> Result<(), Fault>
     ensures same_reference { tx.new.conn.ghost_name ≡ tx.old.conn.ghost_name }
     ensures founded { HasFounded (state S.Store tx.old.conn.now) (state S.Store tx.new.conn.now)
         result }
@@ -109,7 +109,7 @@ fn write<S: Alter>(conn: &mut Connection<S>) -> Result<(), Fault>
         → trees ≡ (state S.Store conn.new).committed.trees }
 {
     let mut tx = conn.transaction();
-    found(&mut tx)?;
+    declare_tables(&mut tx)?;
     match tx.commit() {
         Ok(()) => Ok(()),
         Err(error) => Err(fault_of(&error)),

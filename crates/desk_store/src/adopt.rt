@@ -142,7 +142,7 @@ pub(crate) fn read_beside<S: Alter>(
 }
 
 /// Whether a database holds the tables of a desk, or why not.
-fn examined<S: Alter>(conn: &mut Connection<S>) -> Result<(), AdoptFault>
+fn ensure_desk<S: Alter>(conn: &mut Connection<S>) -> Result<(), AdoptFault>
     requires { conn.old.in_transaction ≡ false }
     ensures desk { HasCleanDisk (state S.Store conn.new)
         → OnOk result (IsContent (state S.Store conn.old) Content.Desk) }
@@ -166,7 +166,7 @@ fn examined<S: Alter>(conn: &mut Connection<S>) -> Result<(), AdoptFault>
 }
 
 /// Whether the tables of a desk are sound, or why not.
-fn audited<S: Alter>(alloc: Global, conn: &mut Connection<S>) -> Result<(), AdoptFault>
+fn ensure_sound<S: Alter>(alloc: Global, conn: &mut Connection<S>) -> Result<(), AdoptFault>
     requires { conn.old.in_transaction ≡ false }
     ensures sound { IfErr result (λ fault. InHistory AreRight (λ w h. IsFault fault)
         (seen_of (state S.Store conn.old)) (seen_of (state S.Store conn.new))) }
@@ -190,7 +190,7 @@ fn audited<S: Alter>(alloc: Global, conn: &mut Connection<S>) -> Result<(), Adop
 }
 
 /// Whether a database holds the sound tables of a desk, or why not.
-fn vetted<S: Alter>(alloc: Global, conn: &mut Connection<S>) -> Result<(), AdoptFault>
+fn ensure_sound_desk<S: Alter>(alloc: Global, conn: &mut Connection<S>) -> Result<(), AdoptFault>
     requires { conn.old.in_transaction ≡ false }
     ensures desk { HasCleanDisk (state S.Store conn.new)
         → OnOk result (IsContent (state S.Store conn.old) Content.Desk) }
@@ -206,8 +206,8 @@ fn vetted<S: Alter>(alloc: Global, conn: &mut Connection<S>) -> Result<(), Adopt
     ensures cause { IfErr result (AdoptFailsFor (state S.Store conn.old) (state S.Store conn.new)) }
     ensures mode { conn.new.in_transaction ≡ false }
 {
-    match examined(conn) {
-        Ok(()) => audited(alloc, conn),
+    match ensure_desk(conn) {
+        Ok(()) => ensure_sound(alloc, conn),
         Err(fault) => Err(fault),
     }
 }
@@ -238,7 +238,7 @@ pub(crate) fn examine_desk<S: Alter>(
     ensures cause { IfErr result (AdoptFailsFor (state S.Store conn.old) (state S.Store conn.new)) }
     ensures mode { conn.new.in_transaction ≡ false }
 {
-    vetted(alloc, conn)?;
+    ensure_sound_desk(alloc, conn)?;
     match read_beside(alloc, conn) {
         Ok(Some(beside)) => Ok(beside),
         Ok(None) => Err(AdoptFault::Fault(Fault::Store(StoreFault::Rows))),

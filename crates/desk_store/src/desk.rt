@@ -27,7 +27,7 @@ ghost use Rattle.desk_store.specs.Migrating.{IsLeftBy};
 use crate::adopt::examine_desk;
 use crate::counts::Counts;
 use crate::fault::{AdoptFault, CreateFault};
-use crate::migrate::migrated;
+use crate::migrate::migrate_store;
 use crate::store::SqlStore;
 use desk_base::{Items, Text};
 use desk_core::{Answer, Command, Desk, Fault, Query, TableDesk};
@@ -187,7 +187,7 @@ impl<S: Alter> SqlDesk<S> {
         ensures idle { IfErr result (λ e. e.1.in_transaction ≡ false) }
     {
         let mut conn = conn;
-        match migrated(alloc, &mut conn) {
+        match migrate_store(alloc, &mut conn) {
             Ok((version, (counts, forms, tallies))) => {
                 Ok((SqlDesk::over(alloc, conn, counts, forms, tallies), version))
             }

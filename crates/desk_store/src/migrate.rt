@@ -27,7 +27,7 @@ pub(crate) type Beside = (Counts, Items<Text>, Tallies);
 
 /// Migrates the tables of an older version in a database to this one, and reads what a store keeps
 /// beside them.
-pub(crate) fn migrated<S: Alter>(
+pub(crate) fn migrate_store<S: Alter>(
     alloc: Global,
     conn: &mut Connection<S>,
 ) -> Result<(OlderVersion, Beside), MigrateFault>

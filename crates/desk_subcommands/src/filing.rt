@@ -114,7 +114,7 @@ pub fn tell<W: Write>(alloc: Global, outcome: &Outcome, writer: &mut W) -> Resul
 }
 
 // Imports a document.
-fn imported<D: Desk>(desk: &mut D, bytes: Items<u8>, profile: Profile) -> Outcome
+fn import_bytes<D: Desk>(desk: &mut D, bytes: Items<u8>, profile: Profile) -> Outcome
     ensures { Comes D.are_right D.tells D.stands (Import bytes profile) (D.seen desk.old)
         (D.seen desk.new) result }
 {
@@ -122,7 +122,7 @@ fn imported<D: Desk>(desk: &mut D, bytes: Items<u8>, profile: Profile) -> Outcom
 }
 
 // Loads a catalogue.
-fn loaded<D: Desk>(desk: &mut D, text: Text) -> Outcome
+fn load_text<D: Desk>(desk: &mut D, text: Text) -> Outcome
     ensures { Comes D.are_right D.tells D.stands (LoadCatalogue text) (D.seen desk.old)
         (D.seen desk.new) result }
 {
@@ -178,7 +178,7 @@ pub fn import<D: Desk, W: Write, E: Write>(
     ensures memory { IfErr result
         (IfMemory (Keeps (W.contents writer.old) (W.contents writer.new))) }
 {
-    let outcome = imported(desk, bytes, profile);
+    let outcome = import_bytes(desk, bytes, profile);
     answer(alloc, outcome, writer, teller)
 }
 
@@ -204,7 +204,7 @@ pub fn catalogue<D: Desk, W: Write, E: Write>(
     ensures memory { IfErr result
         (IfMemory (Keeps (W.contents writer.old) (W.contents writer.new))) }
 {
-    let outcome = loaded(desk, text);
+    let outcome = load_text(desk, text);
     answer(alloc, outcome, writer, teller)
 }
 

@@ -19,7 +19,7 @@ fn status_of(answer: &Gathering) -> u8
     if answer.is_document() { 0 } else { 1 }
 }
 
-fn gathered(
+fn gathering_of(
     alloc: Global,
     files: Vec<SourceFile>,
     name: &str,
@@ -94,7 +94,7 @@ pub fn gather<W: Write, T: Write>(
     ensures untold { IfErr result
         (IfUntold (Keeps (W.contents writer.old) (W.contents writer.new))) }
 {
-    let answer = gathered(alloc, files, name, namespace, created)?;
+    let answer = gathering_of(alloc, files, name, namespace, created)?;
     let status = status_of(&answer);
     let text = answer.text(alloc)?;
     writer.write_all(text.as_bytes())?;

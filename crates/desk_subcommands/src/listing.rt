@@ -79,7 +79,7 @@ impl Listing {
     }
 }
 
-fn listed(alloc: Global, tree: &Expr) -> Result<Listing, AllocError>
+fn listing_of(alloc: Global, tree: &Expr) -> Result<Listing, AllocError>
     ensures { IfOk result (IsListingOf tree.now) }
 {
     match desk_alts::alternatives(alloc, tree) {
@@ -94,7 +94,7 @@ fn list(alloc: Global, expression: &str, profile: Profile) -> Result<Listing, Al
     ensures { IfOk result (IsListing profile expression.now) }
 {
     match parse_in(alloc, expression, profile) {
-        Ok(tree) => listed(alloc, &tree),
+        Ok(tree) => listing_of(alloc, &tree),
         Err(fault) => Ok(Listing::Unread(told(fault)?)),
     }
 }

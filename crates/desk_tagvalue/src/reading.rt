@@ -64,7 +64,7 @@ fn document_of<'a>(alloc: Global, entries: Vec<Entry<'a>>) -> Result<Document<'a
 }
 
 // The document of these fields, or the fault for which they aren't one.
-fn judged<'a>(alloc: Global, entries: Vec<Entry<'a>>) -> Result<Document<'a>, DocFault>
+fn judge<'a>(alloc: Global, entries: Vec<Entry<'a>>) -> Result<Document<'a>, DocFault>
     ensures ok { IfOk result
         (λ d. judged (map entry_text entries.entry.items) ≡ Ok (document_text d)) }
     ensures err { IfErr result (λ e. (e ≡ DocFault.Memory)
@@ -95,7 +95,7 @@ pub fn read<'a>(alloc: Global, bytes: &'a [u8]) -> Result<Document<'a>, DocFault
         return Err(DocFault::NotUtf8);
     };
     match entries_of(alloc, text) {
-        Ok(entries) => judged(alloc, entries),
+        Ok(entries) => judge(alloc, entries),
         Err(fault) => Err(fault),
     }
 }

@@ -80,7 +80,7 @@ fn kept_of(alloc: Global, own: &TermTable, words: &TextList) -> Result<Option<Ke
 }
 
 /// How a choice satisfies an expression, by what is kept of it.
-fn judged(expr: &Expr, kept: &Kept) -> Verdict
+fn verdict_of(expr: &Expr, kept: &Kept) -> Verdict
     requires { vec_len kept.now.places ≡ vec_len kept.now.terms }
     ensures { (own chosen : List Term) → AreTermsOf expr.now own
         → AreFirst own chosen kept.now.terms.items kept.now.places.items
@@ -99,7 +99,7 @@ pub(crate) fn verdict(alloc: Global, expr: &Expr, words: &TextList) -> Result<Ve
 {
     let own = TermTable::of(alloc, expr)?;
     match kept_of(alloc, &own, words)? {
-        Some(kept) => Ok(judged(expr, &kept)),
+        Some(kept) => Ok(verdict_of(expr, &kept)),
         None => Ok(Verdict::NotEnough),
     }
 }

@@ -167,7 +167,7 @@ fn document_of(
     })
 }
 
-fn named(alloc: Global, tag: Tag) -> Result<Text, AllocError>
+fn tag_text(alloc: Global, tag: Tag) -> Result<Text, AllocError>
     ensures { IfOk result (λ text. text ≡ tag_name tag) }
 {
     Text::of(alloc, tag.name())
@@ -187,13 +187,13 @@ fn fault_of(alloc: Global, fault: DocFault) -> Result<DocumentFault, AllocError>
         DocFault::BadVersion(line) => Ok(DocumentFault::BadVersion(line)),
         DocFault::Missing(line, tag) => Ok(DocumentFault::Missing {
             line,
-            tag: named(alloc, tag)?,
+            tag: tag_text(alloc, tag)?,
         }),
         DocFault::BadId(line) => Ok(DocumentFault::BadId(line)),
         DocFault::DuplicateId(line) => Ok(DocumentFault::DuplicateId(line)),
         DocFault::Repeated(line, tag) => Ok(DocumentFault::Repeated {
             line,
-            tag: named(alloc, tag)?,
+            tag: tag_text(alloc, tag)?,
         }),
         DocFault::BadRelationship(line) => Ok(DocumentFault::BadRelationship(line)),
         DocFault::TooLarge => Ok(DocumentFault::TooLarge),

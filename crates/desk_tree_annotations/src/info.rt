@@ -25,7 +25,7 @@ pub struct Info<'a> {
 
 // The notices and licences of a file, if no tag begins in its first `known` bytes. The searches are
 // prepared once for all lines.
-fn tagged<'a>(
+fn tagged_info<'a>(
     alloc: Global,
     file: &'a [u8],
     mark: &Finder<'_>,
@@ -80,7 +80,7 @@ pub fn header<'a>(alloc: Global, file: &'a [u8]) -> Result<Info<'a>, AllocError>
             licences: Vec::new(alloc),
         });
     };
-    tagged(alloc, file, &mark, known)
+    tagged_info(alloc, file, &mark, known)
 }
 
 /// A file has one list of notices and one of licences.

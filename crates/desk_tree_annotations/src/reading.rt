@@ -18,7 +18,7 @@ use std::alloc::{AllocError, Global};
 use toml::{Table, Value};
 
 // The entries that are listed in a table.
-fn listed(table: &Table) -> Result<&[Value], AnnotationsFault>
+fn entries(table: &Table) -> Result<&[Value], AnnotationsFault>
     ensures { Gives (listed (get_member (codes "annotations") (table_view table.now))) (λ values.
         items_view values.now) result }
 {
@@ -36,7 +36,7 @@ pub(crate) fn entries_in(table: &Table) -> Result<&[Value], AnnotationsFault>
     ensures { Gives (entries_in (table_view table.now)) (λ values. items_view values.now) result }
 {
     if is_version(member(table, "version")) {
-        listed(table)
+        entries(table)
     } else {
         Err(AnnotationsFault::BadToml)
     }

@@ -59,7 +59,7 @@ impl SharedTexts {
     }
 
     /// The text at a place, from 0, which holds the whole list.
-    pub fn shared(&self, place: usize) -> Result<SharedText, AllocError>
+    pub fn share(&self, place: usize) -> Result<SharedText, AllocError>
         requires { place < length self.now }
         ensures { IfOk result (λ t. t ≡ slice_index_or self.now place []) }
     {

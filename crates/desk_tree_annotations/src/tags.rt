@@ -71,7 +71,7 @@ fn value(after: &[u8]) -> Option<&str>
 }
 
 // What a run gives, if its line hasn't had its tag.
-fn counted<'a>(run: Run<'a>, tag: &Finder<'_>, seen: u64) -> Option<Option<&'a str>>
+fn tag_of_run<'a>(run: Run<'a>, tag: &Finder<'_>, seen: u64) -> Option<Option<&'a str>>
     requires { 0 < length tag.now }
     ensures { Counts tag.now seen (run_text run.entry) (found result) }
 {
@@ -93,7 +93,7 @@ pub(crate) fn add<'a>(
     ensures { IfOk result (λ n. Adds tag.now seen (run_text run.entry) (map tag_text list.old.items)
         (map tag_text list.new.items) n) }
 {
-    let Some(found) = counted(run, tag, seen) else {
+    let Some(found) = tag_of_run(run, tag, seen) else {
         return Ok(seen);
     };
     let Some(value) = found else {

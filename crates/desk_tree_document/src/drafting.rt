@@ -14,7 +14,7 @@ use crate::texts::{copyright_of, expression_read};
 use desk_base::{Items, Text};
 use desk_bom::verification_code;
 use desk_tagvalue::{Draft, DraftFile};
-use desk_tree_gather::{GatherFault, Infos, SourceFile, told};
+use desk_tree_gather::{GatherFault, Infos, SourceFile, gather_files};
 use std::alloc::{AllocError, Global};
 
 // A document's name, its namespace and its time.
@@ -58,7 +58,7 @@ fn names_of(alloc: Global, title: Title<'_>) -> Result<Names, AllocError>
 }
 
 // The licence that is concluded for the package, from all files.
-fn concluded(alloc: Global, infos: &Infos) -> Result<Result<Text, GatherFault>, AllocError>
+fn concluded_licence(alloc: Global, infos: &Infos) -> Result<Result<Text, GatherFault>, AllocError>
     ensures { (r : Reader) → IsRightReader r → IfOk result
         (Gives (expression_read r.reading (package_licences infos.now)) (λ t. t)) }
 {
@@ -89,7 +89,7 @@ fn draft_with(
         → IfOk result (λ x. IfErr x (λ f.
         (code : List ℕ) → draft_with r (named title.entry) infos.now files.items code ≡ Err f)) }
 {
-    let concluded = match concluded(alloc, infos)? {
+    let concluded = match concluded_licence(alloc, infos)? {
         Ok(concluded) => concluded,
         Err(fault) => return Ok(Err(fault)),
     };
@@ -112,7 +112,7 @@ fn draft_with(
 }
 
 // The draft of a tree.
-fn drafted(
+fn draft_or_fault(
     alloc: Global,
     files: Vec<SourceFile>,
     title: Title<'_>,
@@ -125,7 +125,7 @@ fn drafted(
         → IfOk result (λ x. IfErr x (λ f.
         (code : List ℕ) → draft_of r files.items (named title.entry) code ≡ Err f)) }
 {
-    let told = match told(alloc, files)? {
+    let told = match gather_files(alloc, files)? {
         Ok(told) => told,
         Err(fault) => return Ok(Err(fault)),
     };
@@ -167,7 +167,7 @@ pub fn draft(
         namespace,
         created,
     };
-    match drafted(alloc, files, title) {
+    match draft_or_fault(alloc, files, title) {
         Ok(Ok(draft)) => Ok(draft),
         Ok(Err(fault)) => Err(fault),
         Err(error) => Err(GatherFault::Memory(error)),

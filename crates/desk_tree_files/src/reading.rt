@@ -129,7 +129,7 @@ fn read_and_clear<R: Files + Eprint + AllocGlobal + Clone + Drop>(
 }
 
 // The files at some paths, without their bytes.
-fn named<R: Files + AllocGlobal + Clone + Drop>(
+fn unread_files<R: Files + AllocGlobal + Clone + Drop>(
     rt: &R,
     paths: &[String],
 ) -> Result<Vec<SourceFile>, TreeFault>
@@ -160,7 +160,7 @@ pub fn files_of<R: Files + Eprint + AllocGlobal + Clone + Drop>(
 {
     let paths = paths_of(rt, root)?;
     if paths.len() > limits::TREE_FILES {
-        return named(rt, paths.as_slice());
+        return unread_files(rt, paths.as_slice());
     }
     read_and_clear(rt, root, paths.as_slice(), is_told)
 }

@@ -22,7 +22,7 @@ struct Met {
 }
 
 // The path of an entry with a name in a folder.
-fn joined(alloc: Global, folder: &str, name: &str) -> Result<String, AllocError>
+fn join_path(alloc: Global, folder: &str, name: &str) -> Result<String, AllocError>
     ensures { IfOk result (λ path. string_bytes path ≡ joined folder.now name.now) }
 {
     if folder == "" {
@@ -63,9 +63,11 @@ fn note<R: Files + AllocGlobal + Clone + Drop>(
     }
     let kind = entry.file_type()?;
     if kind.is_dir() {
-        met.folders.push(joined(alloc, folder, entry.file_name())?)?;
+        met.folders
+            .push(join_path(alloc, folder, entry.file_name())?)?;
     } else if kind.is_file() {
-        met.files.push(joined(alloc, folder, entry.file_name())?)?;
+        met.files
+            .push(join_path(alloc, folder, entry.file_name())?)?;
     }
     Ok(())
 }

@@ -18,7 +18,7 @@ use crate::flaw::Flaw;
 use crate::surveying::{Surveyed, survey};
 use desk_base::{Text, TextList};
 use desk_tree_annotations::{Annotation, Info, Tagged, header, is_expression_beside};
-use desk_tree_infos::{Covered, FileInfo, Sources, Subject, given, set_in};
+use desk_tree_infos::{Covered, FileInfo, Sources, Subject, set_in, sources_of};
 use std::alloc::{AllocError, Global};
 
 // The line of the first licence that is no expression.
@@ -77,7 +77,7 @@ fn given_of(
 {
     let listed = values(alloc, own)?;
     let own = set_in(alloc, listed)?;
-    given(alloc, of, own, all, counting)
+    sources_of(alloc, of, own, all, counting)
 }
 
 /// The information of a file, from its own and the annotations that count.
@@ -133,7 +133,7 @@ fn first_fault(alloc: Global, flaws: &[Flaw]) -> Result<Option<GatherFault>, All
 /// The survey of a tree in which nothing is wrong, with the information of its covered files by
 /// path; or the first fault: too many files; a fault of the paths in turn, of the REUSE.toml files
 /// by path, or of what the covered files state, by path. The only error is lack of memory.
-pub fn gathered<'a>(
+pub fn survey_or_fault<'a>(
     alloc: Global,
     files: &'a [SourceFile],
 ) -> Result<Result<Surveyed<'a>, GatherFault>, AllocError>
@@ -153,14 +153,14 @@ pub fn gathered<'a>(
 }
 
 // The information of the covered files, each with all its texts.
-fn listed(
+fn list_infos(
     alloc: Global,
     files: &[SourceFile],
 ) -> Result<Result<Vec<FileInfo>, GatherFault>, AllocError>
     ensures { (r : Reader) → IsRightReader r
         → IfOk result (Gives (gathered r files.now) (λ v. v.items)) }
 {
-    match gathered(alloc, files)? {
+    match survey_or_fault(alloc, files)? {
         Ok(surveyed) => {
             let listed = surveyed.infos.to_vec(alloc)?;
             Ok(Ok(listed))
@@ -169,7 +169,7 @@ fn listed(
     }
 }
 
-/// The information of each covered file by path, or the first fault, as `gathered` has them.
+/// The information of each covered file by path, or the first fault, as `survey_or_fault` has them.
 ///
 /// For each right reader the answer is that of the definition `gathered`; `Memory` means lack of
 /// memory and nothing else.
@@ -180,7 +180,7 @@ pub fn gather(alloc: Global, files: &[SourceFile]) -> Result<Vec<FileInfo>, Gath
         → IfErr result (λ f. (f ≡ GatherFault.Memory alloc_error)
         ⊎ (gathered r files.now ≡ Err f)) }
 {
-    match listed(alloc, files) {
+    match list_infos(alloc, files) {
         Ok(Ok(infos)) => Ok(infos),
         Ok(Err(fault)) => Err(fault),
         Err(error) => Err(GatherFault::Memory(error)),

@@ -10,10 +10,10 @@
 //! - `survey` goes on after faults: it returns all that is wrong in a tree, and the information of
 //!   the files from what can be read (`specs/Survey.antt`), with the licences of REUSE.toml files
 //!   that no document can hold (`specs/Blanks.antt`). What is gathered stops at the first of these
-//!   flaws (`gathered_is_surveyed`), so `gathered` and `gather` are a survey without flaws, or the
-//!   fault for the first one.
-//! - `told` takes the files by value: it returns what is gathered with the digest of each file
-//!   (`specs/Telling.antt`), and drops the bytes of each file once these are known.
+//!   flaws (`gathered_is_surveyed`), so `survey_or_fault` and `gather` are a survey without flaws,
+//!   or the fault for the first one.
+//! - `gather_files` takes the files by value: it returns what is gathered with the digest of each
+//!   file (`specs/Telling.antt`), and drops the bytes of each file once these are known.
 //! - The definitions are over a `Reader`: the pieces of patterns, the licence expressions, the
 //!   matches of paths and what files state themselves. `gather` answers as they say for each reader
 //!   that is right by the definitions of `desk_tree_annotations` and `desk_expr` (`IsRightReader`),
@@ -37,7 +37,7 @@ pub use desk_tree_infos::{FileInfo, First, Infos, Outline, Subject};
 pub use fault::GatherFault;
 pub use files::{SourceFile, bytes_at};
 pub use flaw::Flaw;
-pub use gathering::{gather, gathered};
+pub use gathering::{gather, survey_or_fault};
 pub use laws::{gathered_is_surveyed, one_reader};
 pub use surveying::{Surveyed, survey};
-pub use telling::{ToldFile, ToldFiles, told};
+pub use telling::{ToldFile, ToldFiles, gather_files};

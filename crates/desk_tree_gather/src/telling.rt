@@ -111,7 +111,7 @@ impl ToldFiles {
 }
 
 // The files by path, or the first fault of their paths.
-fn placed(
+fn place_files(
     alloc: Global,
     files: Vec<SourceFile>,
 ) -> Result<Result<BTreeMap<Key, Items<u8>>, GatherFault>, AllocError>
@@ -143,7 +143,7 @@ fn tree_of(
     if files.len() > limits::TREE_FILES {
         return Ok(Err(GatherFault::TooManyFiles));
     }
-    placed(alloc, files)
+    place_files(alloc, files)
 }
 
 // The REUSE.toml files of a tree.
@@ -302,7 +302,7 @@ fn told_in(
 ///
 /// For each right reader it is what `told` says: what is gathered, each with the SHA1 digest of its
 /// file. The only error is lack of memory.
-pub fn told(
+pub fn gather_files(
     alloc: Global,
     files: Vec<SourceFile>,
 ) -> Result<Result<ToldFiles, GatherFault>, AllocError>

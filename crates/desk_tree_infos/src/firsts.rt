@@ -61,7 +61,7 @@ fn add_listed<'m>(
         if !added {
             continue;
         }
-        list.push(texts.shared(place)?)?;
+        list.push(texts.share(place)?)?;
     }
     Ok(())
 }
@@ -90,7 +90,7 @@ fn add_annotation<'m>(
 }
 
 // The texts of a file that weren't seen before.
-fn unseen<'m>(
+fn unseen_texts<'m>(
     alloc: Global,
     of: Subject,
     all: &'m [Annotation],
@@ -127,7 +127,7 @@ pub(crate) fn firsts_of<'m>(
     };
     let mut firsts = Vec::new(alloc);
     for file in files {
-        let texts = unseen(alloc, of, all, file.sources(of), &mut seen)?;
+        let texts = unseen_texts(alloc, of, all, file.sources(of), &mut seen)?;
         let path = file.path.as_str();
         firsts.push(First { path, texts })?;
     }

@@ -105,7 +105,7 @@ fn with_own(
 
 /// The texts of a file: its own, and those of the annotations that count. The numbers take no more
 /// room than those of all these annotations, because a deep tree has many for each file.
-pub fn given(
+pub fn sources_of(
     alloc: Global,
     of: Subject,
     own: Vec<SharedText>,

@@ -93,7 +93,7 @@ fn add_listed(list: &mut Vec<SharedText>, more: &SharedTexts) -> Result<(), Allo
     ensures { OnOk result (list.new.items ≡ list.old.items ++ more.now) }
 {
     for place in 0..more.len() {
-        list.push(more.shared(place)?)?;
+        list.push(more.share(place)?)?;
     }
     Ok(())
 }

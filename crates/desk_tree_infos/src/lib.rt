@@ -30,7 +30,7 @@ mod trail;
 pub use covering::counting;
 pub use firsts::First;
 pub use folders::{Folders, Toml, by_folder};
-pub use information::{Sources, Subject, given};
+pub use information::{Sources, Subject, sources_of};
 pub use infos::{Covered, FileInfo, Infos, Outline, info_at};
 pub use sets::set_in;
 pub use trail::Trail;

@@ -19,7 +19,7 @@ pub(crate) fn shared_set(listed: Vec<SharedText>) -> Items<SharedText>
 }
 
 // Copies of texts in one buffer.
-fn copied(alloc: Global, texts: &[SharedText]) -> Result<TextList, AllocError>
+fn copy_texts(alloc: Global, texts: &[SharedText]) -> Result<TextList, AllocError>
     ensures { IfOk result (λ list. list ≡ texts.now) }
 {
     let mut list = TextList::new(alloc);
@@ -35,7 +35,7 @@ fn all_of(alloc: Global, list: &SharedTexts) -> Result<Vec<SharedText>, AllocErr
 {
     let mut all = Vec::with_capacity(alloc, list.len())?;
     for place in 0..list.len() {
-        all.push(list.shared(place)?)?;
+        all.push(list.share(place)?)?;
     }
     Ok(all)
 }
@@ -55,6 +55,6 @@ pub fn set_in(alloc: Global, list: TextList) -> Result<Vec<SharedText>, AllocErr
 {
     let listed = all_in(alloc, list)?;
     let sorted = shared_set(listed);
-    let list = copied(alloc, sorted.as_slice())?;
+    let list = copy_texts(alloc, sorted.as_slice())?;
     all_in(alloc, list)
 }

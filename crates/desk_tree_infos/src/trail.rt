@@ -39,7 +39,7 @@ fn both_begin<'a, 'b>(one: &'a [u8], other: &'b [u8]) -> Option<(u8, &'a [u8], &
 }
 
 // How many folders are on the way to both paths, and what follows them in the second path.
-fn shared<'a>(before: &[u8], path: &'a [u8]) -> (usize, &'a [u8])
+fn shared_folders<'a>(before: &[u8], path: &'a [u8]) -> (usize, &'a [u8])
     ensures shares { Shares before.now path.now result.0 result.1.now }
     ensures within { length result.1.now ≤ length path.now }
 {
@@ -100,7 +100,7 @@ impl<'m> Trail<'m> {
         ensures path { IfOk result (λ t. t.path.items ≡ path.now) }
     {
         let path = path.as_bytes();
-        let (same, rest) = shared(self.path.as_slice(), path);
+        let (same, rest) = shared_folders(self.path.as_slice(), path);
         let mut lists = Vec::from_slice(alloc, self.lists.as_slice())?;
         lists.truncate(same);
         add_behind(self.folders, path, rest, &mut lists)?;

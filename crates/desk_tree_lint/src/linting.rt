@@ -11,11 +11,11 @@ ghost use Rattle.desk_tree_lint.specs.Texts.{text_files};
 ghost use Rattle.desk_tree_lint.specs.Used.{AreUsed};
 ghost use Rattle.desk_tree_lint.specs.Lists.{lists_of, IsLint};
 
-use crate::lists::{Lint, bare, missing, unused};
-use crate::ordering::ordered;
+use crate::lists::{Lint, bare, missing, unused_paths};
+use crate::ordering::sorted_keys;
 use crate::texts::text_files;
-use crate::used::used;
-use desk_tree_gather::{First, GatherFault, Infos, SourceFile, Subject, Surveyed, gathered};
+use crate::used::used_keys;
+use desk_tree_gather::{First, GatherFault, Infos, SourceFile, Subject, Surveyed, survey_or_fault};
 use std::alloc::{AllocError, Global};
 use std::collections::BTreeMap;
 
@@ -31,23 +31,26 @@ pub fn lists_of<'a>(
         → IfOk result (λ l. (keys : List (List ℕ)) × AreUsed infos.now keys
         × (l ≡ lists_of infos.now keys (text_files (tree_in tree.now)))) }
 {
-    let used = used(alloc, firsts)?;
-    let keys = ordered(alloc, &used)?;
+    let used = used_keys(alloc, firsts)?;
+    let keys = sorted_keys(alloc, &used)?;
     let texts = text_files(alloc, tree)?;
     Ok(Lint {
         missing: missing(alloc, keys.as_slice(), texts.as_slice())?,
-        unused: unused(alloc, keys.as_slice(), texts.as_slice())?,
+        unused: unused_paths(alloc, keys.as_slice(), texts.as_slice())?,
         bare: bare(alloc, infos)?,
     })
 }
 
 // The lists of a tree, with lack of memory apart from its faults.
-fn linted(alloc: Global, files: &[SourceFile]) -> Result<Result<Lint, GatherFault>, AllocError>
+fn lint_or_fault(
+    alloc: Global,
+    files: &[SourceFile],
+) -> Result<Result<Lint, GatherFault>, AllocError>
     ensures ok { (r : Reader) → IsRightReader r → IfOk result (λ x. IfOk x (IsLint r files.now)) }
     ensures err { (r : Reader) → IsRightReader r
         → IfOk result (λ x. IfErr x (λ f. gathered r files.now ≡ Err f)) }
 {
-    let Surveyed { tree, infos, .. } = match gathered(alloc, files)? {
+    let Surveyed { tree, infos, .. } = match survey_or_fault(alloc, files)? {
         Ok(surveyed) => surveyed,
         Err(fault) => return Ok(Err(fault)),
     };
@@ -59,7 +62,7 @@ fn linted(alloc: Global, files: &[SourceFile]) -> Result<Result<Lint, GatherFaul
 /// What a tree lacks (REUSE Specification 3.3), or the fault because of which nothing is gathered
 /// from it.
 ///
-/// For each right reader the lists are those of `IsLint`, and the fault that of `gathered`;
+/// For each right reader the lists are those of `IsLint`, and the fault that of `survey_or_fault`;
 /// `Memory` means lack of memory and nothing else.
 pub fn lint(alloc: Global, files: &[SourceFile]) -> Result<Lint, GatherFault>
     ensures ok { (r : Reader) → IsRightReader r → IfOk result (IsLint r files.now) }
@@ -67,7 +70,7 @@ pub fn lint(alloc: Global, files: &[SourceFile]) -> Result<Lint, GatherFault>
         → IfErr result (λ f. (f ≡ GatherFault.Memory alloc_error)
         ⊎ (gathered r files.now ≡ Err f)) }
 {
-    match linted(alloc, files) {
+    match lint_or_fault(alloc, files) {
         Ok(Ok(lists)) => Ok(lists),
         Ok(Err(fault)) => Err(fault),
         Err(error) => Err(GatherFault::Memory(error)),

@@ -102,7 +102,7 @@ pub(crate) fn missing(
 }
 
 /// The paths of the texts whose keys aren't used. The keys that are used are in order.
-pub(crate) fn unused(
+pub(crate) fn unused_paths(
     alloc: Global,
     used: &[&str],
     listed: &[LicenceText<'_>],

@@ -16,7 +16,7 @@ ghost use Rattle.desk_tree_lint.specs.declared.naming.Asked.{Asked};
 ghost use Rattle.desk_tree_lint.specs.Firsts.{mention_in, asked_in, asked_of, keys_asked, Holds, first_mentions};
 
 use crate::names::Names;
-use crate::ordering::{are_in_order, ordered};
+use crate::ordering::{are_in_order, sorted_keys};
 use crate::path::SharedPath;
 use crate::texts::key_of;
 use desk_base::{Text, TextList};
@@ -103,7 +103,10 @@ fn is_operator(run: &str) -> bool
 }
 
 // The keys with no mentions.
-fn unmentioned<'k, 'a>(alloc: Global, keys: &[&'k str]) -> Result<Vec<Asked<'k, 'a>>, AllocError>
+fn unmentioned_keys<'k, 'a>(
+    alloc: Global,
+    keys: &[&'k str],
+) -> Result<Vec<Asked<'k, 'a>>, AllocError>
     ensures { IfOk result (λ v. map asked_in v.items ≡ asked_of (texts keys.now) []) }
 {
     let mut asked = Vec::with_capacity(alloc, keys.len())?;
@@ -141,8 +144,8 @@ fn asked_for<'k, 'a>(alloc: Global, keys: &'k TextList) -> Result<Vec<Asked<'k, 
     if are_in_order(keys) {
         return unmentioned_of(alloc, keys);
     }
-    let ordered = ordered(alloc, keys)?;
-    unmentioned(alloc, ordered.as_slice())
+    let ordered = sorted_keys(alloc, keys)?;
+    unmentioned_keys(alloc, ordered.as_slice())
 }
 
 // Whether a key is the one that is asked for at a place.

@@ -12,7 +12,7 @@ use std::alloc::{AllocError, Global};
 use std::cmp::Ordering;
 
 // The texts themselves.
-fn borrowed(alloc: Global, keys: &TextList) -> Result<Vec<&str>, AllocError>
+fn borrow_keys(alloc: Global, keys: &TextList) -> Result<Vec<&str>, AllocError>
     ensures { IfOk result (λ v. texts_in v ≡ keys.now) }
 {
     let mut borrowed = Vec::with_capacity(alloc, keys.len())?;
@@ -23,10 +23,10 @@ fn borrowed(alloc: Global, keys: &TextList) -> Result<Vec<&str>, AllocError>
 }
 
 /// The keys in byte order, each once.
-pub(crate) fn ordered(alloc: Global, keys: &TextList) -> Result<Vec<&str>, AllocError>
+pub(crate) fn sorted_keys(alloc: Global, keys: &TextList) -> Result<Vec<&str>, AllocError>
     ensures { IfOk result (λ v. texts_in v ≡ sorted_set keys.now) }
 {
-    let mut keys = borrowed(alloc, keys)?;
+    let mut keys = borrow_keys(alloc, keys)?;
     keys.sort_unstable();
     keys.dedup();
     Ok(keys)

@@ -72,7 +72,7 @@ fn each_used(alloc: Global, firsts: &[First<'_>]) -> Result<TextList, AllocError
 }
 
 /// The keys that files use, each time that one appears.
-pub(crate) fn used(alloc: Global, firsts: &[First<'_>]) -> Result<TextList, AllocError>
+pub(crate) fn used_keys(alloc: Global, firsts: &[First<'_>]) -> Result<TextList, AllocError>
     ensures { (infos : List FileInfo) → map first_in firsts.now ≡ firsts_of Licences infos
         → IfOk result (λ keys. AreUsed infos (sorted_set keys)) }
 {

@@ -62,7 +62,7 @@ fn unused_unless(alloc: Global, unsure: bool, paths: Items<Text>) -> Items<Text>
 }
 
 // What is wrong in a tree, and the lists for what can be read despite that.
-fn surveyed(alloc: Global, files: Vec<SourceFile>) -> Result<Problems, AllocError>
+fn survey_problems(alloc: Global, files: Vec<SourceFile>) -> Result<Problems, AllocError>
     ensures { (r : Reader) → IsRightReader r → IfOk result (AreProblems r files.items) }
 {
     let Surveyed {
@@ -112,5 +112,5 @@ pub fn problems_of(alloc: Global, files: Vec<SourceFile>) -> Result<Problems, Al
         → IfOk result (λ p. (fault : GatherFault) → gathered r files.items ≡ Err fault
         → BeginsWith p.flaws fault) }
 {
-    surveyed(alloc, files)
+    survey_problems(alloc, files)
 }

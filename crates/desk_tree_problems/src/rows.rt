@@ -84,7 +84,7 @@ fn stop_words(alloc: Global, stop: Option<ParseFault>) -> Result<String, AllocEr
 }
 
 // A text in quotes, or how long it is.
-fn quoted(alloc: Global, text: &str) -> Result<String, AllocError>
+fn quote(alloc: Global, text: &str) -> Result<String, AllocError>
     ensures { IfOk result (λ words. string_bytes words ≡ quoted text.now) }
 {
     let length = text.len();
@@ -103,7 +103,7 @@ fn expression_words(
 ) -> Result<String, AllocError>
     ensures { IfOk result (λ words. string_bytes words ≡ expression_words text.now stop) }
 {
-    let quoted = quoted(alloc, text)?;
+    let quoted = quote(alloc, text)?;
     let stop = stop_words(alloc, stop)?;
     let quoted = quoted.as_str();
     let stop = stop.as_str();

@@ -57,7 +57,7 @@ pub(crate) fn row_front(alloc: Global, row: &Row, later: bool) -> Result<Vec<u8>
 }
 
 // A text as a JSON string.
-fn quoted(alloc: Global, text: &str) -> Result<Vec<u8>, AllocError>
+fn quote(alloc: Global, text: &str) -> Result<Vec<u8>, AllocError>
     ensures { IfOk result (λ bytes. bytes.items ≡ quoted text.now) }
 {
     let mut writer = Writer::new(Vec::new(alloc));
@@ -66,17 +66,17 @@ fn quoted(alloc: Global, text: &str) -> Result<Vec<u8>, AllocError>
 }
 
 /// A text as it is inside a JSON string.
-pub(crate) fn escaped(alloc: Global, text: &str) -> Result<Vec<u8>, AllocError>
+pub(crate) fn escape(alloc: Global, text: &str) -> Result<Vec<u8>, AllocError>
     ensures { IfOk result (λ bytes. bytes.items ≡ escape text.now) }
 {
-    let mut bytes = quoted(alloc, text)?;
+    let mut bytes = quote(alloc, text)?;
     bytes.remove(0);
     bytes.pop();
     Ok(bytes)
 }
 
 // Some bytes of our own.
-fn copied(alloc: Global, bytes: &[u8]) -> Result<Vec<u8>, AllocError>
+fn copy_bytes(alloc: Global, bytes: &[u8]) -> Result<Vec<u8>, AllocError>
     ensures { IfOk result (λ copy. copy.items ≡ bytes.now) }
 {
     let mut copy = Vec::new(alloc);
@@ -88,8 +88,8 @@ fn copied(alloc: Global, bytes: &[u8]) -> Result<Vec<u8>, AllocError>
 pub(crate) fn path_member(alloc: Global, path: &str) -> Result<Vec<u8>, AllocError>
     ensures { IfOk result (λ bytes. bytes.items ≡ path_member path.now) }
 {
-    let path = quoted(alloc, path)?;
-    let mut bytes = copied(alloc, b",\"path\":")?;
+    let path = quote(alloc, path)?;
+    let mut bytes = copy_bytes(alloc, b",\"path\":")?;
     bytes.extend_from_slice(path.as_slice())?;
     bytes.push(b'}')?;
     Ok(bytes)
@@ -99,7 +99,7 @@ pub(crate) fn path_member(alloc: Global, path: &str) -> Result<Vec<u8>, AllocErr
 pub(crate) fn missing_front(alloc: Global) -> Result<Vec<u8>, AllocError>
     ensures { IfOk result (λ bytes. bytes.items ≡ missing_front) }
 {
-    copied(
+    copy_bytes(
         alloc,
         b",{\"kind\":\"Missing\",\"line\":null,\"message\":\"no text of ",
     )
@@ -109,5 +109,5 @@ pub(crate) fn missing_front(alloc: Global) -> Result<Vec<u8>, AllocError>
 pub(crate) fn missing_end(alloc: Global) -> Result<Vec<u8>, AllocError>
     ensures { IfOk result (λ bytes. bytes.items ≡ missing_end) }
 {
-    copied(alloc, b"\",\"path\":\"LICENSES/\"}")
+    copy_bytes(alloc, b"\",\"path\":\"LICENSES/\"}")
 }

@@ -21,7 +21,7 @@ fn place(alloc: Global, line: Option<u64>) -> Result<String, AllocError>
 }
 
 /// A text as it is shown.
-pub(crate) fn shown(alloc: Global, text: &str) -> Result<Vec<u8>, AllocError>
+pub(crate) fn shown_text(alloc: Global, text: &str) -> Result<Vec<u8>, AllocError>
     ensures { IfOk result (λ bytes. bytes.items ≡ shown text.now) }
 {
     let mut bytes = Vec::new(alloc);
@@ -55,7 +55,7 @@ pub(crate) fn missing_front(alloc: Global, id: &str) -> Result<Vec<u8>, AllocErr
 pub(crate) fn line_end(alloc: Global, words: &str) -> Result<Vec<u8>, AllocError>
     ensures { IfOk result (λ bytes. bytes.items ≡ shown words.now ++ codes "\n") }
 {
-    let mut bytes = shown(alloc, words)?;
+    let mut bytes = shown_text(alloc, words)?;
     bytes.push(b'\n')?;
     Ok(bytes)
 }

@@ -13,7 +13,7 @@ ghost use Rattle.desk_tree_reports.specs.Pieces.{share_text};
 ghost use Rattle.desk_tree_reports.specs.Telling.{row_text, rows_text, AddsRows};
 ghost use Rattle.desk_tree_reports.specs.Ways.{rendered};
 
-use crate::items::{escaped, row_front};
+use crate::items::{escape, row_front};
 use crate::lines::{behind_path, has_line, line_end, missing_front};
 use crate::long_text::LongText;
 use crate::ways::{Shown, Way, share_of};
@@ -154,9 +154,9 @@ impl Telling {
     {
         let front = share_of(alloc, &mut self.front, Way::Front, "")?;
         let end = share_of(alloc, &mut self.end, Way::End, "")?;
-        let id = escaped(alloc, name.id)?;
+        let id = escape(alloc, name.id)?;
         let words = text_words(alloc, name.id)?;
-        let words = escaped(alloc, words.as_str())?;
+        let words = escape(alloc, words.as_str())?;
         self.text.add_shared(alloc, front)?;
         self.text.add(alloc, id.as_slice())?;
         self.add_named(alloc, Way::NamedItem, name.path)?;

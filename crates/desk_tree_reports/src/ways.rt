@@ -5,8 +5,8 @@ ghost use Rattle.std.specs.String.{string_bytes};
 ghost use Rattle.desk_tree_problems.specs.Rows.{named_words};
 ghost use Rattle.desk_tree_reports.specs.Ways.{ShownText, rendered};
 
-use crate::items::{escaped, missing_end, missing_front, path_member};
-use crate::lines::shown;
+use crate::items::{escape, missing_end, missing_front, path_member};
+use crate::lines::shown_text;
 use crate::pieces::SharedBytes;
 use desk_base::Text;
 use std::alloc::{AllocError, Global};
@@ -30,21 +30,21 @@ pub(crate) enum Way {
 }
 
 // The words about a file that names a licence.
-fn named(alloc: Global, path: &str) -> Result<String, AllocError>
+fn named_words(alloc: Global, path: &str) -> Result<String, AllocError>
     ensures { IfOk result (λ words. string_bytes words ≡ named_words (Some path.now)) }
 {
     format!(in alloc; ", which {path} names")
 }
 
 // What is written of a text.
-fn rendered(alloc: Global, way: Way, text: &str) -> Result<Vec<u8>, AllocError>
+fn render(alloc: Global, way: Way, text: &str) -> Result<Vec<u8>, AllocError>
     ensures { IfOk result (λ v. v.items ≡ rendered way text.now) }
 {
     match way {
-        Way::Line => shown(alloc, text),
+        Way::Line => shown_text(alloc, text),
         Way::Member => path_member(alloc, text),
-        Way::NamedLine => shown(alloc, named(alloc, text)?.as_str()),
-        Way::NamedItem => escaped(alloc, named(alloc, text)?.as_str()),
+        Way::NamedLine => shown_text(alloc, named_words(alloc, text)?.as_str()),
+        Way::NamedItem => escape(alloc, named_words(alloc, text)?.as_str()),
         Way::Front => missing_front(alloc),
         Way::End => missing_end(alloc),
     }
@@ -74,7 +74,7 @@ impl Shown {
     fn of(alloc: Global, way: Way, text: &str) -> Result<Shown, AllocError>
         ensures { IfOk result (λ s. s ≡ record { way = way; text = text.now }) }
     {
-        let share = SharedBytes::of(alloc, rendered(alloc, way, text)?)?;
+        let share = SharedBytes::of(alloc, render(alloc, way, text)?)?;
         let text = Text::of(alloc, text)?;
         Ok(Shown { way, text, share })
     }

@@ -96,7 +96,7 @@ fn write_outcome<W: Write>(
 }
 
 // Asks a question.
-fn asked<D: Desk>(desk: &mut D, query: &Query) -> Outcome
+fn ask_desk<D: Desk>(desk: &mut D, query: &Query) -> Outcome
     ensures { Asks D.are_right D.tells D.stands query.now (D.seen desk.old) (D.seen desk.new)
         result }
 {
@@ -126,7 +126,7 @@ pub fn show<D: Desk, W: Write, E: Write>(
     ensures memory { IfErr result
         (IfMemory (Keeps (W.contents writer.old) (W.contents writer.new))) }
 {
-    let outcome = asked(desk, query);
+    let outcome = ask_desk(desk, query);
     let told = write_outcome(alloc, &outcome, in_columns, writer);
     teller.explain(&outcome);
     drop(outcome);

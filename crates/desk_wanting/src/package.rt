@@ -18,7 +18,7 @@ use desk_model::{Fault, PackageRow, Refusal};
 use desk_packages::conclusion_of;
 use std::alloc::{AllocError, Global};
 
-fn unconcluded(row: &PackageRow, is_concluded: bool) -> Result<Option<Refusal>, AllocError>
+fn no_conclusion(row: &PackageRow, is_concluded: bool) -> Result<Option<Refusal>, AllocError>
     ensures { (conclusion : Option Concluded) → is_concluded ≡ is_some conclusion
         → IfOk result (λ refusal. refusal ≡ unconcluded conclusion row.now) }
 {
@@ -31,7 +31,7 @@ fn unconcluded(row: &PackageRow, is_concluded: bool) -> Result<Option<Refusal>, 
     }))
 }
 
-fn unchosen(row: &PackageRow, terms: &[Text]) -> Result<Option<Refusal>, AllocError>
+fn no_choice(row: &PackageRow, terms: &[Text]) -> Result<Option<Refusal>, AllocError>
     ensures { IfOk result (λ refusal. refusal ≡ unchosen row.now terms.now) }
 {
     if !terms.is_empty() {
@@ -54,8 +54,8 @@ fn add_bare(
         → OnOk result (refusals.new.items ≡ refusals.old.items
         ++ applying (unconcluded conclusion row.now ∷ unchosen row.now terms.now ∷ [])) }
 {
-    add_refusal(refusals, unconcluded(row, is_concluded)?)?;
-    add_refusal(refusals, unchosen(row, terms)?)
+    add_refusal(refusals, no_conclusion(row, is_concluded)?)?;
+    add_refusal(refusals, no_choice(row, terms)?)
 }
 
 /// Adds the refusals for a package that a release with this form ships.

@@ -13,7 +13,7 @@ use desk_access::store::Store;
 use desk_access::texts::Texts;
 use desk_base::Text;
 use desk_model::{Fault, PackageRow, Refusal};
-use desk_packages::{no_rule, rule_adopted, unadopted};
+use desk_packages::{no_rule, not_adopted, rule_adopted};
 use std::alloc::{AllocError, Global};
 
 /// Adds a refusal, if it applies.
@@ -46,7 +46,7 @@ fn add_unadopted<T: Texts, S: Store>(
     ensures fault { IfErr result (MayFail S.tells) }
 {
     for term in terms {
-        let refusal = unadopted(alloc, texts, store, document, term)?;
+        let refusal = not_adopted(alloc, texts, store, document, term)?;
         add_refusal(refusals, refusal)?;
     }
     Ok(())
@@ -77,7 +77,7 @@ fn unruled_alone<T: Texts, S: Store>(
     if is_found(rule_adopted(alloc, texts, store, form, row.document, term)?) {
         return Ok(None);
     }
-    if is_found(unadopted(alloc, texts, store, row.document, term)?) {
+    if is_found(not_adopted(alloc, texts, store, row.document, term)?) {
         return Ok(None);
     }
     Ok(Some(no_rule(row, term)?))

@@ -18,11 +18,12 @@ pub returns : goal.returns
 returns c =
     let s = c.args.ruling.now.snapshot.now in
     judged (flat_map (owed_by s) s.frozen) (map owed_of s.duty)
-    c.in-Some.owed.items c.sorted-owed.result.items c.in_ok-owed_of_all.field-0.items
-    c.sorted-told.result.items
+    c.in-Some.owed.items c.sort_owed-owed.result.items c.in_ok-owed_of_all.field-0.items
+    c.sort_owed-told.result.items
     (rw (c.in-Some.is, c.as_slice-rows.ensures) at c.in_ok-owed.ensures)
     (c.in_ok-owed_of_all.ensures ∙ ap (map owed_of) c.as_slice-duties.ensures)
-    c.sorted-owed.ensures.permutation c.sorted-told.ensures.permutation c.sorted-owed.ensures.sorted
-    c.sorted-told.ensures.sorted
+    c.sort_owed-owed.ensures.permutation c.sort_owed-told.ensures.permutation
+    c.sort_owed-owed.ensures.sorted
+    c.sort_owed-told.ensures.sorted
     c.are_alike.result
     (c.are_alike.ensures ∙ (λ i. are_alike (c.deref.ensures.value i) (c.deref-2.ensures.value i)))

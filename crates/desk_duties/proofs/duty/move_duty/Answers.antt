@@ -20,6 +20,6 @@ returns-in-Refused-clause-plan g c = λ h t held.
     let until = c.args.until.now in
     subst (IsPlan (moved_found t word c.args.duty day text until)
     (moved_change t c.args.duty (record { day = day; word = word; body = text; last_day = until })))
-    (sym c.refused.ensures)
+    (sym c.refuse.ensures)
     (sym (subst (IsRead word day text until) c.in-Refused.is c.in_ok-refusal.ensures
     (moving_found t c.args.duty)))

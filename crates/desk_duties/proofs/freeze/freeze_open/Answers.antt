@@ -23,14 +23,14 @@ returns-then-is_empty-clause-plan g c = λ w right h t held.
     ap (λ (xs : List AttachedRow). length xs == 0) (sym are)
     ∙ (ap (λ (n : ℕ). n == 0) len ∙ sym c.if-is_empty.ensures) in
     subst (IsPlan (freeze_open_found w t r c.args.form.now)
-    (freeze_change_found w t r c.args.form.now c.args.day)) (sym c.refused.ensures)
+    (freeze_change_found w t r c.args.form.now c.args.day)) (sym c.refuse.ensures)
     (nothing_attached w t r c.args.form.now none)
 
 pub returns-in-Some-clause-kept : goal.returns-in-Some-clause-kept
 returns-in-Some-clause-kept g c = (
   same_then_same _ _ _ c.in_ok-attached.ensures.kept
       (same_then_same _ _ _ c.in_ok-packages.ensures.kept c.in_ok-refusal.ensures.kept),
-  subst IsSound (sym c.refused-in-Some.ensures) refl,
+  subst IsSound (sym c.refuse-in-Some.ensures) refl,
 )
 
 pub returns-in-Some-clause-plan : goal.returns-in-Some-clause-plan
@@ -48,7 +48,7 @@ returns-in-Some-clause-plan g c = λ w right h t held.
     (ap (λ (n : ℕ). n == 0) c.as_slice.ensures.len ∙ sym c.if-is_empty.ensures)
     (c.as_slice-2.ensures.value ∙ two.found h2 t t1) in
     subst (IsPlan (freeze_open_found w t r c.args.form.now)
-    (freeze_change_found w t r c.args.form.now c.args.day)) (sym c.refused-in-Some.ensures)
+    (freeze_change_found w t r c.args.form.now c.args.day)) (sym c.refuse-in-Some.ensures)
     (freeze_refused w t r c.args.form.now ps
     (record { frozen = c.new.result; owed = c.new-2.result }) c.freeze_packages.new.gathered
     c.in_ok-refusal.field-0 c.in-Some.refusal ships.0 ships.1

@@ -22,7 +22,7 @@ returns-in_default-clause-plan g c = λ w h t held.
     let r = c.args.release.now in
     let day = c.args.day.now in
     let text = c.args.text.now in
-    left c.refused.result _ _ (change_for w t (Withdraw r day text)) c.refused.ensures
+    left c.refuse.result _ _ (change_for w t (Withdraw r day text)) c.refuse.ensures
     (bad_day day text (withdrawing_found t r) c.in_default.ensures)
 
 pub returns-then-not-is_note-clause-plan : goal.returns-then-not-is_note-clause-plan
@@ -32,8 +32,8 @@ returns-then-not-is_note-clause-plan g c = λ w h t held.
     let text = c.args.text.now in
     let note : is_note text ≡ false = ap is_note (sym c.as_str.ensures)
     ∙ sym c.if-not-is_note.ensures in
-    left c.refused-then-not-is_note.result _ _ (change_for w t (Withdraw r day text))
-    c.refused-then-not-is_note.ensures
+    left c.refuse-then-not-is_note.result _ _ (change_for w t (Withdraw r day text))
+    c.refuse-then-not-is_note.ensures
     (bad_text day text (withdrawing_found t r) c.in-Some.ensures.0 note)
 
 pub returns-in_default-2-clause-plan : goal.returns-in_default-2-clause-plan
@@ -43,24 +43,24 @@ returns-in_default-2-clause-plan g c = λ w h t held.
     let text = c.args.text.now in
     let note : is_note text ≡ true = ap is_note (sym c.as_str.ensures)
     ∙ sym c.if-not-is_note.ensures in
-    left c.refused-in_default-2.result _ _ (change_for w t (Withdraw r day text))
-    c.refused-in_default-2.ensures
+    left c.refuse-in_default-2.result _ _ (change_for w t (Withdraw r day text))
+    c.refuse-in_default-2.ensures
     (unknown day text (withdrawing_found t r) c.in-Some.ensures.0 note
     (state_is t r _ _ _ c.as_str-2.ensures (c.in_ok-row.ensures.found h t held) c.in_default-2.is))
 
-pub returns-in-Some-gone-clause-plan : goal.returns-in-Some-gone-clause-plan
-returns-in-Some-gone-clause-plan g c = λ w h t held.
+pub returns-in-Some-refusal_if_gone-clause-plan : goal.returns-in-Some-refusal_if_gone-clause-plan
+returns-in-Some-refusal_if_gone-clause-plan g c = λ w h t held.
     let r = c.args.release.now in
     let day = c.args.day.now in
     let text = c.args.text.now in
     let note : is_note text ≡ true = ap is_note (sym c.as_str.ensures)
     ∙ sym c.if-not-is_note.ensures in
-    left c.refused-in-Some-gone.result _ _ (change_for w t (Withdraw r day text))
-    c.refused-in-Some-gone.ensures
-    (is_gone day text (withdrawing_found t r) c.in-Some-2.row.state c.in-Some-gone.refusal
+    left c.refuse-in-Some-refusal_if_gone.result _ _ (change_for w t (Withdraw r day text))
+    c.refuse-in-Some-refusal_if_gone.ensures
+    (is_gone day text (withdrawing_found t r) c.in-Some-2.row.state c.in-Some-refusal_if_gone.refusal
     c.in-Some.ensures.0 note
     (state_is t r _ _ _ c.as_str-2.ensures (c.in_ok-row.ensures.found h t held) c.in-Some-2.is)
-    (sym c.in-Some-gone.is ∙ c.gone.ensures))
+    (sym c.in-Some-refusal_if_gone.is ∙ c.refusal_if_gone.ensures))
 
 pub returns-clause-plan : goal.returns-clause-plan
 returns-clause-plan g c = λ w h t held.
@@ -72,11 +72,11 @@ returns-clause-plan g c = λ w h t held.
     let before = c.in_ok-standings.ensures.kept.kept.spared.honest h in
     let found = c.in_ok-standings.ensures.found h t
     (c.in_ok-row.ensures.kept.kept.spared.holds t held) in
-    made c.done.result _ _ c.in_ok-withdrew.field-0 (change_for w t (Withdraw r day text))
-    c.done.ensures
+    made c.make.result _ _ c.in_ok-withdrew.field-0 (change_for w t (Withdraw r day text))
+    c.make.ensures
     (withdrawn day text (withdrawing_found t r) c.in-Some-2.row.state c.in-Some.ensures.0 note
     (state_is t r _ _ _ c.as_str-2.ensures (c.in_ok-row.ensures.found before t held) c.in-Some-2.is)
-    (sym c.in_default-gone.is ∙ c.gone.ensures))
+    (sym c.in_default-refusal_if_gone.is ∙ c.refusal_if_gone.ensures))
     (c.in_ok-withdrew.ensures ∙ same_rows r _ day text _ _ c.in-Some.ensures.1
     (found ∙ ap (standings_found t) c.as_str-3.ensures))
 
@@ -87,46 +87,46 @@ returns-clause-kept g c = (
 )
 
 pub returns-in_default-clause-kept : goal.returns-in_default-clause-kept
-returns-in_default-clause-kept g c = left_plans _ _ c.refused.result _ (same_self _)
-    c.refused.ensures
+returns-in_default-clause-kept g c = left_plans _ _ c.refuse.result _ (same_self _)
+    c.refuse.ensures
 
 pub returns-in_default-clause-alone : goal.returns-in_default-clause-alone
 returns-in_default-clause-alone g c = λ w. left_spares
-    (refused_alone w (Withdraw c.args.release.now c.args.day.now c.args.text.now)) c.refused.result
-    _ c.refused.ensures
+    (refused_alone w (Withdraw c.args.release.now c.args.day.now c.args.text.now)) c.refuse.result
+    _ c.refuse.ensures
 
 pub returns-then-not-is_note-clause-kept : goal.returns-then-not-is_note-clause-kept
-returns-then-not-is_note-clause-kept g c = left_plans _ _ c.refused-then-not-is_note.result _
-    (same_self _) c.refused-then-not-is_note.ensures
+returns-then-not-is_note-clause-kept g c = left_plans _ _ c.refuse-then-not-is_note.result _
+    (same_self _) c.refuse-then-not-is_note.ensures
 
 pub returns-then-not-is_note-clause-alone : goal.returns-then-not-is_note-clause-alone
 returns-then-not-is_note-clause-alone g c = λ w. left_spares
     (refused_alone w (Withdraw c.args.release.now c.args.day.now c.args.text.now))
-    c.refused-then-not-is_note.result _ c.refused-then-not-is_note.ensures
+    c.refuse-then-not-is_note.result _ c.refuse-then-not-is_note.ensures
 
 pub returns-in_default-2-clause-kept : goal.returns-in_default-2-clause-kept
-returns-in_default-2-clause-kept g c = left_plans _ _ c.refused-in_default-2.result _
-    (c.in_ok-row.ensures.kept) c.refused-in_default-2.ensures
+returns-in_default-2-clause-kept g c = left_plans _ _ c.refuse-in_default-2.result _
+    (c.in_ok-row.ensures.kept) c.refuse-in_default-2.ensures
 
 pub returns-in_default-2-clause-alone : goal.returns-in_default-2-clause-alone
 returns-in_default-2-clause-alone g c = λ w. left_spares
     (refused_alone w (Withdraw c.args.release.now c.args.day.now c.args.text.now))
-    c.refused-in_default-2.result _ c.refused-in_default-2.ensures
+    c.refuse-in_default-2.result _ c.refuse-in_default-2.ensures
 
-pub returns-in-Some-gone-clause-kept : goal.returns-in-Some-gone-clause-kept
-returns-in-Some-gone-clause-kept g c = left_plans _ _ c.refused-in-Some-gone.result _
-    (c.in_ok-row.ensures.kept) c.refused-in-Some-gone.ensures
+pub returns-in-Some-refusal_if_gone-clause-kept : goal.returns-in-Some-refusal_if_gone-clause-kept
+returns-in-Some-refusal_if_gone-clause-kept g c = left_plans _ _ c.refuse-in-Some-refusal_if_gone.result _
+    (c.in_ok-row.ensures.kept) c.refuse-in-Some-refusal_if_gone.ensures
 
-pub returns-in-Some-gone-clause-alone : goal.returns-in-Some-gone-clause-alone
-returns-in-Some-gone-clause-alone g c = λ w. left_spares
+pub returns-in-Some-refusal_if_gone-clause-alone : goal.returns-in-Some-refusal_if_gone-clause-alone
+returns-in-Some-refusal_if_gone-clause-alone g c = λ w. left_spares
     (refused_alone w (Withdraw c.args.release.now c.args.day.now c.args.text.now))
-    c.refused-in-Some-gone.result _ c.refused-in-Some-gone.ensures
+    c.refuse-in-Some-refusal_if_gone.result _ c.refuse-in-Some-refusal_if_gone.ensures
 
 pub returns-clause-alone : goal.returns-clause-alone
 returns-clause-alone g c = λ w.
     let day = c.args.day.now in
     let text = c.args.text.now in
-    made_spares (refused_alone w (Withdraw c.args.release.now day text)) c.done.result _ _
-    c.done.ensures
+    made_spares (refused_alone w (Withdraw c.args.release.now day text)) c.make.result _ _
+    c.make.ensures
     (not_alone day text c.in-Some.ensures.0
     (ap is_note (sym c.as_str.ensures) ∙ sym c.if-not-is_note.ensures))

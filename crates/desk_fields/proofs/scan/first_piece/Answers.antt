@@ -84,5 +84,5 @@ returns-clause-ok c =
         );
       };
       next = omega arith;
-      field = (refl, c.trimmed.ensures, c.trimmed-2.ensures);
+      field = (refl, c.trim.ensures, c.trim-2.ensures);
     }

@@ -26,7 +26,7 @@ returns-then-is_empty-clause-ok c =
         piece = (c.requires.tagged, o.1, c.in-Some.ensures.some.1, refl);
       };
       next = ap (λ n. c.args.line + n + 1) c.line_feeds-feeds.ensures.value;
-      field = (refl, c.trimmed.ensures, refl);
+      field = (refl, c.trim.ensures, refl);
     }
 
 pub returns-clause-ok : goal.returns-clause-ok
@@ -49,5 +49,5 @@ returns-clause-ok c =
         piece = (c.requires.tagged, o.1, c.in-Some.ensures.some.1, blank);
       };
       next = ap (λ n. c.args.line + n + 1) c.line_feeds-feeds.ensures.value;
-      field = (refl, c.trimmed.ensures, refl);
+      field = (refl, c.trim.ensures, refl);
     }

@@ -11,7 +11,7 @@ returns-in-Nowhere-clause-plan g c = λ w right h t held.
     subst (IsPlan (choose_found w t c.args.release.now c.args.document c.args.package_id.now
     c.args.terms.now)
     (chosen_change c.args.release.now c.args.document c.args.package_id.now
-    (sorted_set c.args.terms.now))) (sym c.refused.ensures)
+    (sorted_set c.args.terms.now))) (sym c.refuse.ensures)
     (subst (IsFound t c.args.release.now c.args.document c.args.package_id.now) c.in-Nowhere.is
     (c.in_ok-refusal.ensures.found h t held) w c.args.terms.now)
 

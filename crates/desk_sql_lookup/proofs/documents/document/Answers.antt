@@ -52,17 +52,17 @@ returns-clause-looks g c =
     (λ found t orderly is count.
     is ∙ ap (λ l. slice_get (map known_document l) 0)
     (document_among n documents t orderly count)) in
-    then_tells g.S.Store old new first If c.numbered.result
+    then_tells g.S.Store old new first If c.with_number.result
     (λ found t. length t.document ≡ documents
     → found ≡ option_map known_document (find p t.document))
-    (IfOk-weaker c.numbered.result _ _
+    (IfOk-weaker c.with_number.result _ _
     (λ kept same clean t held count.
     same ∙ first.found clean t held count ∙ first_mapped known_document p t.document)
-    c.numbered.ensures.kept)
-    (never_cause If (state g.S.Store old) (state g.S.Store new) c.numbered.result
+    c.with_number.ensures.kept)
+    (never_cause If (state g.S.Store old) (state g.S.Store new) c.with_number.result
     (IfSome c.in_ok-found.found (λ known. known.0 ≡ n))
     (λ clean t held count.
     rw (first.found clean t held count)
     (passed_mapped known_document p (λ known. known.0 ≡ n) (λ x is. numbers_equal x.number n is)
     t.document))
-    c.numbered.ensures.cause)
+    c.with_number.ensures.cause)

@@ -44,14 +44,14 @@ returns-clause-looks g c =
     (λ found t. length t.duty ≡ duties → found ≡ slice_get (filter p t.duty) 0)
     (λ found t orderly is count. is
     ∙ ap (λ l. slice_get l 0) (duty_among n duties t orderly count)) in
-    then_tells g.S.Store old new first If c.numbered.result
+    then_tells g.S.Store old new first If c.with_number.result
     (λ found t. length t.duty ≡ duties → found ≡ duty_found t n)
-    (IfOk-weaker c.numbered.result _ _
+    (IfOk-weaker c.with_number.result _ _
     (λ kept same clean t held count. same ∙ first.found clean t held count ∙ first_found p t.duty)
-    c.numbered.ensures.kept)
-    (never_cause If (state g.S.Store old) (state g.S.Store new) c.numbered.result
+    c.with_number.ensures.kept)
+    (never_cause If (state g.S.Store old) (state g.S.Store new) c.with_number.result
     (IfSome c.in_ok-found.found (λ row. row.number ≡ n))
     (λ clean t held count.
     rw (first.found clean t held count)
     (passed_first p (λ row. row.number ≡ n) (λ x is. numbers_equal x.number n is) t.duty))
-    c.numbered.ensures.cause)
+    c.with_number.ensures.cause)

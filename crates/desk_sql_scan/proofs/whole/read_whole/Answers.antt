@@ -20,8 +20,8 @@ returns g c =
     (λ it. record {
       survives = it.survives;
       same = it.same;
-      raw = λ clean has. subst (λ s. IsSnapshot s old.now) (sym c.joined.ensures)
+      raw = λ clean has. subst (λ s. IsSnapshot s old.now) (sym c.join.ensures)
           (joined_has c.in_ok-first.first c.in_ok-second.second old.now (it.raw clean has));
-      found = λ clean t holds sorted. c.joined.ensures
+      found = λ clean t holds sorted. c.join.ensures
           ∙ joined_is c.in_ok-first.first c.in_ok-second.second t (it.found clean t holds) sorted;
     })

@@ -12,17 +12,18 @@ use Rattle.desk_store.proofs.adopt.examine_desk.Goals as goal
 pub returns-in-Ok-Some-clause-kept : goal.returns-in-Ok-Some-clause-kept
 returns-in-Ok-Some-clause-kept g c = λ honest t held.
     let old = state g.S.Store c.args.conn.now in
-    let between = state g.S.Store c.vetted.new.conn in
+    let between = state g.S.Store c.ensure_sound_desk.new.conn in
     let told = rw c.in-Ok-Some.field-0-is at c.in-Ok-Some.ensures.kept in
-    told honest t ((kept old between c.in_ok-vetted.ensures.stayed.0).spared.holds t held)
+    told honest t ((kept old between c.in_ok-ensure_sound_desk.ensures.stayed.0).spared.holds t
+    held)
 
 pub returns-in-Ok-None-clause-cause : goal.returns-in-Ok-None-clause-cause
 returns-in-Ok-None-clause-cause g c =
     let old = state g.S.Store c.args.conn.now in
-    let between = state g.S.Store c.vetted.new.conn in
+    let between = state g.S.Store c.ensure_sound_desk.new.conn in
     let new = state g.S.Store c.read_beside.new.conn in
     let told = rw c.in-Ok-None.field-0-is at c.in-Ok-None.ensures.none in
-    adopts_after AreRecorded old between new c.in_ok-vetted.ensures.stayed
+    adopts_after AreRecorded old between new c.in_ok-ensure_sound_desk.ensures.stayed
     (clean_before between new (λ _. ⊥) c.in-Ok-None.ensures.read.0.survives) _
     (never_adopts AreRecorded between new _ (λ clean opened t holds recorded.
     let can : are_countable t.releases t.duty ≡ true =
@@ -33,8 +34,8 @@ returns-in-Ok-None-clause-cause g c =
 pub returns-in-Err-clause-cause : goal.returns-in-Err-clause-cause
 returns-in-Err-clause-cause g c =
     let old = state g.S.Store c.args.conn.now in
-    let between = state g.S.Store c.vetted.new.conn in
+    let between = state g.S.Store c.ensure_sound_desk.new.conn in
     let new = state g.S.Store c.read_beside.new.conn in
-    adopts_after AreRecorded old between new c.in_ok-vetted.ensures.stayed
+    adopts_after AreRecorded old between new c.in_ok-ensure_sound_desk.ensures.stayed
     (clean_before between new (λ _. ⊥) c.in-Err.ensures.read.survives) _
     (fault_adopts AreRecorded between new _ c.in-Err.ensures.cause)

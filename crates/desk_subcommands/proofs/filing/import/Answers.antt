@@ -7,15 +7,15 @@ use Rattle.desk_subcommands.proofs.filing.import.Goals as goal
 pub returns-clause-done : goal.returns-clause-done
 returns-clause-done g c = answered
     (Comes g.D.Desk.are_right g.D.Desk.tells g.D.Desk.stands (Import c.args.bytes c.args.profile)
-    (g.D.Desk.seen c.args.desk.now) (g.D.Desk.seen c.imported-outcome.new.desk))
+    (g.D.Desk.seen c.args.desk.now) (g.D.Desk.seen c.import_bytes-outcome.new.desk))
     (λ answer. outcome_line (Answered answer)) (g.W.Write.contents c.args.writer.now)
-    (g.W.Write.contents c.answer.new.writer) c.imported-outcome.result c.answer.result
-    c.imported-outcome.ensures c.answer.ensures.done
+    (g.W.Write.contents c.answer.new.writer) c.import_bytes-outcome.result c.answer.result
+    c.import_bytes-outcome.ensures c.answer.ensures.done
 
 pub returns-clause-failed : goal.returns-clause-failed
 returns-clause-failed g c = failed
     (Comes g.D.Desk.are_right g.D.Desk.tells g.D.Desk.stands (Import c.args.bytes c.args.profile)
-    (g.D.Desk.seen c.args.desk.now) (g.D.Desk.seen c.imported-outcome.new.desk))
+    (g.D.Desk.seen c.args.desk.now) (g.D.Desk.seen c.import_bytes-outcome.new.desk))
     (λ answer. outcome_line (Answered answer)) (g.W.Write.contents c.args.writer.now)
-    (g.W.Write.contents c.answer.new.writer) c.imported-outcome.result c.answer.result
-    c.imported-outcome.ensures c.answer.ensures.failed
+    (g.W.Write.contents c.answer.new.writer) c.import_bytes-outcome.result c.answer.result
+    c.import_bytes-outcome.ensures c.answer.ensures.failed

@@ -24,8 +24,8 @@ returns-in-Ok-entries_of c =
     spells_judged bytes c.in-Ok.text.now es x c.if-bytes-gt-DOCUMENT_BYTES.false t.1 t.0
     c.in-Ok-entries_of.ensures.ok is in
     record {
-      ok = ok_from bytes es c.judged.result spells c.judged.ensures.ok;
-      err = err_from bytes es c.judged.result spells c.judged.ensures.err;
+      ok = ok_from bytes es c.judge.result spells c.judge.ensures.ok;
+      err = err_from bytes es c.judge.result spells c.judge.ensures.err;
     }
 
 pub returns-in-Err-clause-err : goal.returns-in-Err-clause-err

@@ -8,4 +8,4 @@ returns-in-Some c =
     let own : List Term = c.in_ok-own.own in
     let kept = subst (IsKeptOf own c.args.words.now) c.in-Some.is c.in_ok-kept.ensures in
     let read = kept.0 in
-    inl (read.0, read.1, c.judged.ensures own read.0 c.in_ok-own.ensures read.2)
+    inl (read.0, read.1, c.verdict_of.ensures own read.0 c.in_ok-own.ensures read.2)

@@ -8,7 +8,7 @@ use Rattle.desk_tree_files.proofs.reading.files_of.Goals as goal
 
 pub returns-then-len-gt-TREE_FILES : goal.returns-then-len-gt-TREE_FILES
 returns-then-len-gt-TREE_FILES g c =
-    ok_along c.named.result c.named.ensures (λ files same.
+    ok_along c.unread_files.result c.unread_files.ensures (λ files same.
     subst (IsSorted (slice_cmp nat_cmp))
     (sym (same ∙ ap (map string_bytes) c.as_slice.ensures.value))
     (sorted_map string_bytes (slice_cmp nat_cmp) c.in_ok-paths.paths.items c.in_ok-paths.ensures))

@@ -39,7 +39,7 @@ loop-place-preserved c =
     (λ q. one_more c.at.result c.loop-place.seen c.insert.new.self c.in_ok-added.ensures.updates q
     ∙ ap (λ t. bytes_eq t q || has_text c.loop-place.seen q) c.at.ensures)
     (c.in_ok-push.ensures.items ∙ ap (λ t. c.loop-place.list.items ++ t ∷ [])
-    c.in_ok-shared.ensures)
+    c.in_ok-share.ensures)
 
 pub returns : goal.returns
 returns c =

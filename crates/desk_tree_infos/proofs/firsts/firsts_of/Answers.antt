@@ -14,7 +14,7 @@ loop-file-preserved c =
     record {
       knows = c.in_ok-texts.ensures.knows;
       seen = seen_more all of files i _ c.loop-file-test.true c.loop-file.seen.texts
-          c.unseen.new.seen.texts c.sources.result.now are c.loop-file.invariant.seen
+          c.unseen_texts.new.seen.texts c.sources.result.now are c.loop-file.invariant.seen
           c.in_ok-texts.ensures.seen;
       so_far =
           firsts_more all of files i _ c.loop-file-test.true c.loop-file.firsts.items

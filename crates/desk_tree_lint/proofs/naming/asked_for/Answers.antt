@@ -16,5 +16,5 @@ returns-then-are_in_order c =
 
 pub returns : goal.returns
 returns c =
-    subst (λ keys. IfOk c.unmentioned.result (λ v. map asked_in v.items ≡ asked_of keys []))
-    (ap texts c.as_slice.ensures.value ∙ c.in_ok-ordered.ensures) c.unmentioned.ensures
+    subst (λ keys. IfOk c.unmentioned_keys.result (λ v. map asked_in v.items ≡ asked_of keys []))
+    (ap texts c.as_slice.ensures.value ∙ c.in_ok-ordered.ensures) c.unmentioned_keys.ensures

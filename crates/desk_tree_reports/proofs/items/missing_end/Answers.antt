@@ -3,4 +3,4 @@ use Rattle.desk_tree_reports.proofs.items.missing_end.Goals as goal
 
 pub returns : goal.returns
 unfolding missing_end
-returns c = c.copied.ensures
+returns c = c.copy_bytes.ensures
