@@ -1,6 +1,6 @@
 //! Why a text isn't a licence expression.
 
-ghost use Rattle.std.specs.Prelude.{◌≡◌, ◌<◌, codes, IfErr, OnOk};
+ghost use Rattle.std.specs.Prelude.{◌≡◌, ◌<◌, codes, IfErr, IfOk, OnOk};
 ghost use Rattle.desk_expr.specs.Faults.{fault_number, fault_name, fault_place};
 
 use std::alloc::AllocError;
@@ -87,13 +87,15 @@ impl ParseFault {
     }
 }
 
-/// Lack of memory, as an error. Any other fault means that the text is no expression, or no term.
-pub fn told(fault: ParseFault) -> Result<(), AllocError>
+/// The fault itself, which means that the text is no expression, or no term; lack of memory is the
+/// error.
+pub fn unless_memory(fault: ParseFault) -> Result<ParseFault, AllocError>
+    ensures same { IfOk result (λ found. found ≡ fault) }
     ensures text { OnOk result (0 < fault_number fault) }
     ensures memory { IfErr result (λ error. fault ≡ ParseFault.Memory error) }
 {
     match fault {
         ParseFault::Memory(error) => Err(error),
-        _ => Ok(()),
+        _ => Ok(fault),
     }
 }

@@ -23,7 +23,7 @@ mod word;
 
 pub use desk_base::Profile;
 pub use expr::{Expr, Shape};
-pub use fault::{ParseFault, told};
+pub use fault::{ParseFault, unless_memory};
 pub use listing::terms;
 pub use printing::{print, print_term};
 pub use progress::{parse, parse_in};

@@ -25,7 +25,7 @@ ghost use Rattle.desk_findings.specs.Fields.{IsReading, is_bad_expression, is_un
 ghost use Rattle.desk_findings.specs.Findings.{field_findings, all_findings, AreStates, AreFindings};
 ghost use Rattle.desk_findings.specs.Placed.{placed_text};
 
-use crate::expression::{is_no_licence, read_value, uses_undefined};
+use crate::expression::{expression_in, is_no_licence, uses_undefined};
 use crate::field::{
     Placed, differs, is_bad_code, is_bad_digest, is_bad_flag, is_field, is_licence_field,
     is_misplaced, is_unknown, is_unwanted_code,
@@ -132,7 +132,7 @@ fn uses_undefined_in(
 fn licence_read(alloc: Global, known: &Known, tag: Tag, value: &str) -> Result<Licence, AllocError>
     ensures { IfOk result (Tells known.now.profile known.now.defined tag value.now) }
 {
-    match read_value(alloc, value, known.profile)? {
+    match expression_in(alloc, value, known.profile)? {
         Some(expr) => Ok(Licence {
             is_bad: false,
             is_undefined: uses_undefined_in(alloc, &known.defined, tag, &expr)?,

@@ -9,7 +9,7 @@ ghost use Rattle.desk_tagvalue.specs.Seen.{has_key};
 ghost use Rattle.desk_findings.specs.Fields.{is_only_word, is_no_licence, IsReading, is_undefined, uses_undefined};
 
 use desk_base::Profile;
-use desk_expr::{Expr, ParseFault, Term, parse_in, terms};
+use desk_expr::{Expr, Term, parse_in, terms, unless_memory};
 use desk_fields::{skip_blanks, split_word};
 use desk_tagvalue::behind;
 use std::alloc::{AllocError, Global};
@@ -30,18 +30,8 @@ pub fn is_no_licence(text: &str) -> bool
     is_only_word("NONE", text) || is_only_word("NOASSERTION", text)
 }
 
-// Lack of memory is reported as such; any other fault means that there is no expression.
-fn told(fault: ParseFault) -> Result<(), AllocError>
-    ensures { OnOk result (fault ≡ ParseFault.Memory alloc_error → ⊥) }
-{
-    match fault {
-        ParseFault::Memory(error) => Err(error),
-        _ => Ok(()),
-    }
-}
-
 /// The expression that a value is by the profile of operators, if it is one.
-pub(crate) fn read_value(
+pub fn expression_in(
     alloc: Global,
     text: &str,
     profile: Profile,
@@ -52,7 +42,7 @@ pub(crate) fn read_value(
     match parse_in(alloc, text, profile) {
         Ok(expr) => Ok(Some(expr)),
         Err(fault) => {
-            told(fault)?;
+            unless_memory(fault)?;
             Ok(None)
         }
     }

@@ -21,4 +21,4 @@ pub mod reading_laws;
 
 pub use desk_model::{Finding, FindingKind, MissingField};
 pub use document::{findings, findings_in};
-pub use expression::is_no_licence;
+pub use expression::{expression_in, is_no_licence};

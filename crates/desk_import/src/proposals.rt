@@ -13,11 +13,11 @@ ghost use Rattle.desk_import.specs.Proposals.{AreLines, AreProposals, IsLine, co
 ghost use Rattle.desk_import.specs.Summaries.{standing_of, standings_of};
 ghost use Rattle.desk_import.specs.declared.summary.Standing.TheVariants.{Declared, Neither};
 
-use crate::licences::expression_in;
 use crate::summary::{self, Standing, first_of, standing_of};
 use desk_base::Profile;
 use desk_bom::ships;
 use desk_expr::{Expr, print};
+use desk_findings::expression_in;
 use desk_tagvalue::{Document, Package};
 use serde_json::{Value, json};
 use std::alloc::{AllocError, Global};

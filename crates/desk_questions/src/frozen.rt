@@ -66,17 +66,6 @@ impl Sought<FrozenRow> for ByPackage<'_> {
     }
 }
 
-/// Rows in the order in which they came.
-fn appended(alloc: Global, rows: Vec<FrozenRow>) -> Result<Appended<FrozenRow>, Fault>
-    ensures same { IfOk result (λ frozen. frozen.rows.items ≡ rows.items) }
-    ensures fault { IfErr result (λ fault. fault ≡ Fault.Memory) }
-{
-    let mut frozen = Appended::new(alloc);
-    frozen.reserve(rows.len())?;
-    frozen.append(rows);
-    Ok(frozen)
-}
-
 /// The terms that a release was frozen with, looked up once for all its packages.
 pub(crate) fn frozen_rows<S: Store>(
     alloc: Global,
@@ -90,7 +79,7 @@ pub(crate) fn frozen_rows<S: Store>(
     ensures fault { IfErr result (MayFail S.tells) }
 {
     let rows = store.frozen(release.as_str())?;
-    appended(alloc, rows)
+    Appended::from_rows(alloc, rows)
 }
 
 /// Rows that include the terms of a package. They are looked for at a place first, and the place

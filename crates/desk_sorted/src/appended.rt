@@ -1,6 +1,6 @@
 //! Rows in the order in which they came.
 
-ghost use Rattle.std.specs.Prelude.{◌≡◌, ℕ, true, ◌+◌, ◌<◌, ◌≤◌, ◌++◌, [], ◌∷◌, filter, find, OnOk, IfErr, length, vec_len, slice_range};
+ghost use Rattle.std.specs.Prelude.{◌≡◌, ℕ, true, ◌+◌, ◌<◌, ◌≤◌, ◌++◌, [], ◌∷◌, filter, find, OnOk, IfErr, IfOk, length, vec_len, slice_range};
 ghost use Rattle.std.specs.Vec.{vec_capacity};
 ghost use Rattle.std.specs.Option.{option_copied};
 ghost use Rattle.std.specs.Ordering.{is_eq};
@@ -44,6 +44,17 @@ impl<R: Keyed + Drop> Appended<R> {
             rows: Vec::new(alloc),
             in_order: true,
         }
+    }
+
+    /// Rows in the order in which they came.
+    pub fn from_rows(alloc: Global, rows: Vec<R>) -> Result<Appended<R>, Fault>
+        ensures rows { IfOk result (λ appended. appended.rows.items ≡ rows.items) }
+        ensures fault { IfErr result (λ fault. fault ≡ Fault.Memory) }
+    {
+        let mut appended = Appended::new(alloc);
+        appended.reserve(rows.len())?;
+        appended.append(rows);
+        Ok(appended)
     }
 
     pub fn len(&self) -> usize

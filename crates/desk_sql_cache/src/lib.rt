@@ -22,4 +22,4 @@ pub use adoptions::{Adoptions, read_adoptions};
 pub use found::{Found, found_after};
 pub use holders::{Holders, read_holders, release_place};
 pub use last::Last;
-pub use repeated::{Choices, Conclusions, expression_in, listed, terms_in};
+pub use repeated::{Choices, Conclusions, expression_in, terms_in};

@@ -1,7 +1,7 @@
 //! The conclusions of a document and the choices of a release. All are read at once if one after
 //! another is asked for with no change in between, as a freeze does.
 
-ghost use Rattle.std.specs.Prelude.{◌≡◌, ◌↔◌, ◌&&◌, ℕ, true, nat_lt, not, is_some, IfErr, IfNone, IfOk, IfSome, OnOk, List, Option, filter, map};
+ghost use Rattle.std.specs.Prelude.{◌≡◌, ◌↔◌, ◌&&◌, ℕ, true, nat_lt, not, is_some, IfNone, IfOk, IfSome, OnOk, List, Option, filter, map};
 ghost use Rattle.desk_model.specs.Conclusions.{office_text};
 ghost use Rattle.desk_model.specs.Keys.{is_choice_in, is_choice_of};
 ghost use Rattle.desk_model.specs.Tables.{Tables};
@@ -10,23 +10,12 @@ ghost use Rattle.desk_sql_cache.specs.Repeated.{AreChoices, AreConclusions, choi
 
 use desk_base::Text;
 use desk_memory_rows::{ByConcluded, ByPackage};
-use desk_model::{ChoiceRow, ConclusionRow, Fault};
-use desk_sorted::{Appended, Keyed, Sought};
+use desk_model::{ChoiceRow, ConclusionRow};
+use desk_sorted::{Appended, Sought};
 use std::alloc::{AllocError, Global};
 
 /// How many in a row are looked up one at a time before all are read.
 const ONE_BY_ONE: u32 = 16;
-
-/// Rows in a form in which they are looked up by binary search.
-pub fn listed<R: Keyed + Drop>(alloc: Global, rows: Vec<R>) -> Result<Appended<R>, Fault>
-    ensures rows { IfOk result (λ listed. listed.rows.items ≡ rows.items) }
-    ensures fault { IfErr result (λ fault. fault ≡ Fault.Memory) }
-{
-    let mut listed = Appended::new(alloc);
-    listed.reserve(rows.len())?;
-    listed.append(rows);
-    Ok(listed)
-}
 
 /// The document whose conclusions were asked for last, how many times in a row, and all of them if
 /// they were read.

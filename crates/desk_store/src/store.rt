@@ -44,8 +44,9 @@ use desk_model::{
     ReleaseRow, Rule, Standing, StoreFault, Totals,
 };
 use desk_snapshot::{AuditReport, Snapshot};
+use desk_sorted::Appended;
 use desk_sql_cache::{
-    Choices, Conclusions, Found, expression_in, found_after, listed, read_adoptions, read_holders,
+    Choices, Conclusions, Found, expression_in, found_after, read_adoptions, read_holders,
     release_place, terms_in,
 };
 use desk_sql_commit::commit_counted;
@@ -279,7 +280,7 @@ impl<S: Alter> SqlStore<S> {
             result (λ found t. found ≡ office_text t.conclusion document id.now) }
     {
         let read = desk_sql_lookup::conclusions_in(self.alloc, &mut self.conn, document)?;
-        let rows = listed(self.alloc, read)?;
+        let rows = Appended::from_rows(self.alloc, read)?;
         let expression = expression_in(&rows, document, id)?;
         self.found.last.conclusions = Conclusions::of(document, rows);
         Ok(expression)
@@ -293,7 +294,7 @@ impl<S: Alter> SqlStore<S> {
     {
         let release = Text::of(self.alloc, key.release)?;
         let read = desk_sql_lookup::choices_in(self.alloc, &mut self.conn, key.release)?;
-        let rows = listed(self.alloc, read)?;
+        let rows = Appended::from_rows(self.alloc, read)?;
         let terms = terms_in(self.alloc, &rows, key)?;
         self.found.last.choices = Choices::of(release, rows);
         Ok(terms)

@@ -1,15 +1,14 @@
 //! Whether a choice of terms satisfies an expression, and whether it does without one of them.
 
-ghost use Rattle.std.specs.Prelude.{◌≡◌, ◌++◌, ◌∷◌, [], ℕ, ◌<◌, IfOk, IfErr, OnErr, List, map};
+ghost use Rattle.std.specs.Prelude.{◌≡◌, ◌++◌, ◌∷◌, [], ℕ, IfOk, IfErr, List, map};
 ghost use Rattle.std.specs.Io.KnownBytes.{Appends, Keeps};
-ghost use Rattle.desk_expr.specs.Faults.{fault_number};
 ghost use Rattle.desk_subcommands.specs.Failures.{IfMemory, IsOfOutput};
 ghost use Rattle.desk_subcommands.specs.Report.{IsReadTo, IsReport, IsVerdict, SpellTerms, Tells, TellsOnce};
 
 use crate::failure::Failure;
 use crate::report::Report;
 use desk_alts::{Verdict, check_choice};
-use desk_expr::{Expr, ParseFault, Profile, Term, parse_in, parse_term};
+use desk_expr::{Expr, Profile, Term, parse_in, parse_term, unless_memory};
 use std::alloc::{AllocError, Global};
 use std::io::Write;
 
@@ -22,17 +21,6 @@ enum Terms<'a> {
     Bad(&'a str),
 }
 
-/// The fault itself, or an error if it is that no memory was left.
-pub(crate) fn told(fault: ParseFault) -> Result<ParseFault, AllocError>
-    ensures told { IfOk result (λ told. (told ≡ fault) × (0 < fault_number fault)) }
-    ensures memory { OnErr result (fault_number fault ≡ 0) }
-{
-    match fault {
-        ParseFault::Memory(error) => Err(error),
-        _ => Ok(fault),
-    }
-}
-
 fn read_terms<'a>(alloc: Global, words: &'a [&'a str]) -> Result<Terms<'a>, AllocError>
     ensures { IfOk result (IsReadTo (map (λ w. w.now) words.entry.now)) }
 {
@@ -41,7 +29,7 @@ fn read_terms<'a>(alloc: Global, words: &'a [&'a str]) -> Result<Terms<'a>, Allo
         match parse_term(alloc, word) {
             Ok(term) => terms.push(term)?,
             Err(fault) => {
-                told(fault)?;
+                unless_memory(fault)?;
                 return Ok(Terms::Bad(word));
             }
         }
@@ -75,7 +63,7 @@ fn judge<'a>(
 {
     let tree = match parse_in(alloc, expression, profile) {
         Ok(tree) => tree,
-        Err(fault) => return Ok(Report::Fault(told(fault)?)),
+        Err(fault) => return Ok(Report::Fault(unless_memory(fault)?)),
     };
     match read_terms(alloc, words)? {
         Terms::Bad(word) => Ok(Report::BadTerm(word)),

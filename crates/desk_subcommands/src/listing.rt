@@ -6,11 +6,10 @@ ghost use Rattle.std.specs.String.{string_bytes};
 ghost use Rattle.desk_subcommands.specs.Failures.{IfMemory, IsOfOutput};
 ghost use Rattle.desk_subcommands.specs.Listing.{IsListing, IsListingOf, listing_status, listing_text, Lists, ListsOnce, set_text, sets_text};
 
-use crate::checking::told;
 use crate::failure::Failure;
 use crate::report::Report;
 use desk_alts::{AltFault, TermSet};
-use desk_expr::{Expr, ParseFault, Profile, parse_in, print_term};
+use desk_expr::{Expr, ParseFault, Profile, parse_in, print_term, unless_memory};
 use std::alloc::{AllocError, Global};
 use std::io::Write;
 
@@ -95,7 +94,7 @@ fn list(alloc: Global, expression: &str, profile: Profile) -> Result<Listing, Al
 {
     match parse_in(alloc, expression, profile) {
         Ok(tree) => listing_of(alloc, &tree),
-        Err(fault) => Ok(Listing::Unread(told(fault)?)),
+        Err(fault) => Ok(Listing::Unread(unless_memory(fault)?)),
     }
 }
 

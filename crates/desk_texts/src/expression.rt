@@ -5,7 +5,7 @@ ghost use Rattle.desk_expr.specs.Faults.{fault_number};
 ghost use Rattle.desk_texts.specs.Expressions.{word_place, IsRead, fault_of, IsFault};
 ghost use Rattle.desk_findings.specs.Fields.{is_no_licence};
 
-use desk_expr::{Expr, ParseFault, Profile, parse_in, told};
+use desk_expr::{Expr, ParseFault, Profile, parse_in, unless_memory};
 use desk_fields::skip_blanks;
 use desk_findings::is_no_licence;
 use desk_model::ExpressionFault;
@@ -25,7 +25,7 @@ pub(crate) fn read_expression(
     match parse_in(alloc, text, profile) {
         Ok(expr) => Ok(Some(expr)),
         Err(fault) => {
-            told(fault)?;
+            unless_memory(fault)?;
             Ok(None)
         }
     }

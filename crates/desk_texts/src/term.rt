@@ -6,7 +6,7 @@ ghost use Rattle.desk_catalogue.specs.Terms.{IsTermOf};
 ghost use Rattle.desk_texts.specs.Terms.{IsTerm, reference_in, is_licence, adopted_as, licence_id_in, exception_in};
 
 use desk_base::{Text, is_idstring_of_bytes};
-use desk_expr::{Term, parse_term, print_term, told};
+use desk_expr::{Term, parse_term, print_term, unless_memory};
 use desk_fields::split_word;
 use desk_tagvalue::behind;
 use desk_tokens::{is_reference, without_plus};
@@ -19,7 +19,7 @@ pub(crate) fn read_term(alloc: Global, text: &str) -> Result<Option<Term>, Alloc
     match parse_term(alloc, text) {
         Ok(term) => Ok(Some(term)),
         Err(fault) => {
-            told(fault)?;
+            unless_memory(fault)?;
             Ok(None)
         }
     }

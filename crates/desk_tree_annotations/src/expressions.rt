@@ -5,7 +5,7 @@ ghost use Rattle.std.specs.List.{list_all};
 ghost use Rattle.desk_tree_annotations.specs.Right.{Tells, Reading, IsRight};
 
 use desk_base::TextList;
-use desk_expr::{parse, told};
+use desk_expr::{parse, unless_memory};
 use std::alloc::{AllocError, Global};
 
 /// Whether a text is a licence expression, with operators in capitals (SPDX 2.3, Annex D). The only
@@ -16,7 +16,7 @@ pub fn is_expression(alloc: Global, text: &str) -> Result<bool, AllocError>
     match parse(alloc, text) {
         Ok(_) => Ok(true),
         Err(fault) => {
-            told(fault)?;
+            unless_memory(fault)?;
             Ok(false)
         }
     }

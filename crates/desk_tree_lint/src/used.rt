@@ -8,7 +8,7 @@ ghost use Rattle.desk_tree_infos.specs.declared.information.Subject.TheVariants.
 ghost use Rattle.desk_tree_lint.specs.Used.{term_keys, keys_in, Uses, IsUsedIn, IsFirstUsed, AreUsed};
 
 use desk_base::TextList;
-use desk_expr::{Term, parse, terms, told};
+use desk_expr::{Term, parse, terms, unless_memory};
 use desk_tree_annotations::SharedText;
 use desk_tree_gather::First;
 use std::alloc::{AllocError, Global};
@@ -44,7 +44,10 @@ fn add_used(alloc: Global, keys: &mut TextList, licence: &str) -> Result<(), All
             let found = terms(alloc, &expression)?;
             add_keys(keys, found.as_slice())
         }
-        Err(fault) => told(fault),
+        Err(fault) => {
+            unless_memory(fault)?;
+            Ok(())
+        }
     }
 }
 

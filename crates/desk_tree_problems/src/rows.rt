@@ -3,7 +3,6 @@
 ghost use Rattle.std.specs.Prelude.{◌≡◌, ◌++◌, ◌<◌, nat_lt, None, IfOk, option_map, codes};
 ghost use Rattle.std.specs.List.{list_any};
 ghost use Rattle.std.specs.String.{string_bytes};
-ghost use Rattle.desk_expr.specs.Faults.{fault_number};
 ghost use Rattle.desk_tree_lint.specs.Shown.{name_at};
 ghost use Rattle.desk_tree_gather.specs.declared.flaw.Flaw.TheVariants.{BadAnnotation, BadExpression};
 ghost use Rattle.desk_tree_problems.specs.Rows.{flaw_row, annotation_words, StopsAt, path_words, quoted, expression_words, stop_words, IsFlawRow, dep5_rows, blank_row, named_words, text_words, missing_row, unused_row, lacking_words, bare_row};
@@ -11,7 +10,7 @@ ghost use Rattle.desk_tree_problems.specs.Rows.{flaw_row, annotation_words, Stop
 use crate::bare::{Bare, Lacking};
 use crate::row::{Kind, Row, row_of};
 use desk_base::Text;
-use desk_expr::{ParseFault, parse};
+use desk_expr::{ParseFault, parse, unless_memory};
 use desk_tree_annotations::AnnotationFault;
 use desk_tree_gather::{Blank, Flaw};
 use desk_tree_lint::NameAt;
@@ -49,23 +48,13 @@ fn annotation_row(
     row_of(alloc, Kind::BadAnnotation, path, message.as_str())
 }
 
-// The fault of a text, unless it is lack of memory.
-fn told(fault: ParseFault) -> Result<ParseFault, AllocError>
-    ensures { IfOk result (λ told. (told ≡ fault) × (0 < fault_number fault)) }
-{
-    match fault {
-        ParseFault::Memory(error) => Err(error),
-        _ => Ok(fault),
-    }
-}
-
 // The fault at which a text that is no licence expression stops.
 fn stop_of(alloc: Global, text: &str) -> Result<Option<ParseFault>, AllocError>
     ensures { IfOk result (StopsAt text.now) }
 {
     match parse(alloc, text) {
         Ok(_) => Ok(None),
-        Err(fault) => Ok(Some(told(fault)?)),
+        Err(fault) => Ok(Some(unless_memory(fault)?)),
     }
 }
 

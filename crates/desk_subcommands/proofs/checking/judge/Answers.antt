@@ -12,6 +12,6 @@ returns c = verdict_reported c.args.profile c.args.expression.now (texts c.args.
 
 pub returns-in-Err : goal.returns-in-Err
 returns-in-Err c = stops_with c.args.profile c.args.expression.now c.in-Err.fault
-    c.in_ok-told-in-Err.field-0 c.in_ok-told-in-Err.ensures.told.0
-    c.in_ok-told-in-Err.ensures.told.1
+    c.in_ok-unless_memory-in-Err.field-0 c.in_ok-unless_memory-in-Err.ensures.same
+    c.in_ok-unless_memory-in-Err.ensures.text
     c.in-Err.ensures.stop c.in-Err.ensures.complete

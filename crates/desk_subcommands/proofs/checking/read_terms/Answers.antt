@@ -14,4 +14,4 @@ loop-word-preserved c = subst (λ ts. SpellTerms
 pub returns-in-Err : goal.returns-in-Err
 returns-in-Err c = first_bad c.args.words.now c.loop-word.word-index _ c.loop-word.terms.items
     c.loop-word-test.true c.loop-word.invariant
-    (not_memory c.in-Err.fault c.in_ok-told-in-Err.ensures.told.1 c.in-Err.ensures.complete)
+    (not_memory c.in-Err.fault c.in_ok-unless_memory-in-Err.ensures.text c.in-Err.ensures.complete)

@@ -12,8 +12,8 @@ returns-in_ok-found-in-Ok c =
     c.in-Ok.ensures.only
     (added ∙ ap (λ ts. c.args.keys.now ++ keys_in ts) c.as_slice.ensures.value))
 
-pub returns-in-Err : goal.returns-in-Err
-returns-in-Err c =
-    added_by c.told.result c.told.ensures.text (λ some.
+pub returns-in_ok-unless_memory-in-Err : goal.returns-in_ok-unless_memory-in-Err
+returns-in_ok-unless_memory-in-Err c =
     uses_none c.args.licence.now c.args.keys.now c.args.keys.now
-    (not_memory c.in-Err.fault some c.in-Err.ensures.complete) refl)
+    (not_memory c.in-Err.fault c.in_ok-unless_memory-in-Err.ensures.text c.in-Err.ensures.complete)
+    refl
