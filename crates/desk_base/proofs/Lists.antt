@@ -4,9 +4,10 @@ use Rattle.std.proofs.Common.{cond}
 use Rattle.std.proofs.Common.{List, [], ◌∷◌, ◌++◌, length, get_or, take, drop, find, filter, subst}
 use Rattle.std.proofs.Common.{Option, Some, None, inl, inr, is_some}
 use Rattle.std.proofs.Common.{All, Contains, IsTrue, slice_get, append_assoc, add-one, add-zero}
-use Rattle.std.proofs.Common.{drop-cons, ap, sym, refl, arith}
+use Rattle.std.proofs.Common.{drop-cons, map, ap, ap₂, sym, refl, arith}
 use Rattle.std.specs.Prelude.{◌&&◌, ◌||◌, not}
-use Rattle.std.specs.List.{AllZip, enumerate_from, list_all, list_any, last_or}
+use Rattle.std.specs.List.{AllZip, enumerate_from, flat_map, list_all, list_any, last_or}
+use Rattle.std.proofs.lemmas.List.{flat_map_more, map_more, take_more}
 use Rattle.std.proofs.lemmas.List.Elements.{All-get_or, All-tail, All-cons}
 
 pub append_four : {A : Type 0} (a b c d : List A) → ((a ++ b) ++ c) ++ d ≡ a ++ (b ++ (c ++ d))
@@ -128,3 +129,26 @@ first_found test [] = refl
 first_found test (x ∷ xs) = elim (test x) as
     (λ b. slice_get (cond b (x ∷ filter test xs) (filter test xs)) 0
     ≡ cond b (Some x) (find test xs)) [ true ↦ refl | false ↦ first_found test xs ]
+
+-- ---- pieces joined
+
+-- the pieces of one more item, after others
+pub joined_more : {X Y : Type 0} (f : X → List Y) (xs : List X) (i : ℕ) (x : X)
+    (start before after piece : List Y) → i < length xs
+    → x ≡ get_or xs i x → before ≡ start ++ flat_map f (take i xs) → piece ≡ f x
+    → after ≡ before ++ piece
+    → after ≡ start ++ flat_map f (take (i + 1) xs)
+joined_more f xs i x start before after piece inside at so_far made pushed =
+    pushed ∙ ap₂ (λ a b. a ++ b) so_far (made ∙ ap f at)
+    ∙ flat_map_more f start (take i xs) (get_or xs i x)
+    ∙ ap (λ ys. start ++ flat_map f ys) (sym (take_more xs i x inside))
+
+-- the same, by what the items show
+pub mapped_more : {X Y A : Type 0} (f : Y → List A) (g : X → Y) (xs : List X) (i : ℕ) (d : X)
+    (start before after : List A) → i < length xs
+    → before ≡ start ++ flat_map f (map g (take i xs)) → after ≡ before ++ f (g (get_or xs i d))
+    → after ≡ start ++ flat_map f (map g (take (i + 1) xs))
+mapped_more {X} {Y} f g xs i d start before after inside so_far added =
+    let y = g (get_or xs i d) in
+    added ∙ ap (λ l. l ++ f y) so_far ∙ flat_map_more f start (map g (take i xs)) y
+    ∙ ap (λ (ys : List Y). start ++ flat_map f ys) (sym (map_more g xs i d inside))

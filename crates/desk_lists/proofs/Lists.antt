@@ -3,8 +3,8 @@ use Rattle.std.proofs.Common.{◌≡◌, ℕ, ◌+◌, ◌<◌, ◌≤◌, Bool,
 use Rattle.std.proofs.Common.{length, get_or, take, take_all, map, refl, sym, ap, ap₂, subst}
 use Rattle.std.proofs.Common.{◌∙◌, append-nil, append_assoc}
 use Rattle.std.specs.Prelude.{filter, find, reverse, Option, Some, None}
-use Rattle.std.specs.List.{AllZip, flat_map}
-use Rattle.std.proofs.lemmas.List.{flat_map_more, map_more, map-append, reverse-append, take_more}
+use Rattle.std.specs.List.{AllZip}
+use Rattle.std.proofs.lemmas.List.{map_more, map-append, reverse-append, take_more}
 use Rattle.std.proofs.lemmas.List.Elements.{filter_more}
 use Rattle.std.proofs.lemmas.List.Folds.{find-append}
 use Rattle.std.specs.Option.{option_or}
@@ -36,17 +36,6 @@ added_more f xs i x start before after y inside at so_far made pushed =
     pushed ∙ ap₂ (λ ys z. ys ++ z ∷ []) so_far (made ∙ ap f at)
     ∙ append_assoc start (map f (take i xs)) (f (get_or xs i x) ∷ [])
     ∙ ap (λ ys. start ++ ys) (sym (map_more f xs i x inside))
-
--- the pieces of one more, after others
-pub joined_more : {X Y : Type 0} (f : X → List Y) (xs : List X) (i : ℕ) (x : X)
-    (start before after piece : List Y) → i < length xs
-    → x ≡ get_or xs i x → before ≡ start ++ flat_map f (take i xs) → piece ≡ f x
-    → after ≡ before ++ piece
-    → after ≡ start ++ flat_map f (take (i + 1) xs)
-joined_more f xs i x start before after piece inside at so_far made pushed =
-    pushed ∙ ap₂ (λ a b. a ++ b) so_far (made ∙ ap f at)
-    ∙ flat_map_more f start (take i xs) (get_or xs i x)
-    ∙ ap (λ ys. start ++ flat_map f ys) (sym (take_more xs i x inside))
 
 -- one more item in each of two lists
 pub zipped_more : {X Y : Type 0} (R : X → Y → Type 0) (xs : List X) (i : ℕ) (x : X)

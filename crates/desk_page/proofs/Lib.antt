@@ -1,3 +1,2 @@
 pub mod Inert
-pub mod Joined
 pub mod Uses

@@ -1,8 +1,7 @@
 -- Steps and names added one after another.
 use Rattle.std.proofs.Common.{◌≡◌, ◌∙◌, ℕ, ◌+◌, ◌<◌, ◌≤◌, List, [], ◌∷◌, ◌++◌, append_assoc, length}
-use Rattle.std.proofs.Common.{drop, get_or, map, take, ap, refl, sym}
-use Rattle.std.specs.List.{flat_map}
-use Rattle.std.proofs.lemmas.List.{append-nil, at_drop_all, drop_more, flat_map_more, map_more}
+use Rattle.std.proofs.Common.{drop, get_or, ap, refl, sym}
+use Rattle.std.proofs.lemmas.List.{append-nil, at_drop_all, drop_more}
 use Rattle.serde_json.specs.Data.{Data}
 use Rattle.serde_json.specs.View.{items_view, view}
 use Rattle.serde_json.specs.declared.value.Value.{Value}
@@ -45,13 +44,3 @@ items_more steps at xs i d old new all inside so_far added =
     ap (λ l. l ++ rest) added ∙ append_assoc old here rest
     ∙ ap (λ (l : List Value). old ++ items_steps steps at i (items_view l))
     (sym (drop_more xs i d inside)) ∙ so_far
-
--- one more piece, by what it shows
-pub mapped_more : {X Y A : Type 0} (f : Y → List A) (g : X → Y) (xs : List X) (i : ℕ) (d : X)
-    (start before after : List A) → i < length xs
-    → before ≡ start ++ flat_map f (map g (take i xs)) → after ≡ before ++ f (g (get_or xs i d))
-    → after ≡ start ++ flat_map f (map g (take (i + 1) xs))
-mapped_more {X} {Y} f g xs i d start before after inside so_far added =
-    let y = g (get_or xs i d) in
-    added ∙ ap (λ l. l ++ f y) so_far ∙ flat_map_more f start (map g (take i xs)) y
-    ∙ ap (λ (ys : List Y). start ++ flat_map f ys) (sym (map_more g xs i d inside))

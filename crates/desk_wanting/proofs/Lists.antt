@@ -5,7 +5,7 @@ use Rattle.std.proofs.Common.{ap₂, ◌∙◌, append_assoc, suc, arith}
 use Rattle.std.specs.Prelude.{◌==◌, not, if◌then◌else◌}
 use Rattle.std.specs.List.{cons_option, filter_map, flat_map, list_any}
 use Rattle.std.proofs.lemmas.Bool.Decides.{nat_tests}
-use Rattle.std.proofs.lemmas.List.{append-nil, at_drop_all, flat_map_more, map-append, map_more, take_more}
+use Rattle.std.proofs.lemmas.List.{append-nil, at_drop_all, map-append, map_more}
 use Rattle.desk_base.proofs.Lists.{drop_item}
 use Rattle.desk_model.specs.Obstacles.{is_told, told_once}
 use Rattle.desk_model.specs.declared.refusal.Refusal.{Refusal}
@@ -101,15 +101,6 @@ pub ended : {A B : Type 0} (g : List A → List B) (xs : List A) (i : ℕ) (foun
     → found ≡ all
 ended g xs i found all out none so_far = sym (append-nil found)
     ∙ (ap (λ ys. found ++ ys) (sym (at_drop_all g xs i out ∙ none)) ∙ so_far)
-
--- pieces joined so far, with that of one more item
-pub joined_more : {A : Type 0} (f : A → List ℕ) (xs : List A) (i : ℕ) (x : A)
-    (old new piece : List ℕ) → i < length xs → x ≡ get_or xs i x
-    → old ≡ flat_map f (take i xs) → piece ≡ f x → new ≡ old ++ piece
-    → new ≡ flat_map f (take (i + 1) xs)
-joined_more f xs i x old new piece lt is sofar made grown =
-    grown ∙ ap₂ (λ a b. a ++ b) sofar (made ∙ ap f is)
-    ∙ flat_map_more f [] (take i xs) (get_or xs i x) ∙ ap (flat_map f) (sym (take_more xs i x lt))
 
 -- one more item is made, as it is seen
 pub seen_more : {A B C : Type 0} (seen : B → C) (f : A → C) (xs : List A) (i : ℕ) (x : A)

@@ -1,7 +1,8 @@
 use Rattle.std.proofs.Common.{◌++◌, ap}
 use Rattle.std.specs.List.{flat_map}
 use Rattle.desk_base.specs.Terminal.{shown}
-use Rattle.desk_lists.proofs.Lists.{joined_more, whole}
+use Rattle.desk_base.proofs.Lists.{joined_more}
+use Rattle.desk_lists.proofs.Lists.{whole}
 use Rattle.desk_lists.proofs.columns.add_each_shown.Goals as goal
 
 pub loop-cell-preserved : goal.loop-cell-preserved

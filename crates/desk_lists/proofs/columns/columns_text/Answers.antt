@@ -1,7 +1,8 @@
 use Rattle.std.proofs.Common.{[], ◌∙◌, ap₂}
 use Rattle.std.specs.List.{flat_map}
 use Rattle.desk_lists.specs.Columns.{columns_text, row_line, widths}
-use Rattle.desk_lists.proofs.Lists.{joined_more, whole}
+use Rattle.desk_base.proofs.Lists.{joined_more}
+use Rattle.desk_lists.proofs.Lists.{whole}
 use Rattle.desk_lists.proofs.columns.columns_text.Goals as goal
 
 pub loop-row-preserved : goal.loop-row-preserved

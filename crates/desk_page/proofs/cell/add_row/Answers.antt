@@ -2,7 +2,7 @@ use Rattle.std.proofs.Common.{◌∙◌, ◌++◌, ap}
 use Rattle.std.specs.String.{string_bytes}
 use Rattle.desk_page.specs.Cells.{cell_of, cell_text}
 use Rattle.desk_page.specs.declared.cell.Cell.{Cell}
-use Rattle.desk_page.proofs.Joined.{mapped_more}
+use Rattle.desk_base.proofs.Lists.{mapped_more}
 use Rattle.desk_page.proofs.cell.add_row.Goals as goal
 
 pub loop-cell-preserved : goal.loop-cell-preserved

@@ -1,7 +1,7 @@
 use Rattle.serde_json.specs.View.{view}
 use Rattle.desk_spdx_json.specs.Members.{member_text}
 use Rattle.desk_spdx_json.specs.Parts.{member_steps}
-use Rattle.desk_spdx_json.proofs.Added.{mapped_more}
+use Rattle.desk_base.proofs.Lists.{mapped_more}
 use Rattle.desk_spdx_json.proofs.parts.add_members.Goals as goal
 
 pub loop-member-preserved : goal.loop-member-preserved

@@ -1,6 +1,6 @@
 use Rattle.std.proofs.Common.{[], ap, refl, take_all, ◌∙◌}
 use Rattle.std.specs.List.{flat_map}
-use Rattle.desk_lists.proofs.Lists.{joined_more}
+use Rattle.desk_base.proofs.Lists.{joined_more}
 use Rattle.desk_subcommands.specs.Filing.{outcome_line}
 use Rattle.desk_views.proofs.wanting.lines_of.Goals as goal
 
