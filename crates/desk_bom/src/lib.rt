@@ -12,5 +12,5 @@ mod state;
 pub use codes::{one_code, verification_code};
 pub use contents::Contents;
 pub use elements::Elements;
-pub use shipping::{shipped, ships};
+pub use shipping::{first_mark, shipped, ships};
 pub use state::{CodeState, code_state, is_code, is_unanalyzed, one_state};

@@ -1,6 +1,6 @@
 //! The packages that a document ships.
 
-ghost use Rattle.std.specs.Prelude.{◌≡◌, ◌<◌, ◌+◌, ◌||◌, ◌&&◌, ◌^◌, nat_le, [], ℕ, IfOk, OnOk, All, length, map, filter, slice_index_or};
+ghost use Rattle.std.specs.Prelude.{◌≡◌, ◌<◌, ◌+◌, ◌||◌, ◌&&◌, ◌^◌, nat_le, [], ℕ, false, IfOk, OnOk, All, drop, length, map, filter, slice_index_or};
 ghost use Rattle.std.specs.List.{list_any, filter_map, range_with_len};
 ghost use Rattle.std.specs.List.Sorted.{IsPermutation, IsNonDecreasingBy};
 ghost use Rattle.desk_tagvalue.specs.Documents.{document_text};
@@ -198,6 +198,17 @@ pub fn ships(alloc: Global, document: &Document) -> Result<Vec<bool>, AllocError
     let reached = shipping(alloc, document)?;
     let marks = marks_of(alloc, document.packages.as_slice().len(), &reached)?;
     Ok(marks)
+}
+
+/// The first of the marks of `ships`, `false` if there is none, and those behind it.
+pub fn first_mark(marks: &[bool]) -> (bool, &[bool])
+    ensures first { result.0 ≡ slice_index_or marks.now 0 false }
+    ensures behind { result.1.now ≡ drop 1 marks.now }
+{
+    match marks.split_first() {
+        Some((mark, behind)) => (*mark, behind),
+        None => (false, marks),
+    }
 }
 
 /// The places of the packages that a document ships, by their identifiers.

@@ -13,9 +13,9 @@ ghost use Rattle.desk_import.specs.Proposals.{AreLines, AreProposals, IsLine, co
 ghost use Rattle.desk_import.specs.Summaries.{standing_of, standings_of};
 ghost use Rattle.desk_import.specs.declared.summary.Standing.TheVariants.{Declared, Neither};
 
-use crate::summary::{self, Standing, first_of, standing_of};
+use crate::summary::{self, Standing, standing_of};
 use desk_base::Profile;
-use desk_bom::ships;
+use desk_bom::{first_mark, ships};
 use desk_expr::{Expr, print};
 use desk_findings::expression_in;
 use desk_tagvalue::{Document, Package};
@@ -127,7 +127,7 @@ fn proposals_for(
     let mut lines = String::new(alloc);
     let mut rest = marks;
     for text in packages {
-        let (ships, behind) = first_of(rest);
+        let (ships, behind) = first_mark(rest);
         let standing = standing_of(alloc, text, ships, profile)?;
         let line = proposal_of(alloc, document, text, standing, profile)?;
         lines.push_str(line.as_str())?;

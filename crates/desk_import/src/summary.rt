@@ -1,6 +1,6 @@
 //! The standings of a document's packages, and its findings.
 
-ghost use Rattle.std.specs.Prelude.{◌≡◌, ℕ, List, IfOk, Option, Bool, false, count_by, drop, map, slice_index_or};
+ghost use Rattle.std.specs.Prelude.{◌≡◌, ℕ, List, IfOk, Option, count_by, map};
 ghost use Rattle.desk_expr.specs.Tree.{Tree};
 ghost use Rattle.desk_findings.specs.Fields.{IsReading};
 ghost use Rattle.desk_tagvalue.specs.Documents.{document_text};
@@ -9,7 +9,7 @@ ghost use Rattle.desk_import.specs.Summaries.{IsSummary, kind_count, same_standi
 
 use crate::licences::is_licence;
 use desk_base::Profile;
-use desk_bom::ships;
+use desk_bom::{first_mark, ships};
 use desk_findings::{Finding, FindingKind, MissingField, findings_in};
 use desk_tagvalue::{Document, Package};
 use std::alloc::{AllocError, Global};
@@ -91,17 +91,6 @@ impl Summary {
     }
 }
 
-// The first of some marks, and those after it.
-pub(crate) fn first_of(marks: &[bool]) -> (bool, &[bool])
-    ensures first { result.0 ≡ slice_index_or marks.now 0 false }
-    ensures behind { result.1.now ≡ drop 1 marks.now }
-{
-    match marks.split_first() {
-        Some((mark, behind)) => (*mark, behind),
-        None => (false, marks),
-    }
-}
-
 // The standing of a package.
 pub(crate) fn standing_of(
     alloc: Global,
@@ -137,7 +126,7 @@ fn standings_of(
     let mut found = Vec::with_capacity(alloc, packages.len())?;
     let mut rest = marks;
     for text in packages {
-        let (ships, behind) = first_of(rest);
+        let (ships, behind) = first_mark(rest);
         found.push(standing_of(alloc, text, ships, profile)?)?;
         rest = behind;
     }

@@ -1,6 +1,6 @@
 //! What the desk keeps of a document.
 
-ghost use Rattle.std.specs.Prelude.{◌≡◌, ◌≢◌, IfOk, OnOk, Option, Result, map, drop, slice_index_or, ℕ, Bool, false, List};
+ghost use Rattle.std.specs.Prelude.{◌≡◌, ◌≢◌, IfOk, OnOk, Option, Result, map, ℕ, Bool, List};
 ghost use Rattle.desk_fields.specs.declared.fault.DocFault.{DocFault};
 ghost use Rattle.desk_fields.specs.Tags.{tag_name};
 ghost use Rattle.desk_tagvalue.specs.Documents.{Spells, document_text};
@@ -13,7 +13,7 @@ ghost use Rattle.desk_bom.specs.Shipping.{AreShippingMarks};
 
 use crate::sorting::{Identified, sorted_by};
 use desk_base::{Items, Text};
-use desk_bom::ships;
+use desk_bom::{first_mark, ships};
 use desk_fields::Tag;
 use desk_model::{Document, DocumentFault, Package, Reference};
 use desk_tagvalue::{DocFault, Extracted, read};
@@ -89,17 +89,6 @@ fn package_copies(
     Ok(Items::from_vec(kept))
 }
 
-/// The first of some marks, and those after it.
-fn first_of(marks: &[bool]) -> (bool, &[bool])
-    ensures first { result.0 ≡ slice_index_or marks.now 0 false }
-    ensures behind { result.1.now ≡ drop 1 marks.now }
-{
-    match marks.split_first() {
-        Some((mark, behind)) => (*mark, behind),
-        None => (false, marks),
-    }
-}
-
 fn shipments<'s, 'a>(
     alloc: Global,
     packages: &'s [desk_tagvalue::Package<'a>],
@@ -111,7 +100,7 @@ fn shipments<'s, 'a>(
     let mut found = Vec::with_capacity(alloc, packages.len())?;
     let mut rest = marks;
     for text in packages {
-        let (ships, behind) = first_of(rest);
+        let (ships, behind) = first_mark(rest);
         found.push(Shipment { text, ships })?;
         rest = behind;
     }
