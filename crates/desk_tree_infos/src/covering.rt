@@ -20,7 +20,7 @@ fn covers(alloc: Global, annotation: &Annotation, path: &str) -> Result<bool, Al
         → IfOk result (λ found. found ≡ covers r annotation.now path.now) }
 {
     for glob in annotation.paths.as_slice() {
-        if glob.matches(alloc, path)? {
+        if glob.matches_soon(alloc, path)? {
             return Ok(true);
         }
     }

@@ -3,6 +3,7 @@ use Rattle.std.proofs.Common.{◌≡◌, ◌≢◌, ◌∙◌, inl, inr, ℕ, ze
 use Rattle.std.proofs.Common.{◌∷◌, ◌++◌, length, take, drop, sym, subst, ap, arith, ⊎_elim}
 use Rattle.std.proofs.Common.{length-drop}
 use Rattle.std.specs.Prelude.{All, Option, Some}
+use Rattle.std.proofs.Math.Nat.{mul-le-mul_right}
 use Rattle.std.proofs.lemmas.List.Elements.{All-head, All-tail, All-cons}
 use Rattle.desk_tree_patterns.specs.declared.glob.Piece.{Piece}
 use Rattle.desk_tree_patterns.specs.declared.glob.Piece.TheVariants.{InName, InPath}
@@ -13,6 +14,8 @@ use Rattle.desk_tree_patterns.specs.Steps.{SettlesInPath, Goes, GoesOn, GoesBack
 use Rattle.desk_tree_patterns.proofs.Greedy.{at, st, Holds, wild_path}
 use Rattle.desk_tree_patterns.proofs.Greedy.{holds_byte, holds_new, holds_longer_name, holds_step}
 use Rattle.desk_tree_patterns.proofs.Greedy.{empty_out, longer_out, join_name, join_path}
+use Rattle.desk_tree_patterns.proofs.Falls.{Within, work, text_left, Falls, byte_falls}
+use Rattle.desk_tree_patterns.proofs.Falls.{step_falls}
 
 abbrev StuckBelow : ℕ → List Piece → List ℕ → Type 0
 StuckBelow count qs ts = (k : ℕ) → k < count → IsMatch qs (drop k ts) → ⊥
@@ -145,4 +148,82 @@ module _ (all : List Piece) (whole : List ℕ) where
       let back : Stuck s.here × GoesBack s n → Holds all whole n = λ g.
       let k = g.1.0 in
       settled k n g.1.2 (holds_step all whole s k (inr (g.0, g.1.1)) h) in
+      ⊎_elim on back goes
+
+fall_still : (a b c d p k m : ℕ) → b ≤ a → d ≤ c → b * m + (d * k + p) ≤ a * m + (c * k + p)
+fall_still a b c d p k m x y = omega (arith, mul-le-mul_right m x, mul-le-mul_right k y)
+
+module _ (pieces text : ℕ) where
+  abbrev Lessens : State → State → Type 0
+  Lessens s n = Within pieces text s
+      → Within pieces text n × (work pieces text n ≤ work pieces text s)
+
+  passed_lessens : (run : List ℕ) (ps : List Piece) (ts : List ℕ) (n p : Option Spot)
+      → Lessens (st (at (literal run ++ ps) (run ++ ts)) n p) (st (at ps ts) n p)
+  passed_lessens [] ps ts n p w = (w, omega arith)
+  passed_lessens (b ∷ run) ps ts n p w =
+      let one = byte_falls pieces text b (literal run ++ ps) (run ++ ts) n p w in
+      let less = one.1 in
+      let rest = passed_lessens run ps ts n p one.0 in
+      let fewer = rest.1 in
+      (rest.0, omega arith)
+
+  in_name_lessens : (count : ℕ) (qs : List Piece) (ts : List ℕ) (p : Option Spot)
+      → count ≤ length ts → All (λ b. b ≢ 47) (take count ts) → StuckBelow count qs ts
+      → Lessens (starred qs ts p) (starred qs (drop count ts) p)
+  in_name_lessens count qs ts p le clear none w =
+      let h = w.name_text in
+      let len = length-drop count ts in
+      let less : length (drop count ts) ≤ length ts = omega arith in (
+        record {
+          here_pieces = w.here_pieces;
+          name_pieces = w.name_pieces;
+          path_pieces = w.path_pieces;
+          here_text = omega arith;
+          name_text = omega arith;
+          path_text = w.path_text;
+        },
+        fall_still (text_left text p) (text_left text p) (length ts) (length (drop count ts))
+            (length qs) (pieces + 1) ((text + 1) * (pieces + 1)) (omega arith) less,
+      )
+
+  in_path_lessens : (count : ℕ) (qs : List Piece) (ts : List ℕ) → count ≤ length ts
+      → StuckBelow count qs ts → Lessens (twice_starred qs ts) (twice_starred qs (drop count ts))
+  in_path_lessens count qs ts le none w =
+      let h = w.path_text in
+      let len = length-drop count ts in
+      let less : length (drop count ts) ≤ length ts = omega arith in (
+        record {
+          here_pieces = w.here_pieces;
+          name_pieces = w.name_pieces;
+          path_pieces = w.path_pieces;
+          here_text = omega arith;
+          name_text = omega arith;
+          path_text = omega arith;
+        },
+        fall_still (length ts) (length (drop count ts)) (length ts) (length (drop count ts))
+            (length qs) (pieces + 1) ((text + 1) * (pieces + 1)) less less,
+      )
+
+  pub goes_falls : (s n : State) → Goes s n → Falls pieces text s n
+  goes_falls s n goes w =
+      let settled = settles_cases Lessens in_name_lessens in_path_lessens in
+      let on : GoesOn s n → Within pieces text n × (work pieces text n < work pieces text s) = λ g.
+      let m = g.0 in
+      let k = g.2.0 in
+      let first = passed_cases Lessens passed_lessens s m g.1 w in
+      let second = step_falls pieces text m k (inl g.2.1) first.0 in
+      let third = settled k n g.2.2 second.0 in
+      let a = first.1 in
+      let b = second.1 in
+      let c = third.1 in
+      (third.0, omega arith) in
+      let back : Stuck s.here × GoesBack s n → Within pieces text n
+      × (work pieces text n < work pieces text s) = λ g.
+      let k = g.1.0 in
+      let second = step_falls pieces text s k (inr (g.0, g.1.1)) w in
+      let third = settled k n g.1.2 second.0 in
+      let b = second.1 in
+      let c = third.1 in
+      (third.0, omega arith) in
       ⊎_elim on back goes

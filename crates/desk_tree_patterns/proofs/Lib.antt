@@ -1,6 +1,7 @@
 pub mod Needles
 pub mod Names
 pub mod Greedy
+pub mod Falls
 pub mod RowLemmas
 pub mod PlaceLemmas
 pub mod Jumps

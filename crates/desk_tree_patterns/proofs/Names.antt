@@ -42,6 +42,11 @@ once (c ∷ a) (d ∷ b) r s e h k =
 pub behind_once : (ts r s : List ℕ) → IsBehindName ts r → IsBehindName ts s → r ≡ s
 behind_once ts r s a b = once a.0 b.0 r s (sym a.1 ∙ b.1) a.2 b.2
 
+pub behind_shorter : (ts r : List ℕ) → IsBehindName ts r → length r < length ts
+behind_shorter ts r a =
+    let len = ap length a.1 ∙ length-append a.0 (47 ∷ r) in
+    omega arith
+
 -- a text with no `/` has nothing after one
 pub behind_none : (ts : List ℕ) → Nowhere (Passes (is_byte 47) ts) 0 (length ts) → (rest : List ℕ)
     → IsBehindName ts rest → ⊥

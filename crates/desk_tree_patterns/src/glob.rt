@@ -4,7 +4,7 @@ ghost use Rattle.std.specs.Prelude.{◌≡◌, ◌↔◌, ◌<◌, ℕ, List, le
 ghost use Rattle.desk_tree_patterns.specs.declared.glob.Piece.{Piece};
 ghost use Rattle.desk_tree_patterns.specs.Glob.{IsMatch, Begins, Spells};
 
-use crate::matching::matches;
+use crate::matching::{matches, matches_soon};
 use std::alloc::{AllocError, Global};
 use std::marker::Model;
 
@@ -109,12 +109,20 @@ impl Glob {
     }
 
     /// Whether the pattern matches the whole path: whether the path divides into stretches, one for
-    /// each piece in order. Lack of memory is the only error. A search that goes back seldom
-    /// takes none.
-    pub fn matches(&self, alloc: Global, path: &str) -> Result<bool, AllocError>
+    /// each piece in order.
+    pub fn matches(&self, path: &str) -> bool
+        ensures { IsTrue result ↔ IsMatch self.now path.now }
+    {
+        let path = path.as_bytes();
+        matches(self.parts.as_slice(), self.bytes.as_slice(), path)
+    }
+
+    /// The same, soon also if the search goes back often: it then goes over rows of all places of
+    /// the pattern. Lack of memory for these is the only error.
+    pub fn matches_soon(&self, alloc: Global, path: &str) -> Result<bool, AllocError>
         ensures { IfOk result (λ found. IsTrue found ↔ IsMatch self.now path.now) }
     {
-        matches(
+        matches_soon(
             alloc,
             self.parts.as_slice(),
             self.bytes.as_slice(),

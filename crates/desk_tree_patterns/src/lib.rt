@@ -5,9 +5,10 @@
 //!   its pieces; it is kept as its stars and the bytes between them (`specs/Parts.antt`).
 //! - A pattern can be read in only one way (`one_glob`), and each text is one
 //!   (`each_text_is_a_glob`).
-//! - A search goes from star to star (`specs/Steps.antt`). One that goes back too often is given
-//!   up for a row of all places of the pattern (`specs/Rows.antt`), which takes a step for each
-//!   byte of the path and each literal byte of the pattern.
+//! - A search goes from star to star (`specs/Steps.antt`). `Glob::matches` takes no memory.
+//!   `Glob::matches_soon` gives up a search that goes back too often for a row of all places of the
+//!   pattern (`specs/Rows.antt`), which takes a step for each byte of the path and each literal byte
+//!   of the pattern.
 #![tactic(auto)]
 
 mod glob;

@@ -278,6 +278,29 @@ fn is_found<'a>(place: Place<'a>) -> bool
     place.parts.is_empty() && place.text == place.bytes
 }
 
+/// Whether the path divides into stretches, one for each piece in order. It takes no memory, and at
+/// most as many steps as the path has bytes times the pieces of the pattern.
+pub(crate) fn matches(parts: &[Part], bytes: &[u8], path: &[u8]) -> bool
+    ensures { IsTrue result ↔ IsMatch (pieces bytes.now parts.now) path.now }
+{
+    let mut search = Search {
+        here: Place {
+            parts,
+            bytes,
+            text: path,
+        },
+        name: None,
+        path: None,
+    };
+    while !is_found(search.here) {
+        let Some(next) = step(search) else {
+            return false;
+        };
+        search = next;
+    }
+    true
+}
+
 // What a search of so many steps finds, if it ends by then.
 fn found_within(parts: &[Part], bytes: &[u8], path: &[u8], steps: usize) -> Option<bool>
     ensures { IfSome result (λ found. IsTrue found ↔ IsMatch (pieces bytes.now parts.now) path.now) }
@@ -303,11 +326,10 @@ fn found_within(parts: &[Part], bytes: &[u8], path: &[u8], steps: usize) -> Opti
     None
 }
 
-/// Whether the path divides into stretches, one for each piece in order.
+/// The same, at most in as many steps as the path has bytes and the pattern stars, and then by rows.
 ///
-/// It takes memory only if a search of as many steps as the path has bytes and the pattern stars
-/// hasn't ended.
-pub(crate) fn matches(
+/// It takes memory only if a search of so many steps hasn't ended.
+pub(crate) fn matches_soon(
     alloc: Global,
     parts: &[Part],
     bytes: &[u8],
