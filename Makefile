@@ -57,13 +57,18 @@ database: needs build
 auditing: needs build
 	@python3 tests/auditing.py build/desk
 
+# What a browser can do from pages of elsewhere, where Chromium is installed, and from those of the desk's own address.
+browser: needs build
+	@python3 tests/browser.py build/desk
+
 # What becomes of files of older versions, and of migrations that are stopped.
 migrating: needs build
 	@python3 tests/migrating.py build/desk
 
-# What a desk that is served over HTTP replies.
+# What a desk that is served over HTTP replies, to programs and to browsers.
 serving: needs build
 	@python3 tests/serving.py build/desk
+	@python3 tests/origins.py build/desk
 
 # The tests of single calls, with no proof of their own.
 units: needs
@@ -147,4 +152,4 @@ install: build
 clean:
 	rm -rf build
 
-.PHONY: all build demo needs test acceptance database auditing migrating serving units refused lint ample allocations hostile kills soak cost edits try bench manual install clean
+.PHONY: all build demo needs test acceptance database auditing migrating serving browser units refused lint ample allocations hostile kills soak cost edits try bench manual install clean

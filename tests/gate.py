@@ -34,6 +34,7 @@ STEPS = [
     ("Comparing what it explains with the pages.", ["python3", "tests/explain.py", DESK]),
     ("Running the scripts among them over files.", ["python3", "tests/database.py", DESK]),
     ("Asking it over HTTP.", ["python3", "tests/serving.py", DESK]),
+    ("Asking it as browsers do, for its own pages and for others.", ["python3", "tests/origins.py", DESK]),
     ("Reading the tables of a desk by SQLite.", ["python3", "tests/tables.py", DESK]),
     ("Auditing files of desks, sound ones and others.", ["python3", "tests/auditing.py", DESK]),
     ("Migrating files of older versions, sound ones and others.", ["python3", "tests/migrating.py", DESK]),

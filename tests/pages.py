@@ -23,23 +23,23 @@ HELP = "tests/acceptance/help-of-script/stdout"
 # The most words of each page: what has a letter or a digit is a word.
 MOST_WORDS = {
     "README.md": 700,
-    "docs/ARCHITECTURE.md": 2_000,
+    "docs/ARCHITECTURE.md": 2_050,
     "docs/AUDIT.md": 1_412,
     "docs/CATALOGUE.md": 1_000,
     "docs/DATABASE.md": 900,
-    "docs/DECISIONS.md": 3_500,
-    "docs/DEFINITIONS.md": 4_500,
+    "docs/DECISIONS.md": 3_600,
+    "docs/DEFINITIONS.md": 4_700,
     "docs/EXTENDING.md": 1_500,
     "docs/HOSTILE.md": 1_125,
-    "docs/HTTP.md": 923,
+    "docs/HTTP.md": 1_100,
     "docs/LINT.md": 1_000,
-    "docs/PROVED.md": 4_000,
+    "docs/PROVED.md": 4_200,
     "docs/REFUSALS.md": 1_500,
-    "docs/REPORTS.md": 1_189,
+    "docs/REPORTS.md": 1_240,
     "docs/REQUESTS.md": 3_000,
     "docs/SPEED.md": 1_500,
     "docs/TABLES.md": 1_000,
-    "docs/TRUST.md": 700,
+    "docs/TRUST.md": 750,
 }
 
 failures = []

@@ -32,6 +32,7 @@ LIMIT = 8 << 20
 REASONS = {
     200: "OK",
     400: "Bad Request",
+    403: "Forbidden",
     404: "Not Found",
     409: "Conflict",
     413: "Content Too Large",
@@ -42,7 +43,7 @@ REASONS = {
 }
 NOT_FOUND = {4, 5, 12, 23}
 CONFLICT = {3, 7, 10, 13, 14, 20, 24}
-FAULTS = {"memory": 503, "store": 500, "command": 400, "request": 400, "route": 404}
+FAULTS = {"memory": 503, "store": 500, "command": 400, "request": 400, "origin": 403, "route": 404}
 
 
 def status_of(reply):
@@ -111,11 +112,11 @@ class Served:
                 pass  # (what is refused early isn't read to its end)
             return received(peer)
 
-    def ask(self, method, path, body=None):
-        """The response as Python's own client reads it."""
+    def ask(self, method, path, body=None, fields=()):
+        """The response as Python's own client reads it, which sends these fields too."""
         client = http.client.HTTPConnection("127.0.0.1", self.port, timeout=SECONDS)
         try:
-            client.request(method, path, body)
+            client.request(method, path, body, dict(fields))
             answer = client.getresponse()
             return answer.version, answer.status, answer.reason, answer.getheaders(), answer.read()
         finally:
@@ -156,8 +157,8 @@ class Tally:
         self.note(name, None if told == wanted else f"{told!r:.400}, and not {wanted!r:.400}")
 
 
-def spoken(program, room, requests, replies):
-    """What is wrong with a dialogue, each line of which is a connection, if anything."""
+def spoken(program, room, requests, replies, fields_at=lambda port: ()):
+    """What is wrong with a dialogue, each line of which is a connection with the fields for a port, if anything."""
     asked = [line for line in database.lines(requests) if not database.is_blank(line)]
     replies = database.lines(replies)
     desk = Served(program, os.path.join(room, "desk"), len(asked))
@@ -165,7 +166,7 @@ def spoken(program, room, requests, replies):
         for number, (line, reply) in enumerate(zip(asked, replies), 1):
             line, reply = line.removesuffix(b"\n"), reply.removesuffix(b"\n")
             wanted = read(BAD, status=413) if len(line) > LIMIT else read(reply)
-            told = desk.ask("POST", "/commands", line)
+            told = desk.ask("POST", "/commands", line, fields_at(desk.port))
             if told != wanted:
                 return f"line {number} is replied {told!r:.300}, and not {wanted!r:.300}"
         status, stderr = desk.ended()
@@ -174,11 +175,11 @@ def spoken(program, room, requests, replies):
         desk.stop()
 
 
-def dialogues(program, tally):
+def dialogues(program, tally, fields_at=lambda port: ()):
     for name, requests, replies, _ in database.cases():
         if database.lines(requests):
             with tempfile.TemporaryDirectory(dir=database.ROOM) as room:
-                tally.note(name, spoken(program, room, requests, replies))
+                tally.note(name, spoken(program, room, requests, replies, fields_at))
 
 
 BAD = b'{"fault":"request"}'
@@ -681,9 +682,9 @@ SHOWN = [
 
 
 def page(program, tally, room):
-    """The page's examples, by curl where that is at hand."""
+    """The page's examples, by curl."""
     if not shutil.which("curl"):
-        print("There is no curl: the examples of docs/HTTP.md aren't run.")
+        tally.note("the examples of docs/HTTP.md", "there is no curl to run them")
         return
     with open(PAGE, encoding="utf-8") as text:
         commands = [line.strip() for line in text if line.startswith("    curl ")]

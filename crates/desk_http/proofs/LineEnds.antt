@@ -14,8 +14,8 @@ use Rattle.httparse.proofs.GrammarLemmas.{print_request-append}
 use Rattle.std.proofs.lemmas.List.Folds.{list_all-append}
 use Rattle.std.specs.List.{list_all}
 use Rattle.std.specs.Prelude.{◌==◌}
-use Rattle.desk_http.specs.Heads.{BeginsWith, HasNoHead, AreLineEnds, is_line_byte}
-use Rattle.desk_http.proofs.Stability.{BeginsWith-less}
+use Rattle.desk_http_head.specs.Heads.{BeginsWith, HasNoHead, AreLineEnds, is_line_byte}
+use Rattle.desk_http_head.proofs.Stability.{BeginsWith-less}
 
 end_by_lf : (end : LineEnd) → (front : List ℕ) × (print_end end ≡ front ++ 10 ∷ [])
 end_by_lf crlf = (13 ∷ [], refl)

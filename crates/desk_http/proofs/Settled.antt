@@ -4,20 +4,21 @@ use Rattle.std.proofs.Common.{append-nil, append_assoc, arith, take}
 use Rattle.std.proofs.lemmas.List.{length-take}
 use Rattle.std.specs.Prelude.{◌≢◌, ◌<◌}
 use Rattle.httparse.specs.Grammar.{RequestHead}
-use Rattle.desk_http.specs.Heads.{HasNoHead, NeverHasHead, AreLineEnds}
-use Rattle.desk_http.specs.Framings.{Framed, part, bad, whole, after_head, IsFraming, refused}
-use Rattle.desk_http.specs.Framings.{closed, IsAsked, IsUnread, IsAwaited, AwaitsMore}
-use Rattle.desk_http.specs.declared.framing.Awaited.{Awaited}
-use Rattle.desk_http.specs.declared.framing.Awaited.TheVariants.{Start, Head, Body}
-use Rattle.desk_http.proofs.Stability.{BeginsWith-unique, IsAsked-settled, IsAsked-ended}
-use Rattle.desk_http.proofs.Stability.{NeverHasHead-long, NeverHasHead-over}
+use Rattle.desk_http_head.specs.Heads.{BeginsWith, HasHead, HasNoHead, NeverHasHead, AreLineEnds}
+use Rattle.desk_http_head.specs.Framings.{Framed, part, bad, whole, after_head, IsFraming, refused}
+use Rattle.desk_http_head.specs.Framings.{closed, IsAsked, IsUnread, IsAwaited, AwaitsMore}
+use Rattle.desk_http_head.specs.declared.framing.Awaited.{Awaited}
+use Rattle.desk_http_head.specs.declared.framing.Awaited.TheVariants.{Start, Head, Body}
+use Rattle.desk_http_head.proofs.Stability.{BeginsWith-unique, BeginsWith-more, IsAsked-settled, IsAsked-ended}
+use Rattle.desk_http_head.proofs.Stability.{NeverHasHead-long, NeverHasHead-over}
 use Rattle.std.specs.Prelude.{Option, ◌≤◌}
 use Rattle.std.specs.Io.KnownBytes.{Consumes}
 use Rattle.std.proofs.KnownBytes.{Consumes-trans}
 use Rattle.desk_http.proofs.LineEnds.{HasNoHead-line, HasNoHead-ends, AreLineEnds-append}
-use Rattle.desk_http.specs.Limits.{request_bytes, piece_bytes}
-use Rattle.desk_http.specs.Receiving.{IsPrompt, IsUndue}
-use Rattle.desk_http.specs.declared.status.Status.TheVariants.{BadRequest}
+use Rattle.desk_http_head.specs.Limits.{request_bytes}
+use Rattle.desk_http.specs.Limits.{piece_bytes}
+use Rattle.desk_http.specs.Receiving.{IsPrompt, IsUndue, HasHeadOf}
+use Rattle.desk_http_head.specs.declared.status.Status.TheVariants.{BadRequest}
 
 -- bytes without a head that are read as settled never begin with one
 hopeless : (bytes more : List ℕ) (r : Framed) → HasNoHead bytes → IsUnread bytes r → r ≢ part
@@ -49,6 +50,26 @@ IsAsked-of bytes more r (bad status) x settled y = IsAsked-settled bytes more (b
 IsAsked-of bytes more r (whole a b c d) x settled y = IsAsked-settled bytes more (whole a b c d) y
     (λ e. cc)
 IsAsked-of bytes more r part x settled y = IsAsked-part bytes more r x settled y
+
+-- bytes that are read as settled have the head of those that begin with them
+HasHead-settled : (bytes more : List ℕ) (r : Framed) → IsFraming bytes r → r ≢ part
+    → (h : RequestHead) → HasHead (bytes ++ more) h → HasHead bytes h
+HasHead-settled bytes more r (inl (k, later, d, i)) settled h (after, b) =
+    let same = BeginsWith-unique (bytes ++ more) h k after (later ++ more) b
+    (BeginsWith-more bytes more k later d) in
+    (later, subst (λ (x : RequestHead). BeginsWith bytes x later) (sym same.0) d)
+HasHead-settled bytes more r (inr x) settled h (after, b) =
+    absurd (hopeless bytes more r x.0 x.1 settled more h after b)
+
+pub HasHeadOf-settled : (bytes more : List ℕ) (r : Framed) → IsFraming bytes r → r ≢ part
+    → HasHeadOf bytes (bytes ++ more)
+HasHeadOf-settled bytes more r x settled h = (
+  λ y. (y.0 ++ more, BeginsWith-more bytes more h y.0 y.1),
+  HasHead-settled bytes more r x settled h,
+)
+
+pub HasHeadOf-self : (bytes : List ℕ) → HasHeadOf bytes bytes
+HasHeadOf-self bytes h = (λ x. x, λ x. x)
 
 -- if the reader ends, each reading says what is asked for
 pub IsAsked-end : (bytes : List ℕ) (s : Framed) → IsFraming bytes s → IsAsked bytes (closed s)

@@ -1,10 +1,6 @@
 pub mod Serving
 pub mod Connections
 pub mod Limits
-pub mod Statuses
-pub mod Fields
-pub mod Heads
-pub mod Framings
 pub mod Receiving
 pub mod Paths
 pub mod Routes

@@ -1,7 +1,7 @@
 -- The status of a reply to an outcome.
 use Rattle.std.specs.Prelude.{ℕ, Bool, ◌==◌, ◌||◌, if◌then◌else◌}
-use Rattle.desk_http.specs.declared.status.Status.{Status}
-use Rattle.desk_http.specs.declared.status.Status.TheVariants as status
+use Rattle.desk_http_head.specs.declared.status.Status.{Status}
+use Rattle.desk_http_head.specs.declared.status.Status.TheVariants as status
 use Rattle.desk_model.specs.Numbers.{refusal_number}
 use Rattle.desk_model.specs.declared.command.Answer.TheVariants.{Refused}
 use Rattle.desk_model.specs.declared.command.Fault.TheVariants.{Memory, Store}

@@ -1,12 +1,12 @@
 -- The bytes of a reply (RFC 9112, section 4).
 use Rattle.std.specs.Prelude.{◌≡◌, ℕ, ◌⊎◌, List, ◌++◌, length, codes, true, false}
 use Rattle.std.specs.Fmt.{decimal}
-use Rattle.desk_http.specs.Statuses.{status_line}
-use Rattle.desk_http.specs.declared.status.Status.{Status}
-use Rattle.desk_http.specs.declared.status.Status.TheVariants as status
+use Rattle.desk_http_head.specs.Statuses.{status_line}
+use Rattle.desk_http_head.specs.declared.status.Status.{Status}
+use Rattle.desk_http_head.specs.declared.status.Status.TheVariants as status
 use Rattle.desk_http.specs.OutcomeStatuses.{outcome_status}
 use Rattle.desk_http.specs.declared.asking.Reply.{Reply}
-use Rattle.desk_http.specs.declared.asking.Reply.TheVariants.{Became, Bad, NoRoute, BadCommand, NotText, Memory}
+use Rattle.desk_http.specs.declared.asking.Reply.TheVariants.{Became, Bad, NoRoute, BadCommand, NotText, Memory, Elsewhere}
 use Rattle.desk_http.specs.declared.asking.Shape.{Shape}
 use Rattle.desk_http.specs.declared.asking.Shape.TheVariants.{Json, Notices, Csv}
 use Rattle.desk_http.specs.declared.replies.Message.{Message}
@@ -71,11 +71,19 @@ no_text = (status.ServiceUnavailable, json (codes "{\"fault\":\"reply\"}"))
 abbrev pub no_store : Told
 no_store = (status.InternalServerError, json (compact_text (fault_reply (codes "store"))))
 
--- What is written for a reply. If no memory is left for its text, then `no_memory` after a GET or
--- if the desk wasn't asked, and else `no_text`, because its command may have been applied.
+-- a browser made the request for a page of elsewhere
+abbrev pub from_elsewhere : Told
+from_elsewhere = (status.Forbidden, json (codes "{\"fault\":\"origin\"}"))
+
+-- What is written for a reply. A failure of the desk has a reply that needs no memory. If none is
+-- left for the text of another, then `no_memory` after a GET or if the desk wasn't asked, and else
+-- `no_text`, because its command may have been applied.
 abbrev pub IsTold : Reply → Told → Type 0
-IsTold (Became outcome shape true) told = (told ≡ told_of outcome shape) ⊎ (told ≡ no_memory)
-IsTold (Became outcome shape false) told = (told ≡ told_of outcome shape) ⊎ (told ≡ no_text)
+IsTold (Became (Failed f) shape get) told = told ≡ told_of (Failed f) Json
+IsTold (Became (Answered answer) shape true) told = (told ≡ told_of (Answered answer) shape)
+    ⊎ (told ≡ no_memory)
+IsTold (Became (Answered answer) shape false) told = (told ≡ told_of (Answered answer) shape)
+    ⊎ (told ≡ no_text)
 IsTold (Bad status) told = (told ≡ (status, json (codes "{\"fault\":\"request\"}")))
     ⊎ (told ≡ no_memory)
 IsTold NoRoute told = (told ≡ (status.NotFound, json (codes "{\"fault\":\"route\"}")))
@@ -83,6 +91,7 @@ IsTold NoRoute told = (told ≡ (status.NotFound, json (codes "{\"fault\":\"rout
 IsTold BadCommand told = (told ≡ (status.BadRequest, json bad_command_text)) ⊎ (told ≡ no_memory)
 IsTold NotText told = (told ≡ told_of not_toml Json) ⊎ (told ≡ no_memory)
 IsTold Memory told = told ≡ no_memory
+IsTold Elsewhere told = told ≡ from_elsewhere
 
 -- the message for this reply
 abbrev pub IsMessage : Told → Message → Type 0
@@ -91,3 +100,4 @@ IsMessage told (message.Made status front rest) = (told.0 ≡ status)
 IsMessage told message.NoMemory = told ≡ no_memory
 IsMessage told message.NoText = told ≡ no_text
 IsMessage told message.NoStore = told ≡ no_store
+IsMessage told message.FromElsewhere = told ≡ from_elsewhere

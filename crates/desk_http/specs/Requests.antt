@@ -2,8 +2,8 @@
 use Rattle.std.specs.Prelude.{◌≡◌, ℕ, List, if◌then◌else◌, Option, Some, None, option_map, unwrap_or}
 use Rattle.std.specs.Str.{is_utf8}
 use Rattle.desk_base.specs.declared.profile.Profile.TheVariants.{Capitals}
-use Rattle.desk_http.specs.Fields.{number_text}
-use Rattle.desk_http.specs.Framings.{Framed, part, bad, whole}
+use Rattle.desk_http_head.specs.Fields.{number_text}
+use Rattle.desk_http_head.specs.Framings.{Framed, part, bad, whole}
 use Rattle.desk_http.specs.Paths.{path_of, part_at}
 use Rattle.desk_http.specs.Routes.{route_of}
 use Rattle.desk_http.specs.declared.table.Posted.{Posted}

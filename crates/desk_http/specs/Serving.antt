@@ -1,9 +1,10 @@
 -- The reply to a connection.
-use Rattle.std.specs.Prelude.{◌≡◌, ℕ, Bool, ◌<◌, ◌≤◌, List, length, codes, Option}
+use Rattle.std.specs.Prelude.{◌≡◌, ℕ, Bool, ◌<◌, ◌≤◌, List, length, codes, Option, Some, None}
 use Rattle.std.specs.Str.{bytes_eq}
 use Rattle.std.specs.Io.KnownBytes.{Appends, Consumes, Keeps}
-use Rattle.desk_http.specs.Framings.{Asked, refused, asked, IsAsked}
+use Rattle.desk_http_head.specs.Framings.{Asked, refused, asked, IsAsked}
 use Rattle.desk_http.specs.Limits as most
+use Rattle.desk_http_head.specs.Origins.{IsFromElsewhere}
 use Rattle.desk_script.specs.Script.{AreLeft}
 use Rattle.desk_script.specs.Losses.{AppendsFront}
 use Rattle.desk_http.specs.declared.receiving.ServeFault.{ServeFault}
@@ -38,6 +39,11 @@ Wants (wanted.Bad status) (refused given) = status ≡ given
 Wants wanted.Memory asks = Unit {0}
 Wants _ _ = ⊥
 
+-- bytes that are barred from a desk at a port: a browser sent them for a page of elsewhere
+abbrev pub IsBarred : Option ℕ → List ℕ → Type 0
+IsBarred None bytes = ⊥
+IsBarred (Some port) bytes = IsFromElsewhere port bytes
+
 module _ (is_right : Readings → Type 0) (tells : StoreFault → Type 0) {Left Desk : Type 0}
     (stands : Left → Tables → Type 0) (seen : Desk → Seen Left) where
   -- A request gets this reply, and leads from one desk to the other: a command or a query does so
@@ -56,40 +62,45 @@ module _ (is_right : Readings → Type 0) (tells : StoreFault → Type 0) {Left 
   Answers get before _ _ after = ⊥
 
   -- The reply to these bytes, and the desk after it. If no memory was left before the request was
-  -- known, it isn't applied.
-  abbrev pub IsReply : Desk → List ℕ → Reply → Desk → Type 0
-  IsReply before bytes reply.Memory after = after ≡ before
-  IsReply before bytes (reply.Bad status) after = IsAsked bytes (refused status) × (after ≡ before)
-  IsReply before bytes r after =
-      (method : List ℕ) × (target : List ℕ) × (body : List ℕ)
+  -- known, it isn't applied; nor is one that is barred from a desk at this port, if there is one.
+  abbrev pub IsReply : Option ℕ → Desk → List ℕ → Reply → Desk → Type 0
+  IsReply port before bytes reply.Memory after = after ≡ before
+  IsReply port before bytes reply.Elsewhere after = IsBarred port bytes × (after ≡ before)
+  IsReply port before bytes (reply.Bad status) after =
+      (¬ (IsBarred port bytes)) × IsAsked bytes (refused status) × (after ≡ before)
+  IsReply port before bytes r after =
+      (¬ (IsBarred port bytes))
+      × (method : List ℕ) × (target : List ℕ) × (body : List ℕ)
       × IsAsked bytes (asked method target body)
       × Answers (is_get method) before r (request_for method target body) after
 
   -- the reply that the bytes of a connection get
-  pub record IsAnswered (before : Desk) (bytes : List ℕ) (told : Told) (after : Desk) : Type 0 where
+  pub record IsAnswered (port : Option ℕ) (before : Desk) (bytes : List ℕ) (told : Told)
+      (after : Desk) : Type 0 where
     pub some : 0 < length bytes
     pub reply : Reply
-    pub is_reply : IsReply before bytes reply after
+    pub is_reply : IsReply port before bytes reply after
     pub is_told : IsTold reply told
 
   -- a connection that was served: its reply was written, with this status, or nothing if no byte
   -- came
-  abbrev pub IsServed : Desk → List ℕ → Desk → Option (List ℕ) → Option (List ℕ) → Served → Type 0
-  IsServed before bytes after old new (Replied status) =
-      (told : Told) × IsAnswered before bytes told after × (status ≡ told.0)
+  abbrev pub IsServed : Option ℕ → Desk → List ℕ → Desk → Option (List ℕ) → Option (List ℕ)
+      → Served → Type 0
+  IsServed port before bytes after old new (Replied status) =
+      (told : Told) × IsAnswered port before bytes told after × (status ≡ told.0)
       × Appends old new (reply_bytes told)
-  IsServed before bytes after old new Nothing = (length bytes ≡ 0) × (after ≡ before)
+  IsServed port before bytes after old new Nothing = (length bytes ≡ 0) × (after ≡ before)
       × Keeps old new
 
   -- A connection that wasn't. After a fault of the reader nothing was written, and the desk is as
   -- it was; a reader that was asked too often gave at least one byte each time. After a fault of
   -- the writer a prefix of the reply was written, and what was done stays done.
-  abbrev pub IsStopped : Option (List ℕ) → Option (List ℕ) → Desk → Desk → Option (List ℕ)
-      → Option (List ℕ) → ServeFault → Type 0
-  IsStopped from to before after old new fault.Write =
-      (bytes : List ℕ) × (told : Told) × AreLeft from bytes × IsAnswered before bytes told after
-      × AppendsFront old new (reply_bytes told)
-  IsStopped from to before after old new fault.Read = (after ≡ before) × Keeps old new
-  IsStopped from to before after old new fault.Turns =
+  abbrev pub IsStopped : Option ℕ → Option (List ℕ) → Option (List ℕ) → Desk → Desk
+      → Option (List ℕ) → Option (List ℕ) → ServeFault → Type 0
+  IsStopped port from to before after old new fault.Write =
+      (bytes : List ℕ) × (told : Told) × AreLeft from bytes
+      × IsAnswered port before bytes told after × AppendsFront old new (reply_bytes told)
+  IsStopped port from to before after old new fault.Read = (after ≡ before) × Keeps old new
+  IsStopped port from to before after old new fault.Turns =
       (after ≡ before) × Keeps old new
       × ((bytes : List ℕ) × Consumes from to bytes × (most.reads ≤ length bytes))

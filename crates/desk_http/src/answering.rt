@@ -1,17 +1,16 @@
 //! Answers the request that bytes make.
 
-ghost use Rattle.std.specs.Prelude.{◌≡◌, ◌<◌, List, ℕ, length, MatchOption};
-ghost use Rattle.desk_http.specs.Framings.{Framed, IsFraming, closed, IsAsked, Asked};
+ghost use Rattle.std.specs.Prelude.{◌≡◌, ◌<◌, List, ℕ, Some, None, length, MatchBool, MatchOption};
+ghost use Rattle.desk_http_head.specs.Framings.{Framed, IsFraming, closed, IsAsked, Asked};
 ghost use Rattle.desk_http.specs.Receiving.{IsReceived};
-ghost use Rattle.desk_http.specs.Serving.{Wants, Answers, IsReply, is_get};
+ghost use Rattle.desk_http.specs.Serving.{Wants, Answers, IsBarred, IsReply, is_get};
 
 use crate::asking::{Reply, Request, Shape};
-use crate::framing::{Framing, frame};
 use crate::reading::request_of;
 use crate::receiving::Received;
-use crate::status::Status;
 use crate::table::RouteTable;
 use desk_core::desk::Desk;
+use desk_http_head::{Framing, Status, frame, is_from_elsewhere};
 use desk_script::{command_outcome, question_outcome};
 use std::alloc::Global;
 
@@ -67,7 +66,7 @@ fn reply_to<D: Desk>(desk: &mut D, request: Request, is_get: bool) -> Reply
 /// The reply to what is wanted.
 fn reply_for<D: Desk>(desk: &mut D, wanted: Wanted) -> Reply
     ensures { (bytes : List ℕ) (asks : Asked) → IsAsked bytes asks → Wants wanted asks
-        → IsReply D.are_right D.tells D.stands D.seen desk.old bytes result desk.new }
+        → IsReply D.are_right D.tells D.stands D.seen None desk.old bytes result desk.new }
 {
     match wanted {
         Wanted::Request(request, is_get) => reply_to(desk, request, is_get),
@@ -76,26 +75,53 @@ fn reply_for<D: Desk>(desk: &mut D, wanted: Wanted) -> Reply
     }
 }
 
-/// The reply to what was received, if any byte was. The bytes are dropped before the desk answers,
-/// so that it can use their memory.
+/// The reply to bytes. They are dropped before the desk answers, so that it can use their memory.
+fn answer_bytes<D: Desk>(
+    alloc: Global,
+    routes: &mut RouteTable,
+    desk: &mut D,
+    bytes: Vec<u8>,
+) -> Reply
+    ensures { (all : List ℕ) → ((f : Framed) → IsFraming bytes.items f → IsAsked all (closed f))
+        → IsReply D.are_right D.tells D.stands D.seen None desk.old all result desk.new }
+{
+    let wanted = wanted_by(alloc, routes, bytes.as_slice());
+    drop(bytes);
+    reply_for(desk, wanted)
+}
+
+/// Whether bytes are barred from a desk at a port: a browser sent them for a page of elsewhere.
+fn is_barred(port: Option<u16>, bytes: &[u8]) -> bool
+    ensures { MatchBool result (IsBarred port bytes.now) (¬ (IsBarred port bytes.now)) }
+{
+    match port {
+        Some(port) => is_from_elsewhere(bytes, port),
+        None => false,
+    }
+}
+
+/// The reply to what was received, if any byte was. What is barred doesn't reach the desk.
 pub fn answer<D: Desk>(
     alloc: Global,
     routes: &mut RouteTable,
+    port: Option<u16>,
     desk: &mut D,
     received: Received,
 ) -> Option<Reply>
     ensures { (bytes : List ℕ) → IsReceived bytes received → MatchOption result
         ((length bytes ≡ 0) × (desk.new ≡ desk.old))
         (λ reply. (0 < length bytes)
-        × IsReply D.are_right D.tells D.stands D.seen desk.old bytes reply desk.new) }
+        × IsReply D.are_right D.tells D.stands D.seen port desk.old bytes reply desk.new) }
 {
     match received {
         Received::Nothing => None,
         Received::Memory => Some(Reply::Memory),
         Received::Bytes(bytes) => {
-            let wanted = wanted_by(alloc, routes, bytes.as_slice());
-            drop(bytes);
-            Some(reply_for(desk, wanted))
+            if is_barred(port, bytes.as_slice()) {
+                drop(bytes);
+                return Some(Reply::Elsewhere);
+            }
+            Some(answer_bytes(alloc, routes, desk, bytes))
         }
     }
 }

@@ -1,6 +1,6 @@
 //! What a client asks for over HTTP, and the reply that it gets.
 
-use crate::status::Status;
+use desk_http_head::Status;
 use desk_model::{Command, Outcome, Query};
 
 /// The form in which an answer is written.
@@ -55,4 +55,6 @@ pub enum Reply {
     NotText,
     /// No memory was left for it.
     Memory,
+    /// A browser made it for a page of elsewhere.
+    Elsewhere,
 }

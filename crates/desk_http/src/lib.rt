@@ -1,10 +1,7 @@
 //! The desk over HTTP (RFC 9110, RFC 9112): bytes in, bytes out, one request for each connection.
 //!
-//! - `frame` says what the bytes that came so far begin with: a request, something that is refused
-//!   with a status, or part of a request. What it reads is defined over the grammar of `httparse`
-//!   (`specs/Framings.antt`) and, once it is settled, doesn't change when more bytes come.
-//! - `receive` reads from a reader until that is settled, whatever pieces the bytes come in, and no
-//!   further. It looks at the bytes again only if that can change something, so many small pieces
+//! - `receive` reads from a reader until it is settled what the bytes begin with (`frame` of
+//!   `desk_http_head`), whatever pieces they come in, and no further. It looks at the bytes again only if that can change something, so many small pieces
 //!   cost no more than their number. `send` writes bytes; if it fails, it wrote a prefix of them.
 //! - `RouteTable` is the table of routes, one row for each: its method, its pattern and what it
 //!   asks for. `RouteTable::route_of` looks up a method and a path with `matchit`, without percent
@@ -20,11 +17,12 @@
 //!   for the text of a reply, and that the store failed.
 //! - `serve_one` reads a request, has the desk answer it and writes the reply
 //!   (`specs/Serving.antt`). What it replies depends on the bytes, not on how they were cut.
-//!   Nothing is written if no byte came. `serve_with` does the same for one of many connections,
-//!   which share the table of routes.
+//!   Nothing is written if no byte came.
+//! - `serve_at` does the same for one of many connections to a port, which share the table of
+//!   routes. A request that a browser made for a page of elsewhere gets a reply of its own, 403, and
+//!   reaches nothing of the desk.
 //!
-//! A head is limited to 16,384 bytes and 64 fields, a body to 8 MiB, a connection to 1,048,576
-//! reads (`limits`). A body with a transfer coding is refused with 501, and `Expect` is ignored.
+//! `Expect` is ignored.
 //!
 //! `read_command`, `reply_line` and `script` handle the same requests and replies as lines.
 #![tactic(auto)]
@@ -32,8 +30,6 @@
 mod answering;
 mod asking;
 mod connections;
-mod fields;
-mod framing;
 pub mod limits;
 mod paths;
 mod reading;
@@ -41,22 +37,21 @@ mod receiving;
 mod replies;
 mod sending;
 mod serving;
-mod status;
 mod statuses;
 mod table;
 
 pub use asking::{Reading, Reply, Request, Shape};
 pub use connections::connections_are_lines;
+pub use desk_http_head::{
+    Awaited, BodyLength, Framing, Status, frame, is_from_elsewhere, number_of,
+};
 pub use desk_json::{read_command, reply_line};
 pub use desk_script::script;
-pub use fields::{BodyLength, number_of};
-pub use framing::{Awaited, Framing, frame};
 pub use paths::{part_at, path_of};
 pub use reading::{request, request_of};
 pub use receiving::{Received, ServeFault, receive};
-pub use replies::{Message, message_of, no_memory, no_store, no_text};
+pub use replies::{Message, from_elsewhere, message_of, no_memory, no_store, no_text, reply};
 pub use sending::send;
-pub use serving::{Served, serve_one, serve_with};
-pub use status::Status;
+pub use serving::{Served, serve_at, serve_one};
 pub use statuses::status_of;
 pub use table::{Posted, Route, RouteTable, Shown};

@@ -1,14 +1,10 @@
-//! The limits of a request, each in one place. The definitions have their own
+//! The limits of a connection, each in one place. The definitions have their own
 //! (`specs/Limits.antt`), so a limit that is changed only here is refused.
 
-/// How many bytes a head may have, including its last line end.
-pub const HEAD_BYTES: usize = 16_384;
-
-/// How many fields a head may have.
-pub const HEAD_FIELDS: usize = 64;
-
-/// How many bytes a body may have.
-pub const BODY_BYTES: u64 = 8_388_608;
+pub use desk_http_head::limits::{BODY_BYTES, HEAD_BYTES, HEAD_FIELDS};
 
 /// How many times at most a reader is asked for bytes.
 pub const READS: u32 = 1_048_576;
+
+/// How many bytes at most it is asked for each time.
+pub const PIECE_BYTES: usize = 16_384;

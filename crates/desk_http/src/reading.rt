@@ -2,17 +2,16 @@
 
 ghost use Rattle.std.specs.Prelude.{◌≡◌, ℕ, true, false, IfOk, MatchOption};
 ghost use Rattle.std.specs.Str.{is_utf8};
-ghost use Rattle.desk_http.specs.Fields.{number_text};
-ghost use Rattle.desk_http.specs.Framings.{Framed, IsFraming};
+ghost use Rattle.desk_http_head.specs.Fields.{number_text};
+ghost use Rattle.desk_http_head.specs.Framings.{Framed, IsFraming};
 ghost use Rattle.desk_http.specs.Routes.{desk_routes, route_of};
 ghost use Rattle.desk_http.specs.Paths.{part_at, path_of};
 ghost use Rattle.desk_http.specs.Requests.{of_line, posted_request, shown_request, route_request, request_for, Shows};
 
 use crate::asking::{Reading, Request, Shape};
-use crate::fields::number_of;
-use crate::framing::{Framing, frame};
 use crate::{Posted, Route, RouteTable, Shown, part_at, path_of};
 use desk_base::{Items, Profile, Text};
+use desk_http_head::{Framing, frame, number_of};
 use desk_json::read_command;
 use desk_model::{Command, Query};
 use std::alloc::{AllocError, Global};

@@ -3,20 +3,17 @@
 ghost use Rattle.std.specs.Prelude.{◌≡◌, ◌≢◌, ◌++◌, List, ℕ, All, length, false, IfOk, IfErr, MatchOption};
 ghost use Rattle.std.specs.Io.KnownBytes.{Consumes};
 ghost use Rattle.std.specs.List.{list_all};
-ghost use Rattle.desk_http.specs.Heads.{is_line_byte};
-ghost use Rattle.desk_http.specs.Framings.{IsAwaited};
+ghost use Rattle.desk_http_head.specs.Heads.{is_line_byte};
+ghost use Rattle.desk_http_head.specs.Framings.{IsAwaited};
 ghost use Rattle.desk_http.specs.Receiving.{IsSettled, IsReceived, IsPrompt, IsOfReader, IsUndue};
 ghost use Rattle.desk_script.specs.Script.{AreLeft};
 
-use crate::framing::{Awaited, Framing, frame};
-use crate::limits::{HEAD_BYTES, READS};
+use crate::limits::{HEAD_BYTES, PIECE_BYTES, READS};
+use desk_http_head::{Awaited, Framing, frame};
 use memchr::memchr;
 use std::alloc::Global;
 use std::io::Read;
 use thiserror::Error;
-
-/// How many bytes are read at once, at most.
-const PIECE_BYTES: usize = 16_384;
 
 /// Why a connection got no reply, or not all of it.
 #[derive(Clone, Copy, Debug, Drop, PartialEq, Eq, Error)]

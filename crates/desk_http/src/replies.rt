@@ -2,12 +2,12 @@
 
 ghost use Rattle.std.specs.Prelude.{◌≡◌, ◌⊎◌, ◌++◌, true, false, IfOk, codes, string_bytes, if◌then◌else◌};
 ghost use Rattle.desk_json.specs.Replies.{reply_text, bad_command_text};
-ghost use Rattle.desk_http.specs.Replies.{Told, IsTold, IsMessage, head_bytes, reply_bytes, json, content_of, told_of, not_toml, no_memory, no_text, no_store};
+ghost use Rattle.desk_http.specs.Replies.{Told, IsTold, IsMessage, head_bytes, reply_bytes, json, content_of, told_of, not_toml, no_memory, no_text, no_store, from_elsewhere};
 ghost use Rattle.desk_http.specs.declared.asking.Reply.TheVariants.{Became};
 
 use crate::asking::{Reply, Shape};
-use crate::status::Status;
 use crate::statuses::status_of;
+use desk_http_head::Status;
 use desk_json::{bad_command_line, reply_line};
 use desk_model::{Answer, Fault, Outcome};
 use desk_report::{duties_csv, notices};
@@ -20,6 +20,7 @@ pub enum Message {
     NoMemory,
     NoText,
     NoStore,
+    FromElsewhere,
 }
 
 /// How an outcome is written.
@@ -107,8 +108,17 @@ fn content_of(alloc: Global, outcome: &Outcome, shape: Shape) -> Result<Content,
     Ok(Content { media_type, body })
 }
 
+/// The bytes of the reply to an outcome that is written in a shape. Refusals and faults are JSON in
+/// each shape, and so is an answer that has no other.
+pub fn reply(alloc: Global, outcome: &Outcome, shape: Shape) -> Result<Vec<u8>, AllocError>
+    ensures { IfOk result (λ bytes. bytes.items ≡ reply_bytes (told_of outcome.now shape)) }
+{
+    let Content { media_type, body } = content_of(alloc, outcome, shape)?;
+    reply_with(alloc, status_of(outcome), media_type, body.as_slice())
+}
+
 /// The reply to an outcome that is written in a shape, in two parts.
-fn reply(alloc: Global, outcome: &Outcome, shape: Shape) -> Result<Parts, AllocError>
+fn reply_parts(alloc: Global, outcome: &Outcome, shape: Shape) -> Result<Parts, AllocError>
     ensures { IfOk result (λ parts. parts.front.items ++ parts.rest.items
         ≡ reply_bytes (told_of outcome.now shape)) }
 {
@@ -135,6 +145,13 @@ pub fn no_store() -> &'static str
     ensures { result.now ≡ reply_bytes no_store }
 {
     "HTTP/1.1 500 Internal Server Error\r\nContent-Type: application/json\r\nContent-Length: 17\r\nConnection: close\r\n\r\n{\"fault\":\"store\"}"
+}
+
+/// The reply to a request that a browser made for a page of elsewhere.
+pub fn from_elsewhere() -> &'static str
+    ensures { result.now ≡ reply_bytes from_elsewhere }
+{
+    "HTTP/1.1 403 Forbidden\r\nContent-Type: application/json\r\nContent-Length: 18\r\nConnection: close\r\n\r\n{\"fault\":\"origin\"}"
 }
 
 /// The line of JSON for a catalogue that isn't UTF-8.
@@ -174,7 +191,7 @@ fn outcome_message(alloc: Global, outcome: &Outcome, shape: Shape, is_get: bool)
     match outcome {
         Outcome::Failed(Fault::Memory) => Message::NoMemory,
         Outcome::Failed(Fault::Store(_)) => Message::NoStore,
-        Outcome::Answered(_) => match reply(alloc, outcome, shape) {
+        Outcome::Answered(_) => match reply_parts(alloc, outcome, shape) {
             Ok(parts) => Message::Made(status_of(outcome), parts.front, parts.rest),
             Err(_) => short_message(is_get),
         },
@@ -192,5 +209,6 @@ pub fn message_of(alloc: Global, reply: &Reply) -> Message
         Reply::BadCommand => unasked_reply(alloc, Status::BadRequest, bad_command_line()),
         Reply::NotText => unasked_reply(alloc, Status::UnprocessableContent, not_toml_line()),
         Reply::Memory => Message::NoMemory,
+        Reply::Elsewhere => Message::FromElsewhere,
     }
 }

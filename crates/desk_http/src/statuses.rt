@@ -3,7 +3,7 @@
 ghost use Rattle.std.specs.Prelude.{◌≡◌};
 ghost use Rattle.desk_http.specs.OutcomeStatuses.{is_absent, is_conflict, refusal_status, outcome_status};
 
-use crate::status::Status;
+use desk_http_head::Status;
 use desk_model::{Answer, Fault, Outcome};
 
 /// Whether a refusal with this number says that a document, package, release or duty doesn't exist.

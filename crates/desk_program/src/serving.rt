@@ -2,7 +2,7 @@
 //! doesn't keep the next one waiting for ever.
 
 use desk_core::Desk;
-use desk_http::{RouteTable, ServeFault, serve_with};
+use desk_http::{RouteTable, ServeFault, serve_at};
 use desk_subcommands::{Failure, PortTrouble};
 use std::alloc::Global;
 use std::io::{self, Read, Write};
@@ -75,7 +75,7 @@ fn port_trouble(error: &io::Error) -> PortTrouble {
 }
 
 // Listens on a port of 127.0.0.1, or on a free one if it is 0, and says on which.
-fn listening(rt: &HostRuntime, port: u16) -> Result<TcpListener, Failure> {
+fn listening(rt: &HostRuntime, port: u16) -> Result<(TcpListener, u16), Failure> {
     let listener = match TcpListener::bind(rt, (Ipv4Addr::LOCALHOST, port)) {
         Ok(listener) => listener,
         Err(error) => return Err(Failure::Listen(port, port_trouble(&error))),
@@ -83,7 +83,7 @@ fn listening(rt: &HostRuntime, port: u16) -> Result<TcpListener, Failure> {
     let bound = listener.local_addr()?.port();
     println!(rt; "listening on 127.0.0.1:{bound}")?;
     io::writer(rt).flush()?;
-    Ok(listener)
+    Ok((listener, bound))
 }
 
 // Serves the request of one connection, and returns whether that was done.
@@ -91,11 +91,12 @@ fn serve_stream<D: Desk>(
     rt: &HostRuntime,
     alloc: Global,
     routes: &mut RouteTable,
+    port: u16,
     desk: &mut D,
     stream: &TcpStream,
 ) -> Result<(), ServeFault> {
     let (mut reader, mut writer) = (Timed::over(rt, stream), Timed::over(rt, stream));
-    serve_with(alloc, routes, desk, &mut reader, &mut writer)?;
+    serve_at(alloc, routes, port, desk, &mut reader, &mut writer)?;
     Ok(())
 }
 
@@ -107,12 +108,12 @@ pub fn serve<D: Desk>(
     port: u16,
     limit: u32,
 ) -> Result<u8, Failure> {
-    let listener = listening(rt, port)?;
+    let (listener, port) = listening(rt, port)?;
     let mut routes = RouteTable::new();
     let mut failed = 0u64;
     for _ in 0..limit {
         let done = match listener.accept() {
-            Ok((stream, _)) => serve_stream(rt, alloc, &mut routes, desk, &stream),
+            Ok((stream, _)) => serve_stream(rt, alloc, &mut routes, port, desk, &stream),
             Err(_) => Err(ServeFault::Read),
         };
         if let Err(fault) = done {

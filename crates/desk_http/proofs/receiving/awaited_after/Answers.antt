@@ -1,9 +1,9 @@
 use Rattle.std.proofs.Common.{◌≡◌, ◌∙◌, ℕ, List, ap, sym}
 use Rattle.std.specs.Prelude.{◌≢◌}
-use Rattle.desk_http.specs.Framings.{bad, framed, part, whole}
-use Rattle.desk_http.specs.declared.framing.Framing.{Framing}
-use Rattle.desk_http.specs.declared.status.Status.{Status}
-use Rattle.desk_http.proofs.Settled.{IsAsked-of, IsAwaited-undue}
+use Rattle.desk_http_head.specs.Framings.{bad, framed, part, whole}
+use Rattle.desk_http_head.specs.declared.framing.Framing.{Framing}
+use Rattle.desk_http_head.specs.declared.status.Status.{Status}
+use Rattle.desk_http.proofs.Settled.{IsAsked-of, IsAwaited-undue, HasHeadOf-settled}
 use Rattle.desk_http.proofs.receiving.awaited_after.Goals as goal
 
 bad_is_whole : (status : Status) → bad status ≢ part
@@ -21,11 +21,17 @@ returns-then-not-is_due c = λ front e x.
     (c.is_due.ensures c.if-not-is_due.true) x
 
 pub returns-in-Bad : goal.returns-in-Bad
-returns-in-Bad c = λ front e x more s y.
-    IsAsked-of c.args.bytes.now more (framed c.frame.result) s c.frame.ensures.reading
-    (apart c.frame.result _ c.in-Bad.is (bad_is_whole _)) y
+returns-in-Bad c = λ front e x more. (
+  λ s y. IsAsked-of c.args.bytes.now more (framed c.frame.result) s c.frame.ensures.reading
+      (apart c.frame.result _ c.in-Bad.is (bad_is_whole _)) y,
+  HasHeadOf-settled c.args.bytes.now more (framed c.frame.result) c.frame.ensures.reading
+      (apart c.frame.result _ c.in-Bad.is (bad_is_whole _)),
+)
 
 pub returns-in-Whole : goal.returns-in-Whole
-returns-in-Whole c = λ front e x more s y.
-    IsAsked-of c.args.bytes.now more (framed c.frame.result) s c.frame.ensures.reading
-    (apart c.frame.result _ c.in-Whole.is (whole_is_whole _ _ _ _)) y
+returns-in-Whole c = λ front e x more. (
+  λ s y. IsAsked-of c.args.bytes.now more (framed c.frame.result) s c.frame.ensures.reading
+      (apart c.frame.result _ c.in-Whole.is (whole_is_whole _ _ _ _)) y,
+  HasHeadOf-settled c.args.bytes.now more (framed c.frame.result) c.frame.ensures.reading
+      (apart c.frame.result _ c.in-Whole.is (whole_is_whole _ _ _ _)),
+)

@@ -3,9 +3,9 @@ use Rattle.std.proofs.Common.{◌∙◌, arith, length-append}
 use Rattle.std.specs.Io.KnownBytes.{Consumes}
 use Rattle.std.proofs.KnownBytes.{Consumes-kept, Consumes-nil, Consumes-trans}
 use Rattle.std.proofs.lemmas.List.{length-take}
-use Rattle.desk_http.specs.Framings.{IsAwaited, IsFraming}
-use Rattle.desk_http.specs.declared.framing.Awaited.TheVariants.{Start}
-use Rattle.desk_http.specs.Receiving.{IsSettled}
+use Rattle.desk_http_head.specs.Framings.{IsAwaited, IsFraming}
+use Rattle.desk_http_head.specs.declared.framing.Awaited.TheVariants.{Start}
+use Rattle.desk_http.specs.Receiving.{IsSettled, HasHeadOf}
 use Rattle.desk_script.specs.Script.{AreLeft}
 use Rattle.desk_script.proofs.Progress.{AreLeft-front}
 use Rattle.desk_http.proofs.Settled.{IsAwaited-nil, IsPrompt-still, IsPrompt-taken}
@@ -101,7 +101,8 @@ returns-in-None-clause-ok g c =
       left.1,
       (
         omega (arith, left.2, left.3),
-        λ s reading. settled left.0 s (subst (λ (l : List ℕ). IsFraming l s) items reading),
+        λ s reading. (settled left.0).0 s (subst (λ (l : List ℕ). IsFraming l s) items reading),
+        subst (λ (l : List ℕ). HasHeadOf l (bytes ++ left.0)) (sym items) (settled left.0).1,
       ),
     )
 

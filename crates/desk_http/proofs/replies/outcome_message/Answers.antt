@@ -7,5 +7,5 @@ pub returns-in-Err : goal.returns-in-Err
 returns-in-Err c = (
   if c.args.is_get then no_memory else no_text,
   c.short_message.ensures,
-  IsTold-short c.args.outcome.now c.args.shape c.args.is_get,
+  IsTold-short c.args.outcome.now _ c.args.shape c.args.is_get c.in-Answered.is,
 )

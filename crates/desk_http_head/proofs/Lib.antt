@@ -1,0 +1,4 @@
+pub mod Stability
+pub mod Found
+pub mod Any
+pub mod Elsewhere
