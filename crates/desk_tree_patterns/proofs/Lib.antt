@@ -6,4 +6,5 @@ pub mod RowLemmas
 pub mod PlaceLemmas
 pub mod Jumps
 pub mod GlobOnce
+pub mod Slashes
 pub mod PartLemmas

@@ -1,7 +1,9 @@
 //! Patterns of paths (REUSE Specification 3.3, "REUSE.toml", `path`).
 
-ghost use Rattle.std.specs.Prelude.{◌≡◌, ◌↔◌, ◌<◌, ℕ, List, length, IsTrue, IfSome, IfNone, IfOk};
+ghost use Rattle.std.specs.Prelude.{◌≡◌, ◌≢◌, ◌↔◌, ◌<◌, ◌==◌, ℕ, List, length, All, IsTrue, IfSome, IfNone, IfOk};
+ghost use Rattle.std.specs.List.{count_by};
 ghost use Rattle.desk_tree_patterns.specs.declared.glob.Piece.{Piece};
+ghost use Rattle.desk_tree_patterns.specs.declared.glob.Piece.TheVariants.{InPath};
 ghost use Rattle.desk_tree_patterns.specs.Glob.{IsMatch, Begins, Spells};
 
 use crate::matching::{matches, matches_soon};
@@ -139,4 +141,12 @@ pub fn one_glob()
 /// Each text is a pattern.
 pub fn each_text_is_a_glob()
     ensures { (pattern : List ℕ) → (pieces : List Piece) × Spells pattern pieces }
+{}
+
+/// A `*` never takes a `/`: a path that a pattern without `**` matches has as many of them as the
+/// pattern.
+pub fn stars_take_no_slash()
+    ensures { (pattern path : List ℕ) (pieces : List Piece) → Spells pattern pieces
+        → All (λ p. p ≢ InPath) pieces → IsMatch pieces path
+        → count_by (λ b. b == 47) path ≡ count_by (λ b. b == 47) pattern }
 {}
