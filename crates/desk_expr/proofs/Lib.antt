@@ -12,3 +12,5 @@ pub mod Lexes
 pub mod WordKinds
 pub mod Prints
 pub mod FaultLemmas
+pub mod PartLemmas
+pub mod Groups

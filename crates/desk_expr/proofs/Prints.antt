@@ -43,7 +43,7 @@ between w s h = lexes_then (32 ∷ []) (w ++ 32 ∷ []) [] (s ∷ []) lexes_blan
 run_of : (w : List ℕ) (s : Symbol) → IsWord w s → LexesAlone w (s ∷ [])
 run_of w s h = subst (λ t. LexesAlone w (t ∷ [])) h.is (lexes_run w h.some h.run)
 
-lexes_and : Lexes (codes " AND ") (and_word ∷ [])
+pub lexes_and : Lexes (codes " AND ") (and_word ∷ [])
 lexes_and = between (codes "AND") and_word
     (lexes_run (codes "AND") (lit< tt) (all_run (codes "AND") refl))
 
@@ -132,7 +132,7 @@ pub record Prints (text : List ℕ) (P : List Symbol → Type 0) : Type 0 where
   pub lexes : LexesAlone text ss
   pub spells : P ss
 
-prints_group : (text : List ℕ) (es : List Tree) → Prints text (λ ss. OrList ss es)
+pub prints_group : (text : List ℕ) (es : List Tree) → Prints text (λ ss. OrList ss es)
     → Prints (enclosed true text) (λ ss. Operand ss (any_of es))
 prints_group text es p = record {
   ss = opening ∷ p.ss ++ closing ∷ [];
@@ -148,7 +148,7 @@ prints_open : (text : List ℕ) (P : List Symbol → Type 0) → Prints text P
 prints_open text P p = subst (λ l. Prints l P) (sym (append-nil text)) p
 
 -- one part, an operator and more
-prints_more : (first op rest : List ℕ) (ss tt : List Symbol) (s : Symbol) → LexesAlone first ss
+pub prints_more : (first op rest : List ℕ) (ss tt : List Symbol) (s : Symbol) → LexesAlone first ss
     → EndsRuns op → Lexes op (s ∷ []) → LexesAlone rest tt
     → LexesAlone (first ++ (op ++ rest)) (ss ++ s ∷ tt)
 prints_more first op rest ss tt s h ends k l =
@@ -310,7 +310,7 @@ prints_tree (any ts) h =
 
 -- ---- whole texts
 
-whole : (text : List ℕ) (ss : List Symbol) → LexesAlone text ss
+pub whole : (text : List ℕ) (ss : List Symbol) → LexesAlone text ss
     → (ts : List Lexeme) × AreTokens 0 text ts × (symbols ts ≡ ss)
 whole text ss h =
     let all = h 0 [] [] tt (λ k d within. absurd (omega arith)) in

@@ -16,3 +16,4 @@ pub mod TermReading
 pub mod Halting
 pub mod Occurring
 pub mod Printing
+pub mod Listed

@@ -13,6 +13,7 @@
 mod counts;
 mod expr;
 mod fault;
+mod laws;
 mod listing;
 mod printing;
 mod progress;
@@ -24,6 +25,7 @@ mod word;
 pub use desk_base::Profile;
 pub use expr::{Expr, Shape};
 pub use fault::{ParseFault, unless_memory};
+pub use laws::parts_decide;
 pub use listing::terms;
 pub use printing::{print, print_term};
 pub use progress::{parse, parse_in};
