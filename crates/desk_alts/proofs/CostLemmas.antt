@@ -189,7 +189,7 @@ subset_size (x ∷ xs) (y ∷ ys) up up' sub =
       ]
     ]
 
-smaller_first : (few many : List Term) → length few < length many → set_order few many ≡ Less
+pub smaller_first : (few many : List Term) → length few < length many → set_order few many ≡ Less
 smaller_first few many less =
     let smaller : nat_cmp (length few) (length many) ≡ Less = grind (arith, nat_tests) in
     ap (λ (o : Ordering). ordering_then o (slice_cmp term_order few many)) smaller

@@ -39,3 +39,4 @@ pub mod ListingExists
 pub mod FrontWidths
 pub mod Listings
 pub mod CheapestExists
+pub mod SetOrders

@@ -6,15 +6,18 @@
 //! definitions alone: each tree has one list of its distinct terms (`AreTermsOf`) and one list of
 //! its minimal sets (`AreAlternatives`); either it can be listed or it has a fault, never both; and
 //! it has one cheapest set (`IsCheapest`) or none with costs, whatever its terms cost. All of this
-//! is constructive: a function answers each of these questions as the definitions say.
+//! is constructive: a function answers each of these questions as the definitions say. The order of
+//! sets is that of their sizes first, and of sets of one cost the first in this order is chosen.
 
-ghost use Rattle.std.specs.Prelude.{◌≡◌, ◌⊎◌, ℕ, List, Option};
+ghost use Rattle.std.specs.Prelude.{◌≡◌, ◌⊎◌, ◌<◌, ◌∷◌, ◌++◌, ℕ, List, Option, Contains, length};
+ghost use Rattle.std.specs.declared.cmp.Ordering.TheVariants.{Less};
 ghost use Rattle.desk_expr.specs.declared.term.Term.{Term};
-ghost use Rattle.desk_expr.specs.Occurring.{AreTermsOf};
+ghost use Rattle.desk_expr.specs.Meaning.{Holds};
+ghost use Rattle.desk_expr.specs.Occurring.{AreTermsOf, term_order};
 ghost use Rattle.desk_expr.specs.Tree.{Tree};
-ghost use Rattle.desk_alts.specs.Costs.{HasNoCosts, IsCheapest};
+ghost use Rattle.desk_alts.specs.Costs.{HasCosts, HasNoCosts, IsCheapest, set_cost};
 ghost use Rattle.desk_alts.specs.Faults.{IsListable};
-ghost use Rattle.desk_alts.specs.Sets.{AreAlternatives, HasMoreTerms, HasWideFront};
+ghost use Rattle.desk_alts.specs.Sets.{AreAlternatives, HasMoreTerms, HasWideFront, IsTermSet, set_order};
 
 /// Each tree has a list of its distinct terms, in order.
 pub fn terms_exist()
@@ -56,4 +59,20 @@ pub fn one_cheapest()
     ensures { (cost : Term → Option ℕ) (e : Tree) (p q : ℕ) (s r : List Term)
         → IsCheapest cost e p s
         → IsCheapest cost e q r → (p ≡ q) × (s ≡ r) }
+{}
+
+/// A smaller set comes before a larger one, whatever their terms. Of two sets of one size, the one
+/// with the lesser term comes first, at the first place where they differ.
+pub fn sets_sort_by_size_first()
+    ensures size { (few many : List Term) → length few < length many → set_order few many ≡ Less }
+    ensures terms { (front s r : List Term) (t u : Term) → length s ≡ length r
+        → term_order t u ≡ Less → set_order (front ++ (t ∷ s)) (front ++ (u ∷ r)) ≡ Less }
+{}
+
+/// A set that satisfies the tree and costs as little as the cheapest is that set, or comes after it
+/// in the order of sets.
+pub fn cheapest_is_the_first_of_its_cost()
+    ensures { (cost : Term → Option ℕ) (e : Tree) (price : ℕ) (set s : List Term)
+        → IsCheapest cost e price set → IsTermSet s → Holds (Contains s) e → HasCosts cost s
+        → set_cost cost s ≡ price → (set ≡ s) ⊎ (set_order set s ≡ Less) }
 {}
