@@ -2,6 +2,7 @@
 
 ghost use Rattle.std.specs.Prelude.{◌≡◌, ℕ, List, IfOk, map};
 ghost use Rattle.std.specs.List.{concat};
+ghost use Rattle.std.specs.List.Sorted.{IsPermutation};
 ghost use Rattle.sha1.specs.Sha1.{sha1};
 ghost use Rattle.hex.specs.Hex.{encode_lower};
 ghost use Rattle.desk_bom.specs.Codes.{IsCode};
@@ -55,4 +56,10 @@ pub fn verification_code(alloc: Global, digests: &[[u8; 20]]) -> Result<[u8; 40]
 pub fn one_code()
     ensures { (digests : List (List ℕ)) (a b : List ℕ) → IsCode digests a → IsCode digests b
         → a ≡ b }
+{}
+
+/// The code of digests is also their code in any other order.
+pub fn codes_ignore_order()
+    ensures { (digests others : List (List ℕ)) (code : List ℕ) → IsPermutation digests others
+        → IsCode digests code → IsCode others code }
 {}

@@ -9,7 +9,7 @@ mod places;
 mod shipping;
 mod state;
 
-pub use codes::{one_code, verification_code};
+pub use codes::{codes_ignore_order, one_code, verification_code};
 pub use contents::Contents;
 pub use elements::Elements;
 pub use shipping::{first_mark, shipped, ships};
