@@ -27,6 +27,6 @@ pub use key::Key;
 pub use lines::{Line, LineEnd, Lines, first_line, one_cutting};
 pub use profile::Profile;
 pub use sets::text_set;
-pub use terminal::{add_shown, shown_texts_are_inert};
+pub use terminal::{add_shown, is_bidirectional, shown_texts_are_inert};
 pub use text::Text;
 pub use text_list::TextList;

@@ -1,2 +1,3 @@
 pub mod Inert
 pub mod Uses
+pub mod ReadBack

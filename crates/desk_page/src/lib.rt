@@ -21,5 +21,5 @@ mod licences;
 mod packages;
 mod piece;
 
-pub use escape::escaped_texts_are_inert;
+pub use escape::{escaped_texts_are_inert, escaped_texts_are_read_back};
 pub use html::page;

@@ -164,7 +164,7 @@ fn add_duty(
 
 /// The table of duties as a terminal shows it: the names of the columns, as in `duties_csv`, and a
 /// row for each duty, each ended by LF. A column is as wide as its widest text, with two blanks
-/// before the next one. A control character is shown as a question mark.
+/// before the next one. A character that isn't shown on a terminal is a question mark.
 #[tactic(auto, unfolding(crate::specs::Columns::columns_text))]
 pub fn duties_columns(alloc: Global, lines: &[DutyLine]) -> Result<Vec<u8>, AllocError>
     ensures { IfOk result (λ text. text.items ≡ columns_text lines.now) }

@@ -1,14 +1,13 @@
 -- A text is shown part by part, if its parts are texts.
 use Rattle.std.proofs.Common.{◌≡◌, ◌∙◌, ℕ, false, true, List, ◌++◌, ap, refl, Option, Some, None, IsUtf8, chars}
 use Rattle.std.specs.Prelude.{IfSome, codes, option_map}
-use Rattle.std.specs.Char.{is_control}
 use Rattle.std.specs.List.{flat_map, list_any}
 use Rattle.std.specs.Str.{IsAscii, is_utf8}
 use Rattle.std.proofs.lemmas.List.Concat.{flat_map-append}
 use Rattle.std.proofs.lemmas.Str.{chars-append, chars-IsAscii, chars-nil, IsUtf8-append, IsUtf8-from_ascii}
 use Rattle.std.proofs.lemmas.Str.{IsUtf8-from_is_utf8, IsUtf8-nil}
 use denote.Ref.{Bor}
-use Rattle.desk_base.specs.Terminal.{shown, shown_char}
+use Rattle.desk_base.specs.Terminal.{is_hidden, shown, shown_char}
 use Rattle.desk_base.proofs.Shown.{same}
 use Rattle.desk_base.proofs.Texts.{are_ascii}
 use Rattle.desk_tree_reports.specs.declared.ways.Way.TheVariants as way
@@ -21,10 +20,10 @@ unfolding shown
 shown-append a b text = ap (flat_map shown_char) (chars-append a b text)
     ∙ flat_map-append shown_char (chars a) (chars b)
 
--- a text of ASCII without control characters is shown as it is
-shown_ascii : (text : List ℕ) → IsAscii text → list_any is_control text ≡ false → shown text ≡ text
+-- a text of ASCII with nothing that isn't shown is shown as it is
+shown_ascii : (text : List ℕ) → IsAscii text → list_any is_hidden text ≡ false → shown text ≡ text
 shown_ascii text ascii none = same text (IsUtf8-from_ascii text ascii)
-    (ap (list_any is_control) (chars-IsAscii text ascii) ∙ none)
+    (ap (list_any is_hidden) (chars-IsAscii text ascii) ∙ none)
 
 pub front_shown : shown (codes "LICENSES/") ≡ codes "LICENSES/"
 front_shown = shown_ascii (codes "LICENSES/") (are_ascii (codes "LICENSES/") refl) refl
