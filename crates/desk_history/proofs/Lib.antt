@@ -29,3 +29,6 @@ mod Ends
 pub mod Rising
 pub mod Listed
 mod Raising
+mod Alone
+mod Full
+mod Lines

@@ -84,7 +84,7 @@ open-found : (w : Readings) (h : List Command) (row : ReleaseRow)
 open-found w h row = told_from (λ rows duty. open_duty (λ q. rows) duty) (is_open_of row.name) w h 1
     (raised w h) (omega arith) refl
 
-duty_known : (w : Readings) (h : List Command) (q : ℕ)
+pub duty_known : (w : Readings) (h : List Command) (q : ℕ)
     → is_some (duty_found (tables w h) q) ≡ is_some (duty_at w h q)
 duty_known w h q = ap is_some (duty-found w h q)
     ∙ is_some-map (λ d. duty_row (place w h d.0) d) (duty_at w h q)

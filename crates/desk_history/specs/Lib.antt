@@ -1,2 +1,5 @@
 pub mod FromTables
 pub mod Laws
+pub mod Alone
+pub mod Full
+pub mod Lines

@@ -1,7 +1,10 @@
 //! The laws of the recorded history, each as the contract of a function with an empty body: they
-//! say in the subject's own words what the definitions of `desk_model` amount to. `proofs/` has the
-//! lemmas by which the desk's code, which sees only rows, keeps the tables of a history.
+//! say in the subject's own words what the definitions of `desk_model` amount to. `answers` has those
+//! of answers to commands, `row_laws` those of the rows of answers. `proofs/` has the lemmas by which the desk's code, which sees only rows, keeps the tables of a history.
 #![tactic(auto)]
+
+pub mod answers;
+pub mod row_laws;
 
 ghost use Rattle.std.specs.Prelude.{◌≡◌, ◌⊎◌, true, false, ℕ, ◌+◌, ◌++◌, [], ◌∷◌, List, map, filter};
 ghost use Rattle.desk_model.specs.Conclusions.{adoptions, conclusions, licence_for, licence_given, office_text, text_given};
