@@ -1,6 +1,7 @@
 //! The laws of the recorded history, each as the contract of a function with an empty body: they
-//! say in the subject's own words what the definitions of `desk_model` amount to. `answers` has those
-//! of answers to commands, `row_laws` those of the rows of answers. `proofs/` has the lemmas by which the desk's code, which sees only rows, keeps the tables of a history.
+//! say in the subject's own words what the definitions of `desk_model` amount to. `answers` has
+//! those of the answers to commands, `row_laws` those of the rows of answers. `proofs/` has the
+//! lemmas by which the desk's code, which sees only rows, keeps the tables of a history.
 #![tactic(auto)]
 
 pub mod answers;

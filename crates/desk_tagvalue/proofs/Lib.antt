@@ -11,3 +11,4 @@ pub mod DraftEntries
 pub mod DraftRead
 pub mod DraftGiven
 pub mod Digests
+mod Columns

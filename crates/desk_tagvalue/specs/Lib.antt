@@ -11,3 +11,4 @@ pub mod Documents
 pub mod Drafts
 pub mod Written
 pub mod Given
+pub mod Columns
