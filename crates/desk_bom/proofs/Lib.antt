@@ -8,3 +8,4 @@ pub mod ContentsLemmas
 pub mod CodeLemmas
 pub mod SlotLemmas
 pub mod OneState
+mod OwnFiles

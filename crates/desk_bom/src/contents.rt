@@ -1,10 +1,12 @@
 //! The files of packages.
 
-ghost use Rattle.std.specs.Prelude.{◌≡◌, ◌++◌, ◌↔◌, ℕ, List, IfOk, OnOk, Contains, map, length};
-ghost use Rattle.std.specs.List.{filter_map};
+ghost use Rattle.std.specs.Prelude.{◌≡◌, ◌+◌, ◌++◌, ◌∷◌, [], ◌↔◌, ℕ, List, IfOk, OnOk, Contains, map, length};
+ghost use Rattle.std.specs.List.{count_by, filter_map};
 ghost use Rattle.std.specs.List.Sorted.{IsStrictlyIncreasing};
+ghost use Rattle.desk_fields.specs.declared.tag.Tag.TheVariants as tags;
 ghost use Rattle.desk_tagvalue.specs.Documents.{document_text};
-ghost use Rattle.desk_tagvalue.specs.Entries.{entry_text};
+ghost use Rattle.desk_tagvalue.specs.Entries.{EntryText, entry_text};
+ghost use Rattle.desk_tagvalue.specs.Faults.{has_tag};
 ghost use Rattle.desk_tagvalue.specs.Parts.{DocumentText};
 ghost use Rattle.desk_tagvalue.specs.Views.{edge_text};
 ghost use Rattle.desk_bom.specs.declared.arrows.Arrow.{Arrow};
@@ -119,3 +121,17 @@ impl Contents {
         targets(&self.arrows, owner)
     }
 }
+
+/// A file belongs to the last package that begins before it, and to none if none does: packages and
+/// files are known by how many begin before them.
+pub fn files_belong_to_the_package_before()
+    ensures own { (d : DocumentText) (before between after : List EntryText) (p f : EntryText)
+        → d.entries ≡ before ++ (p ∷ (between ++ (f ∷ after))) → p.tag ≡ tags.PackageName
+        → f.tag ≡ tags.FileName → count_by (has_tag tags.PackageName) between ≡ 0
+        → Contains (contents d) (record {
+          from = count_by (has_tag tags.PackageName) before;
+          to = count_by (has_tag tags.FileName) before + count_by (has_tag tags.FileName) between;
+        }) }
+    ensures none { (es : List EntryText) → count_by (has_tag tags.PackageName) es ≡ 0
+        → own_files 0 0 es ≡ [] }
+{}

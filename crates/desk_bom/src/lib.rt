@@ -10,7 +10,7 @@ mod shipping;
 mod state;
 
 pub use codes::{codes_ignore_order, one_code, verification_code};
-pub use contents::Contents;
+pub use contents::{Contents, files_belong_to_the_package_before};
 pub use elements::Elements;
 pub use shipping::{first_mark, shipped, ships};
 pub use state::{CodeState, code_state, is_code, is_unanalyzed, one_state};
