@@ -5,3 +5,4 @@ pub mod RestLemmas
 pub mod WayLemmas
 pub mod AmongLemmas
 pub mod FirstsLemmas
+pub mod LastCounts

@@ -5,3 +5,4 @@ pub mod Ways
 pub mod Sharing
 pub mod Folders
 pub mod Firsts
+pub mod Counting

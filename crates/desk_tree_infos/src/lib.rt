@@ -2,7 +2,8 @@
 //! for a file, and what these and the file itself give it, with the texts of annotations kept once.
 //!
 //! - At most one annotation counts for a file in each folder from the root to its own: the last that
-//!   covers its path (`specs/Information.antt`). The code goes down the folders once.
+//!   covers its path (`specs/Information.antt`, `last_annotation_counts`). The code goes down the
+//!   folders once.
 //! - A file's information is defined by cases: an override, or what the file states itself with the
 //!   aggregates and the nearest `closest` annotation.
 //! - What an annotation gives is kept once, however many files it counts for: each annotation has a
@@ -24,6 +25,7 @@ mod firsts;
 mod folders;
 mod information;
 mod infos;
+mod laws;
 mod sets;
 mod trail;
 
@@ -32,5 +34,6 @@ pub use firsts::First;
 pub use folders::{Folders, Toml, by_folder};
 pub use information::{Sources, Subject, sources_of};
 pub use infos::{Covered, FileInfo, Infos, Outline, info_at};
+pub use laws::last_annotation_counts;
 pub use sets::set_in;
 pub use trail::Trail;
