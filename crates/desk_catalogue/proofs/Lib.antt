@@ -7,3 +7,5 @@ pub mod PrintedLemmas
 pub mod OrderLaws
 pub mod Sought
 mod StandOnce
+mod LeastFaults
+mod Counted

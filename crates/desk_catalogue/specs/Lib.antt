@@ -4,3 +4,4 @@ pub mod Kept
 pub mod Reading
 pub mod Lookup
 pub mod Shown
+pub mod Faults

@@ -43,6 +43,9 @@ mod values;
 
 pub use catalogue::{Catalogue, LicenceText};
 pub use fault::CatFault;
-pub use laws::{forms_and_texts_stand_once, one_catalogue, rules_stand_once, terms_are_read};
+pub use laws::{
+    each_table_is_kept, forms_and_texts_stand_once, one_catalogue, rules_stand_once,
+    table_faults_are_the_least, terms_are_read,
+};
 pub use order::sorted_set;
 pub use ordered::OrderedRules;
