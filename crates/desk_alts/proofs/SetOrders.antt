@@ -6,7 +6,7 @@ use Rattle.std.specs.declared.cmp.Ordering.{Ordering}
 use Rattle.std.specs.declared.cmp.Ordering.TheVariants.{Less, Equal}
 use Rattle.std.specs.Cmp.Lexicographic.{slice_cmp}
 use Rattle.std.specs.Ordering.{nat_cmp, ordering_then}
-use Rattle.std.proofs.lemmas.Bool.Decides.{nat_tests}
+use Rattle.desk_base.proofs.Orders.{same_numbers}
 use Rattle.desk_expr.specs.declared.term.Term.{Term}
 use Rattle.desk_expr.specs.Meaning.{Holds}
 use Rattle.desk_expr.specs.Occurring.{term_order}
@@ -22,16 +22,13 @@ terms_decide (x ∷ front) s r t u less =
     ap (λ o. ordering_then o (slice_cmp term_order (front ++ (t ∷ s)) (front ++ (u ∷ r))))
     (ranks_with_itself x) ∙ terms_decide front s r t u less
 
-same_size : (n m : ℕ) → n ≡ m → nat_cmp n m ≡ Equal
-same_size n m is = grind (arith, nat_tests)
-
 pub terms_decide_last : (front s r : List Term) (t u : Term) → length s ≡ length r
     → term_order t u ≡ Less → set_order (front ++ (t ∷ s)) (front ++ (u ∷ r)) ≡ Less
 terms_decide_last front s r t u long less =
     let sizes : length (front ++ (t ∷ s)) ≡ length (front ++ (u ∷ r)) =
     omega (arith, length-append front (t ∷ s), length-append front (u ∷ r)) in
     ap (λ o. ordering_then o (slice_cmp term_order (front ++ (t ∷ s)) (front ++ (u ∷ r))))
-    (same_size (length (front ++ (t ∷ s))) (length (front ++ (u ∷ r))) sizes)
+    (same_numbers (length (front ++ (t ∷ s))) (length (front ++ (u ∷ r))) sizes)
     ∙ terms_decide front s r t u less
 
 pub first_of_cost : (cost : Term → Option ℕ) (e : Tree) (price : ℕ) (set s : List Term)

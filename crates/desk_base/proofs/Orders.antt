@@ -1,9 +1,10 @@
 -- Facts about how two things compare.
-use Rattle.std.proofs.Common.{◌≡◌, ◌∙◌, ℕ, List, true, refl, sym, ap, nat_cmp, is_eq}
+use Rattle.std.proofs.Common.{◌≡◌, ◌∙◌, ℕ, List, true, refl, sym, ap, arith, nat_cmp, is_eq}
 use Rattle.std.proofs.Common.{Ordering, Less, Equal, Greater}
 use Rattle.std.specs.Prelude.{◌&&◌}
 use Rattle.std.specs.Ordering.{ordering_reverse, ordering_then}
 use Rattle.std.specs.Cmp.Lexicographic.{slice_cmp}
+use Rattle.std.proofs.lemmas.Bool.Decides.{nat_tests}
 use Rattle.std.proofs.lemmas.Map.Text.{is_eq-slice_cmp}
 use Rattle.desk_base.proofs.Texts.{texts_equal}
 
@@ -16,6 +17,9 @@ pub is_eq-reverse : (o : Ordering) → is_eq (ordering_reverse o) ≡ is_eq o
 is_eq-reverse Less = refl
 is_eq-reverse Equal = refl
 is_eq-reverse Greater = refl
+
+pub same_numbers : (n m : ℕ) → n ≡ m → nat_cmp n m ≡ Equal
+same_numbers n m is = grind (arith, nat_tests)
 
 -- ---- by one thing and then by another
 

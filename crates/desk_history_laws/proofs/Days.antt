@@ -11,6 +11,7 @@ use Rattle.std.specs.Cmp.Lexicographic.{slice_cmp}
 use Rattle.std.proofs.lemmas.Bool.Decides.{nat_tests}
 use Rattle.desk_history.proofs.Rising.{smaller}
 use Rattle.desk_base.proofs.Numbers.{three, numbers_equal}
+use Rattle.desk_base.proofs.Orders.{same_numbers}
 use Rattle.desk_base.proofs.Bools.{and_left, and_right}
 use Rattle.desk_base.specs.Day.{is_day, exists, number_from, writes_day}
 use Rattle.desk_model.specs.Texts.{is_before}
@@ -33,10 +34,6 @@ more : (a b : ℕ) → b < a → nat_cmp a b ≡ Greater
 more a b gt = let e : nat_lt a b ≡ false = grind (arith, nat_tests) in
     let f : (a == b) ≡ false = grind (arith, nat_tests) in rw (e, f) refl
 
-same : (a b : ℕ) → a ≡ b → nat_cmp a b ≡ Equal
-same a b is = let e : nat_lt a b ≡ false = grind (arith, nat_tests) in
-    let f : (a == b) ≡ true = grind (arith, nat_tests) in rw (e, f) refl
-
 digit_step : (n m x y : ℕ) → is_ascii_digit x ≡ true → is_ascii_digit y ≡ true
     → ordering_then (nat_cmp n m) (nat_cmp x y) ≡ nat_cmp (n * 10 + (x - 48)) (m * 10 + (y - 48))
 digit_step n m x y dx dy =
@@ -50,7 +47,7 @@ digit_step n m x y dx dy =
           more n m gt,
           more (n * 10 + (x - 48)) (m * 10 + (y - 48)) (grind (arith, nat_tests)),
         ) refl
-        | inr is ↦ rw (same n m is) (elim (three x y) [
+        | inr is ↦ rw (same_numbers n m is) (elim (three x y) [
           | inl lt ↦ rw (
             smaller x y lt,
             smaller (n * 10 + (x - 48)) (m * 10 + (y - 48)) (grind (arith, nat_tests)),
@@ -61,8 +58,8 @@ digit_step n m x y dx dy =
               more (n * 10 + (x - 48)) (m * 10 + (y - 48)) (grind (arith, nat_tests)),
             ) refl
             | inr tie ↦ rw (
-              same x y tie,
-              same (n * 10 + (x - 48)) (m * 10 + (y - 48)) (grind (arith, nat_tests)),
+              same_numbers x y tie,
+              same_numbers (n * 10 + (x - 48)) (m * 10 + (y - 48)) (grind (arith, nat_tests)),
             ) refl
           ]
         ])
