@@ -7,3 +7,4 @@ mod Contents
 mod States
 pub mod Ships
 pub mod Trees
+pub mod Joining

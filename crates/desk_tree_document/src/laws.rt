@@ -5,9 +5,15 @@
 //! says. These laws add what `desk_bom` says about each document that a draft's text spells: it
 //! ships the draft's package and no other, and the package's verification code agrees with its
 //! files. `drafts_ship` says so about any draft, `drafts_of_trees_ship` about those of `draft`.
+//!
+//! What the licences of a file or a package say together is `joined_licences_are_all_of_them`.
 
-ghost use Rattle.std.specs.Prelude.{◌≡◌, List, ℕ, All, Ok};
+ghost use Rattle.std.specs.Prelude.{◌≡◌, ◌≤◌, ◌∷◌, [], List, ℕ, length, All, Ok};
+ghost use Rattle.desk_expr.specs.Listed.{EachSpells};
+ghost use Rattle.desk_expr.specs.Spelling.{Spells, SpellsWithin};
+ghost use Rattle.desk_expr.specs.Tree.{Tree, all, parts_of};
 ghost use Rattle.desk_tree_document.specs.Drafts.{Named, draft_of};
+ghost use Rattle.desk_tree_document.specs.Texts.{expression_of};
 ghost use Rattle.desk_tree_document.specs.Shipping.{IsDigest, IsTextOf, ShipsWhenRead};
 ghost use Rattle.desk_tree_infos.specs.Readers.{Reader};
 ghost use Rattle.desk_tree_gather.specs.declared.files.SourceFile.{SourceFile};
@@ -25,4 +31,15 @@ pub fn drafts_ship()
 pub fn drafts_of_trees_ship()
     ensures { (r : Reader) (files : List SourceFile) (title : Named) (d : Draft) (text : List ℕ)
         → draft_of r files title d.code ≡ Ok d → IsTextOf d text → ShipsWhenRead d text }
+{}
+
+/// Two or more licences that spell trees are joined into a text that spells All of these trees, and
+/// no other tree (SPDX 2.3, Annex D.4). One licence is not changed.
+pub fn joined_licences_are_all_of_them()
+    ensures one { (licence : List ℕ) → expression_of (licence ∷ []) ≡ licence }
+    ensures several { (licences : List (List ℕ)) (trees : List Tree) → 2 ≤ length licences
+        → EachSpells licences trees → Spells (expression_of licences) (all (parts_of trees)) }
+    ensures read { (licences : List (List ℕ)) (trees : List Tree) → 2 ≤ length licences
+        → EachSpells licences trees → (e : Tree) → SpellsWithin (expression_of licences) e
+        → e ≡ all (parts_of trees) }
 {}
