@@ -1,8 +1,8 @@
 -- A catalogue keeps one rule and one text for each table.
 use Rattle.std.proofs.Common.{◌≡◌, ◌∙◌, ℕ, ◌+◌, Bool, true, false, cond, List, [], ◌∷◌, ◌++◌, length, refl}
-use Rattle.std.proofs.Common.{sym, ap, subst, arith, length-append, Option, Ok, Err, Ordering, Less}
+use Rattle.std.proofs.Common.{sym, ap, arith, length-append, Option, Ok, Err, Ordering, Less}
 use Rattle.std.proofs.Common.{Equal, Greater}
-use Rattle.std.specs.Prelude.{◌&&◌, ◌||◌, codes}
+use Rattle.std.specs.Prelude.{◌&&◌, codes}
 use Rattle.std.specs.List.{list_any}
 use Rattle.std.specs.Cmp.Lexicographic.{slice_cmp}
 use Rattle.std.specs.Ordering.{is_eq, match_ordering, nat_cmp, ordering_then}
@@ -12,7 +12,6 @@ use Rattle.std.specs.Str.{bytes_eq}
 use Rattle.toml.specs.Data.{Data, Items, no_items, item, Members, get_member}
 use Rattle.desk_base.proofs.Bools.{or_left, or_right}
 use Rattle.desk_base.proofs.Texts.{texts_turned}
-use Rattle.desk_base.specs.Results.{then_read}
 use Rattle.desk_model.specs.Keys.{is_rule, rule_order}
 use Rattle.desk_model.specs.declared.reading.Rule.{Rule}
 use Rattle.desk_model.specs.declared.refusal.CatalogueFault.{CatalogueFault}

@@ -1,6 +1,6 @@
 -- The fault of a table is the least of those of its keys.
-use Rattle.std.proofs.Common.{◌≡◌, ◌∙◌, ℕ, ◌<◌, ◌≤◌, Bool, true, false, cond, List, Option, Some, None}
-use Rattle.std.proofs.Common.{Result, Ok, Err, refl, sym, ap, arith}
+use Rattle.std.proofs.Common.{◌≡◌, ◌∙◌, ℕ, ◌≤◌, Bool, true, false, cond, List, Option, Some, None}
+use Rattle.std.proofs.Common.{Ok, Err, refl, sym, ap, arith}
 use Rattle.std.specs.Prelude.{not, nat_lt, is_some, codes, if◌then◌else◌}
 use Rattle.std.specs.List.{list_all}
 use Rattle.std.specs.Option.{ok_or, option_map, option_map_or}
@@ -12,7 +12,6 @@ use Rattle.desk_base.specs.TextSets.{is_among}
 use Rattle.desk_model.specs.FaultNumbers.{catalogue_fault_number}
 use Rattle.desk_model.specs.Texts.{sorted_set}
 use Rattle.desk_model.specs.declared.reading.Rule.{Rule}
-use Rattle.desk_model.specs.declared.refusal.CatalogueFault.{CatalogueFault}
 use Rattle.desk_model.specs.declared.refusal.CatalogueFault.TheVariants.{BadKind, BadTerm, Twice}
 use Rattle.desk_model.specs.declared.refusal.CatalogueFault.TheVariants.{UnknownDuty, UnknownForm}
 use Rattle.desk_model.specs.declared.refusal.CataloguePart.TheVariants as part

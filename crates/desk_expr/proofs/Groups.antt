@@ -4,15 +4,14 @@ use Rattle.std.proofs.Common.{ap, refl, arith, true, codes, length-append, appen
 use Rattle.std.specs.Prelude.{IsTrue, All}
 use Rattle.std.proofs.lemmas.List.Elements.{All-cons, All-head, All-tail}
 use Rattle.desk_base.specs.Bytes.{is_blank}
-use Rattle.desk_base.specs.declared.profile.Profile.TheVariants.{Capitals}
 use Rattle.desk_tokens.specs.Tokens.{NoRunBegins, IsPiece, Lexeme, AreTokens}
-use Rattle.desk_expr.specs.Grammar.{Symbol, and_word, all_of, any_of, Operand, AndList, OrList}
+use Rattle.desk_expr.specs.Grammar.{and_word, all_of, Operand, AndList}
 use Rattle.desk_expr.specs.Grammar.{one_operand, and_more, one_list, SpellsTree}
 use Rattle.desk_expr.specs.Listed.{EachSpells}
 use Rattle.desk_expr.specs.Printing.{enclosed}
 use Rattle.desk_expr.specs.Spelling.{symbol, symbols, Spells}
 use Rattle.desk_expr.specs.Tree.{Tree}
-use Rattle.desk_expr.proofs.Lexes.{Follows, LexesAlone}
+use Rattle.desk_expr.proofs.Lexes.{Follows}
 use Rattle.desk_expr.proofs.Prints.{Prints, lexes_and, prints_group, prints_more, whole}
 
 -- ---- a text is lexed alike wherever it is

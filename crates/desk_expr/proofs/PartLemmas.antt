@@ -1,5 +1,5 @@
 -- An Any or an All, by its list of parts.
-use Rattle.std.proofs.Common.{◌⊎◌, inl, inr, zero, suc, ◌<◌, ◌≡◌, ℕ, List, [], ◌∷◌, length, get_or, refl}
+use Rattle.std.proofs.Common.{inl, inr, zero, suc, ◌<◌, ◌≡◌, ℕ, List, [], ◌∷◌, length, get_or, refl}
 use Rattle.std.proofs.Common.{arith, subst, sym}
 use Rattle.std.specs.Prelude.{◌↔◌, All}
 use Rattle.std.specs.List.{Any}

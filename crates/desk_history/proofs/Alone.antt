@@ -1,6 +1,6 @@
 -- Which refusals a command alone decides.
 use Rattle.std.proofs.Common.{◌≡◌, ◌∙◌, ◌⊎◌, inl, inr, ℕ, Bool, true, false, List, [], ◌∷◌, map, refl}
-use Rattle.std.proofs.Common.{Option, Some, None, Result, Ok, Err, subst, sym}
+use Rattle.std.proofs.Common.{Option, Some, None, Result, Ok, Err}
 use Rattle.std.specs.Prelude.{◌&&◌, ◌||◌, ◌+◌, not, nat_lt, nat_le, length, is_some, is_none, unwrap_or}
 use Rattle.std.specs.List.{filter_map, list_any}
 use Rattle.std.specs.Str.{bytes_eq}
@@ -18,7 +18,7 @@ use Rattle.desk_model.specs.Answers.{closing, conclusion, same_namespace, taken,
 use Rattle.desk_model.specs.Answers.{unconcluded, not_enough, not_minimal, verdict_on, unchosen}
 use Rattle.desk_model.specs.Answers.{unadopted, first_unadopted, unruled, first_unruled}
 use Rattle.desk_model.specs.Answers.{package_fault, walk, gone, settled}
-use Rattle.desk_model.specs.Conclusions.{adoptions, is_plain, is_reference, licence_for}
+use Rattle.desk_model.specs.Conclusions.{adoptions, is_reference, licence_for}
 use Rattle.desk_model.specs.History.{form_of, in_force, rules_in}
 use Rattle.desk_model.specs.Moves.{is_over}
 use Rattle.desk_model.specs.Raised.{rule_adopted, chosen_in, shipped}
@@ -26,11 +26,9 @@ use Rattle.desk_model.specs.States.{goes_from}
 use Rattle.desk_model.specs.Texts.{is_note, is_release_name}
 use Rattle.desk_base.specs.Day.{is_day}
 use Rattle.desk_base.specs.Limits as most
-use Rattle.desk_base.specs.declared.profile.Profile.TheVariants.{Capitals}
 use Rattle.desk_model.specs.declared.refusal.Limit.TheVariants as limit
 use Rattle.desk_model.specs.declared.state.Word.TheVariants as word
 use Rattle.desk_model.specs.Lists.{or_else}
-use Rattle.desk_model.specs.Numbers.{refusal_number}
 use Rattle.desk_model.specs.Readings.{Readings}
 use Rattle.desk_model.specs.declared.command.Answer.{Answer}
 use Rattle.desk_model.specs.declared.command.Answer.TheVariants as answered
@@ -48,7 +46,6 @@ use Rattle.desk_model.specs.declared.reading.Verdict.{Verdict}
 use Rattle.desk_model.specs.declared.reading.Verdict.TheVariants as verdict
 use Rattle.desk_model.specs.declared.refusal.CatalogueFault.{CatalogueFault}
 use Rattle.desk_model.specs.declared.refusal.DocumentFault.{DocumentFault}
-use Rattle.desk_model.specs.declared.refusal.ExpressionFault.{ExpressionFault}
 use Rattle.desk_model.specs.declared.refusal.Refusal.{Refusal}
 use Rattle.desk_model.specs.declared.refusal.Refusal.TheVariants as why
 use Rattle.desk_model.specs.declared.row.AdoptionRow.{AdoptionRow}

@@ -10,17 +10,15 @@ use Rattle.std.proofs.lemmas.List.Elements.{filter-append}
 use Rattle.std.proofs.lemmas.List.Sums.{length-filter, sum_by-cons}
 use Rattle.std.proofs.lemmas.List.{append-nil}
 use Rattle.desk_base.specs.Day.{is_day}
-use Rattle.desk_base.specs.Limits as most
-use Rattle.desk_base.specs.declared.profile.Profile.{Profile}
 use Rattle.desk_base.specs.declared.profile.Profile.TheVariants.{Capitals}
 use Rattle.desk_model.specs.Answers.{answer, closing, conclusion, refused_or, unless}
 use Rattle.desk_model.specs.Bills.{first_uses, is_same_text}
-use Rattle.desk_model.specs.Conclusions.{concluded_as, conclusion_by, conclusions, office_text}
+use Rattle.desk_model.specs.Conclusions.{concluded_as, conclusion_by}
 use Rattle.desk_model.specs.Conclusions.{profile_in, text_given}
-use Rattle.desk_model.specs.History.{documents, expression_in, form_of, profile_of}
+use Rattle.desk_model.specs.History.{documents, form_of, profile_of}
 use Rattle.desk_model.specs.Keys.{change_below, is_change_of, is_document, is_duty_of}
 use Rattle.desk_model.specs.Lists.{latest, put, put_all}
-use Rattle.desk_model.specs.Listings.{at_most, rule_cost, term_cost}
+use Rattle.desk_model.specs.Listings.{rule_cost, term_cost}
 use Rattle.desk_model.specs.Moves.{all_changes, changes, duties, duty_at}
 use Rattle.desk_model.specs.Names.{duty_state_name}
 use Rattle.desk_model.specs.Queries.{duty_line, last_day, queried, totals_of}
@@ -35,7 +33,6 @@ use Rattle.desk_model.specs.declared.command.Command.TheVariants.{CloseDay}
 use Rattle.desk_model.specs.declared.command.DutyLine.{DutyLine}
 use Rattle.desk_model.specs.declared.command.Query.TheVariants as query
 use Rattle.desk_model.specs.declared.command.Totals.{Totals}
-use Rattle.desk_model.specs.declared.reading.Conclusion.{Conclusion}
 use Rattle.desk_model.specs.declared.reading.Rule.{Rule}
 use Rattle.desk_model.specs.declared.refusal.Refusal.TheVariants as why
 use Rattle.desk_model.specs.declared.row.AdoptionRow.{AdoptionRow}

@@ -1,6 +1,6 @@
 //! Laws of the rows of answers: what they say, by the rows of the tables.
 
-ghost use Rattle.std.specs.Prelude.{◌≡◌, ◌⊎◌, ◌≤◌, ◌+◌, ◌∷◌, ◌++◌, [], ℕ, List, Some, None, true, false, find, length, filter};
+ghost use Rattle.std.specs.Prelude.{◌≡◌, ◌≤◌, ◌+◌, ◌∷◌, ◌++◌, [], ℕ, List, Some, None, true, false, find, length, filter};
 ghost use Rattle.std.specs.List.{list_any};
 ghost use Rattle.desk_base.specs.declared.profile.Profile.TheVariants.{Capitals};
 ghost use Rattle.desk_model.specs.Answers.{answer, conclusion};

@@ -1,7 +1,7 @@
 -- Fields at most once, and columns by their names.
 use Rattle.std.proofs.Common.{◌≡◌, ◌∙◌, ℕ, ◌+◌, ◌≤◌, Bool, true, false, cond, List, [], ◌∷◌, map, refl}
-use Rattle.std.proofs.Common.{sym, ap, subst, arith, Option, Some, None, Result, Ok, Err, get_or}
-use Rattle.std.specs.Prelude.{◌&&◌, ◌||◌, not, is_some, All, filter, codes}
+use Rattle.std.proofs.Common.{sym, ap, subst, arith, Option, Some, None, Result, Ok, get_or}
+use Rattle.std.specs.Prelude.{◌&&◌, ◌||◌, not, is_some, All, filter}
 use Rattle.std.specs.List.{count_by, list_any}
 use Rattle.std.proofs.lemmas.Bool.{eqb-true}
 use Rattle.std.proofs.lemmas.List.Elements.{All-nil, All-cons}
@@ -11,8 +11,7 @@ use Rattle.desk_fields.specs.declared.fault.DocFault.{DocFault}
 use Rattle.desk_fields.specs.declared.fault.DocFault.TheVariants as faults
 use Rattle.desk_fields.specs.declared.tag.Tag.{Tag}
 use Rattle.desk_fields.specs.declared.tag.Tag.TheVariants as tags
-use Rattle.desk_fields.specs.Cutting.{FieldText}
-use Rattle.desk_tagvalue.specs.Columns.{AreEach, AreOnce, AreOnceIn, HasColumns, HaveEachOnce}
+use Rattle.desk_tagvalue.specs.Columns.{AreEach, AreOnceIn, HasColumns, HaveEachOnce}
 use Rattle.desk_tagvalue.specs.Columns.{IsExtractedOf, IsFileOf, IsPackageOf, IsSnippetOf}
 use Rattle.desk_tagvalue.specs.Documents.{Spells, too_large, no_text, no_fields, fields, unless}
 use Rattle.desk_tagvalue.specs.Entries.{EntryText, read_entry}

@@ -1,7 +1,6 @@
 -- The last annotation that covers a path counts.
 use Rattle.std.proofs.Common.{◌≡◌, ◌∙◌, Bool, true, false, ℕ, List, [], ◌∷◌, ◌++◌, refl, ap, cond}
-use Rattle.std.specs.Prelude.{All, Option, Some, None}
-use Rattle.std.specs.List.{Any, list_any}
+use Rattle.std.specs.Prelude.{All, Some, None}
 use Rattle.std.proofs.lemmas.List.Elements.{All-head, All-tail}
 use Rattle.std.proofs.lemmas.List.Folds.{Any-from_list_any, list_any-from_Any}
 use Rattle.desk_tree_annotations.specs.declared.annotation.Annotation.{Annotation}

@@ -1,5 +1,5 @@
 -- A path that a pattern without `**` matches has as many slashes as the pattern.
-use Rattle.std.proofs.Common.{◌≡◌, ◌≢◌, ◌∙◌, ◌⊎◌, inl, inr, ℕ, ◌+◌, List, [], ◌∷◌, ◌++◌, sym, ap, arith}
+use Rattle.std.proofs.Common.{◌≡◌, ◌≢◌, ◌∙◌, inl, inr, ℕ, ◌+◌, List, [], ◌∷◌, ◌++◌, sym, ap, arith}
 use Rattle.std.proofs.Common.{refl, cond}
 use Rattle.std.specs.Prelude.{◌==◌, All}
 use Rattle.std.specs.List.{count_by}
