@@ -25,6 +25,12 @@ FIELDS = ["Host: localhost", "Host: localhost", "Accept: */*", "User-Agent: x", 
           "Content-Type: application/json"]
 ODD_FIELDS = ["Transfer-Encoding: chunked", "Content-Length: 1", "Content-Length: +2", "Content-Length: 2, 2", "Content-Length: ", "Content-Length: 8388609",
               "Content-Length: 99999999999999999999", "Content-Length : 2", "no colon", ": x", " folded: x", "A: \x00", "A: \x80", "content-length: 0"]
+# What browsers send, for pages of the desk's own and of elsewhere. (The port isn't known yet.)
+PORT = "{PORT}"
+ORIGINS = ["Origin: null", f"Origin: http://127.0.0.1:{PORT}", f"ORIGIN: http://LOCALHOST:{PORT}", "Origin: http://localhost", "Origin: http://evil.example",
+           f"Origin: http://[::1]:{PORT}", f"Origin: http://127.0.0.1:{PORT}0", f"Origin: https://127.0.0.1:{PORT}", "Sec-Fetch-Site: cross-site",
+           "Sec-Fetch-Site: same-origin", "sec-fetch-site: none", "Sec-Fetch-Site: same-site", "Sec-Fetch-Mode: cors", f"Host: localhost:{PORT}",
+           f"Host: 127.0.0.1:{PORT}", "Host: evil.example", f"host: evil.example:{PORT}", "Host: localhost:1", "Host:", f"Host: localhost.evil:{PORT}"]
 VERSIONS = ["HTTP/1.1", "HTTP/1.1", "HTTP/1.1", "HTTP/1.0"]
 ODD_VERSIONS = ["HTTP/1.2", "HTTP/2.0", "HTTP/0.9", "http/1.1", "", "HTTP/1.1 "]
 
@@ -55,6 +61,9 @@ def request(turn):
         fields.append(f"{odd(turn, ['Content-Length'], ['content-length', 'CONTENT-LENGTH'])}: {odd(turn, [len(body)], [len(body) + 1, max(0, len(body) - 1)])}")
     if turn.random() < 0.08:
         fields.insert(turn.randint(0, len(fields)), turn.choice(ODD_FIELDS))
+    if turn.random() < 0.1:
+        fields += [turn.choice(ORIGINS) for _ in range(turn.choice([1, 1, 2, 3]))]
+        turn.shuffle(fields)
     end = odd(turn, ["\r\n"], ["\n"])
     head = end.join([f"{method} {target} {odd(turn, VERSIONS, ODD_VERSIONS, 0.02)}", *fields, "", ""])
     return odd(turn, [b""], [b"\r\n", b"\n\n"]) + head.encode("latin-1") + body
@@ -144,15 +153,17 @@ def fits(told, wanted):
     return not wanted(told) if callable(wanted) else told == wanted
 
 
-def wrong(desk, pieces, told):
+def wrong(desk, port, pieces, told):
     """What is wrong with what came back, if anything. The second desk does what the program did."""
-    asked = http_read.asked(b"".join(pieces))
+    asked = http_read.asked(b"".join(pieces), port)
     if asked is None:
         return None if told == b"" else f"{told!r:.300} to nothing"
     # (a peer that still sends when it is refused may lose the reply)
     if told == REFUSED and not asked.is_sure or told == b"" and asked.status and len(pieces) > 1:
         return None
-    if asked.status:
+    if asked.status == http_read.FORBIDDEN:
+        wanted = serving.response(b'{"fault":"origin"}')
+    elif asked.status:
         wanted = serving.response(serving.BAD, status=asked.status)
     else:
         wanted = answered(desk, asked)
@@ -175,7 +186,8 @@ def differences(program, batch):
         served = serving.Served(program.path, path, len(batch))
         try:
             for place, pieces in enumerate(batch):
-                found = wrong(desk, pieces, sent(served.port, pieces))
+                pieces = [piece.replace(PORT.encode(), b"%d" % served.port) for piece in pieces]
+                found = wrong(desk, served.port, pieces, sent(served.port, pieces))
                 if found:
                     yield place, f"{b''.join(pieces)!r:.2000} is told {found}"
             if served.ended() != (0, b""):

@@ -12,7 +12,8 @@ TOKEN = re.compile(rb"[!#$%&'*+\-.^_`|~0-9A-Za-z]+")
 # Bytes that a target may have by RFC 3986. A reader may take others.
 TARGET = re.compile(rb"[A-Za-z0-9\-._~:/?#\[\]@!$&'()*+,;=%]+")
 VALUE = re.compile(rb"[\t\x20-\x7e]*")
-BAD, TOO_LARGE, NOT_IMPLEMENTED = 400, 413, 501
+BAD, FORBIDDEN, TOO_LARGE, NOT_IMPLEMENTED = 400, 403, 413, 501
+OWN = rb"(?i:127\.0\.0\.1|localhost|\[::1\])"
 
 
 class Asked:
@@ -63,8 +64,28 @@ def request_line(line):
     return parts[0], parts[1], TARGET.fullmatch(parts[1]) is not None
 
 
-def asked(data):
-    """What all bytes of a connection ask, behind which the peer sends no more. None if it sent nothing."""
+def is_address(text, port):
+    """The desk's own address."""
+    match = re.fullmatch(OWN + rb"(?::([0-9]{1,18}))?", text)
+    return match is not None and (int(match[1]) if match[1] else 80) == port
+
+
+def is_foreign(fields, port):
+    """A browser sent these fields for a page of elsewhere ('Who can reach it' of the page)."""
+    hosts = [value for name, value, _ in fields if name == b"host"]
+    for name, value, _ in fields:
+        if name == b"origin" and not (value[:7].lower() == b"http://" and is_address(value[7:], port)):
+            return True
+        if name == b"sec-fetch-site" and value not in (b"same-origin", b"none"):
+            return True
+    if any(host and not re.fullmatch(OWN + rb"(:.*)?", host, re.DOTALL) for host in hosts):
+        return True
+    return any(name.startswith(b"sec-fetch-") for name, _, _ in fields) and not all(is_address(host, port) for host in hosts)
+
+
+def asked(data, port=None):
+    """What all bytes of a connection ask, behind which the peer sends no more. None if it sent nothing. Pages of elsewhere count at a
+    port."""
     if not data:
         return None
     found = head_of(data)
@@ -76,6 +97,8 @@ def asked(data):
         return Asked(BAD)
     method, target, is_plain = line
     is_sure = is_plain and all(known for _, _, known in fields)
+    if port is not None and is_foreign(fields, port):
+        return Asked(FORBIDDEN, is_sure=is_sure)
     if any(name == b"transfer-encoding" for name, _, _ in fields):
         return Asked(NOT_IMPLEMENTED, is_sure=is_sure)
     length = length_of(fields)
