@@ -71,10 +71,9 @@ IsStopped steps fault = (fault ≡ faults.Memory) ⊎ FailsFirst steps fault
 
 abbrev pub kind_number : Kind → ℕ
 kind_number kinds.ExternalDocument = 1
-kind_number kinds.Snippet = 2
-kind_number kinds.Annotation = 3
-kind_number kinds.ExternalReference = 4
-kind_number kinds.Field = 5
+kind_number kinds.Annotation = 2
+kind_number kinds.ExternalReference = 3
+kind_number kinds.Field = 4
 
 abbrev pub is_of_kind : Kind → WhatText → Bool
 is_of_kind kind (left_out other) = kind_number kind == kind_number other
@@ -89,7 +88,6 @@ count_left kind steps = count_by (is_left kind) steps
 abbrev pub skipped_of : List StepText → Skipped
 skipped_of steps = record {
   external_documents = count_left kinds.ExternalDocument steps;
-  snippets = count_left kinds.Snippet steps;
   annotations = count_left kinds.Annotation steps;
   external_references = count_left kinds.ExternalReference steps;
   fields = count_left kinds.Field steps;

@@ -18,9 +18,7 @@ use std::alloc::Global;
 pub struct Skipped {
     /// References to other documents (`externalDocumentRefs`).
     pub external_documents: usize,
-    /// Snippets.
-    pub snippets: usize,
-    /// Annotations of the document, of packages and of files.
+    /// Annotations of the document, of packages, of files and of snippets.
     pub annotations: usize,
     /// References of packages to something outside (`externalRefs`).
     pub external_references: usize,
@@ -42,10 +40,9 @@ fn kind_number(kind: Kind) -> u32
 {
     match kind {
         Kind::ExternalDocument => 1,
-        Kind::Snippet => 2,
-        Kind::Annotation => 3,
-        Kind::ExternalReference => 4,
-        Kind::Field => 5,
+        Kind::Annotation => 2,
+        Kind::ExternalReference => 3,
+        Kind::Field => 4,
     }
 }
 
@@ -72,7 +69,6 @@ fn skipped_of(steps: &[Step]) -> Skipped
 {
     Skipped {
         external_documents: count_left(Kind::ExternalDocument, steps),
-        snippets: count_left(Kind::Snippet, steps),
         annotations: count_left(Kind::Annotation, steps),
         external_references: count_left(Kind::ExternalReference, steps),
         fields: count_left(Kind::Field, steps),

@@ -1,6 +1,7 @@
--- The steps of a document: its own fields, the files, the packages, the extracted licences, the
--- relationships. Files come before packages, so only relationships say to which package a file
--- belongs.
+-- The steps of a document: its own fields, the files, the snippets, the packages, the extracted
+-- licences, the relationships. Files come before packages, so only relationships say to which
+-- package a file belongs; a snippet begins a section of its own (clause 9.1), so snippets come
+-- where no field of a file or package follows them.
 use Rattle.std.specs.Prelude.{ℕ, Bool, ◌&&◌, List, [], ◌∷◌, ◌++◌, Option, Some, None}
 use Rattle.std.specs.Prelude.{option_and_then, is_some, false, codes, if◌then◌else◌}
 use Rattle.std.specs.Str.{bytes_eq}
@@ -64,11 +65,12 @@ steps_at at d =
     object_steps at document_members d
     ++ (creation_steps (member_at at (codes "creationInfo")) (get (codes "creationInfo") d)
     ++ (all_parts parts.File at (codes "files") d
+    ++ (all_parts parts.Snippet at (codes "snippets") d
     ++ (all_parts parts.Package at (codes "packages") d
     ++ (all_parts parts.Extracted at (codes "hasExtractedLicensingInfos") d
     ++ (if_array (described_steps (targets d)) (member_at at (codes "documentDescribes"))
     (get (codes "documentDescribes") d)
-    ++ all_parts parts.Relationship at (codes "relationships") d)))))
+    ++ all_parts parts.Relationship at (codes "relationships") d))))))
 
 -- some tools write the document as the member `sbom` of an object without a version
 abbrev pub from_member : Data → Option Data → List StepText

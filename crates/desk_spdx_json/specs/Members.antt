@@ -1,5 +1,5 @@
 -- The members of the objects of a document (SPDX 2.3, JSON schema), each with the field of the
--- tag-value form that says the same (clauses 6 to 10), in the order in which the fields are
+-- tag-value form that says the same (clauses 6 to 11), in the order in which the fields are
 -- written.
 use Rattle.std.specs.Prelude.{ℕ, Bool, true, false, List, [], ◌∷◌, codes}
 use Rattle.desk_fields.specs.declared.tag.Tag.TheVariants as tags
@@ -32,10 +32,10 @@ document_members =
     ∷ needed (codes "name") (forms.OneLine tags.DocumentName)
     ∷ needed (codes "documentNamespace") (forms.OneLine tags.DocumentNamespace)
     ∷ perhaps (codes "externalDocumentRefs") (forms.LeftOut kinds.ExternalDocument)
-    ∷ perhaps (codes "snippets") (forms.LeftOut kinds.Snippet)
     ∷ perhaps (codes "annotations") (forms.LeftOut kinds.Annotation)
     ∷ perhaps (codes "creationInfo") forms.Elsewhere
     ∷ perhaps (codes "files") forms.Elsewhere
+    ∷ perhaps (codes "snippets") forms.Elsewhere
     ∷ perhaps (codes "packages") forms.Elsewhere
     ∷ perhaps (codes "hasExtractedLicensingInfos") forms.Elsewhere
     ∷ perhaps (codes "documentDescribes") forms.Elsewhere
@@ -75,6 +75,13 @@ file_members =
     ∷ perhaps (codes "licenseConcluded") (forms.OneLine tags.FileConcluded)
     ∷ perhaps (codes "licenseInfoInFiles") (forms.Texts tags.FileLicense)
     ∷ perhaps (codes "copyrightText") (forms.Copyright tags.FileCopyright)
+    ∷ perhaps (codes "annotations") (forms.LeftOut kinds.Annotation)
+    ∷ []
+
+-- clause 9
+abbrev pub snippet_members : List MemberText
+snippet_members =
+    needed (codes "SPDXID") (forms.OneLine tags.SnippetIdentifier)
     ∷ perhaps (codes "annotations") (forms.LeftOut kinds.Annotation)
     ∷ []
 

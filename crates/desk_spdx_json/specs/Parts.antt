@@ -1,4 +1,5 @@
--- The steps of a document's parts: its packages, files, extracted licences and relationships.
+-- The steps of a document's parts: its files, snippets, packages, extracted licences and
+-- relationships.
 use Rattle.std.specs.Prelude.{ℕ, Bool, List, [], ◌∷◌, ◌++◌, Option, Some, None, codes, if◌then◌else◌}
 use Rattle.std.specs.List.{flat_map, list_any}
 use Rattle.std.specs.Str.{bytes_eq}
@@ -11,7 +12,7 @@ use Rattle.desk_spdx_json.specs.declared.parts.Part.{Part}
 use Rattle.desk_spdx_json.specs.declared.parts.Part.TheVariants as parts
 use Rattle.desk_spdx_json.specs.Words.{is_word}
 use Rattle.desk_spdx_json.specs.Steps.{StepText, step, put, left_out, missing, bad_type, bad_value, member_at}
-use Rattle.desk_spdx_json.specs.Members.{MemberText, package_members, file_members}
+use Rattle.desk_spdx_json.specs.Members.{MemberText, package_members, file_members, snippet_members}
 use Rattle.desk_spdx_json.specs.Members.{extracted_members, relationship_members}
 use Rattle.desk_spdx_json.specs.Values.{value_steps, if_array, word_fault, word_in}
 
@@ -76,7 +77,7 @@ contained_steps owner at d = tie_step at owner (codes "CONTAINS") (as_str d) ∷
 
 -- ---- parts
 
--- packages, files and extracted licences come after a blank line
+-- all but relationships come after a blank line
 abbrev pub part_steps : Part → List ℕ → Data → List StepText
 part_steps parts.Package at d =
     step [] (put blank)
@@ -84,5 +85,6 @@ part_steps parts.Package at d =
     ++ if_array (contained_steps (word_in (codes "SPDXID") d)) (member_at at (codes "hasFiles"))
     (get (codes "hasFiles") d))
 part_steps parts.File at d = step [] (put blank) ∷ object_steps at file_members d
+part_steps parts.Snippet at d = step [] (put blank) ∷ object_steps at snippet_members d
 part_steps parts.Extracted at d = step [] (put blank) ∷ object_steps at extracted_members d
 part_steps parts.Relationship at d = relationship_steps at d

@@ -174,6 +174,7 @@ fn add_document<'a>(
     add_object(alloc, steps, at, value, &DOCUMENT_MEMBERS)?;
     add_creation(alloc, steps, at, value)?;
     add_list(alloc, steps, Part::File, at, "files", value)?;
+    add_list(alloc, steps, Part::Snippet, at, "snippets", value)?;
     add_list(alloc, steps, Part::Package, at, "packages", value)?;
     add_list(
         alloc,

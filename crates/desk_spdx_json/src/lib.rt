@@ -1,12 +1,12 @@
 //! What each value of an SPDX document in JSON (SPDX 2.2 and 2.3, JSON schema) is in the tag-value
 //! form.
 //!
-//! `document_steps` returns the steps of a JSON value: its own fields, then its files, its
-//! packages, its extracted licences and its relationships. A step is a line to be written,
+//! `document_steps` returns the steps of a JSON value: its own fields, then its files, its snippets,
+//! its packages, its extracted licences and its relationships. A step is a line to be written,
 //! something that is left out, or a fault, each with its place, a JSON pointer (RFC 6901). Nothing
 //! is written here: `desk_import` says what becomes of the steps.
 //!
-//! - `specs/Members.antt` lists the members of each object and the field of each (clauses 6 to 10).
+//! - `specs/Members.antt` lists the members of each object and the field of each (clauses 6 to 11).
 //! - `specs/Values.antt`, `specs/Parts.antt` and `specs/Documents.antt` give the steps of a
 //!   member's value, of a part and of a document.
 //!

@@ -67,10 +67,10 @@ pub(crate) const DOCUMENT_MEMBERS: [Member; 14] = [
         "externalDocumentRefs",
         Form::LeftOut(Kind::ExternalDocument)
     ),
-    perhaps!("snippets", Form::LeftOut(Kind::Snippet)),
     perhaps!("annotations", Form::LeftOut(Kind::Annotation)),
     perhaps!("creationInfo", Form::Elsewhere),
     perhaps!("files", Form::Elsewhere),
+    perhaps!("snippets", Form::Elsewhere),
     perhaps!("packages", Form::Elsewhere),
     perhaps!("hasExtractedLicensingInfos", Form::Elsewhere),
     perhaps!("documentDescribes", Form::Elsewhere),
@@ -107,6 +107,12 @@ pub(crate) const FILE_MEMBERS: [Member; 7] = [
     perhaps!("licenseConcluded", Form::OneLine(Tag::FileConcluded)),
     perhaps!("licenseInfoInFiles", Form::Texts(Tag::FileLicense)),
     perhaps!("copyrightText", Form::Copyright(Tag::FileCopyright)),
+    perhaps!("annotations", Form::LeftOut(Kind::Annotation)),
+];
+
+/// The members of a snippet.
+pub(crate) const SNIPPET_MEMBERS: [Member; 2] = [
+    needed!("SPDXID", Form::OneLine(Tag::SnippetIdentifier)),
     perhaps!("annotations", Form::LeftOut(Kind::Annotation)),
 ];
 

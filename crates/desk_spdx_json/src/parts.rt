@@ -13,7 +13,7 @@ ghost use Rattle.desk_spdx_json.specs.Parts.{member_steps, is_known, unknown_ste
 use crate::composed::{add_word_fault, word_in};
 use crate::items::{Item, add_array_in};
 use crate::members::{
-    EXTRACTED_MEMBERS, FILE_MEMBERS, Member, PACKAGE_MEMBERS, RELATIONSHIP_MEMBERS,
+    EXTRACTED_MEMBERS, FILE_MEMBERS, Member, PACKAGE_MEMBERS, RELATIONSHIP_MEMBERS, SNIPPET_MEMBERS,
 };
 use crate::steps::{Kind, Steps, What, item_at, member_at};
 use crate::ties::relationship_text;
@@ -26,6 +26,7 @@ use std::alloc::{AllocError, Global};
 #[derive(Clone, Copy)]
 pub(crate) enum Part {
     File,
+    Snippet,
     Package,
     Extracted,
     Relationship,
@@ -203,6 +204,7 @@ fn add_part<'a>(
 {
     match part {
         Part::File => add_element(alloc, steps, at, value, &FILE_MEMBERS),
+        Part::Snippet => add_element(alloc, steps, at, value, &SNIPPET_MEMBERS),
         Part::Package => add_package(alloc, steps, at, value),
         Part::Extracted => add_element(alloc, steps, at, value, &EXTRACTED_MEMBERS),
         Part::Relationship => add_relationship(alloc, steps, at, value),

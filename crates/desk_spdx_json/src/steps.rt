@@ -13,8 +13,6 @@ use std::marker::Model;
 pub enum Kind {
     /// A reference to another document.
     ExternalDocument,
-    /// A snippet.
-    Snippet,
     /// An annotation.
     Annotation,
     /// A reference of a package to something outside, such as a package URL.

@@ -102,13 +102,12 @@ pub fn refuse_conversion<W: Write>(
 fn tell_skipped<T: Write>(alloc: Global, skipped: Skipped, teller: &mut T) -> Result<(), Failure> {
     let Skipped {
         external_documents,
-        snippets,
         annotations,
         external_references,
         fields,
     } = skipped;
     let line = format!(in alloc;
-        "left out: {annotations} annotations, {snippets} snippets, {external_references} external references, {external_documents} references to documents, {fields} other fields\n"
+        "left out: {annotations} annotations, {external_references} external references, {external_documents} references to documents, {fields} other fields\n"
     )?;
     teller.write_all(line.as_bytes())?;
     Ok(())
