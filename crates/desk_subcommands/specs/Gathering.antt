@@ -1,9 +1,10 @@
 -- What `gather` writes, and the status that it returns.
-use Rattle.std.specs.Prelude.{◌≡◌, ℕ, List, if◌then◌else◌}
+use Rattle.std.specs.Prelude.{◌≡◌, ◌++◌, ◌&&◌, ◌==◌, ℕ, List, [], Option, Some, None, codes, decimal, if◌then◌else◌}
 use Rattle.desk_tree_gather.specs.declared.files.SourceFile.{SourceFile}
 use Rattle.desk_tree_infos.specs.Readers.{Reader}
 use Rattle.desk_tree_document.specs.Drafts.{Named}
 use Rattle.desk_tree_document.specs.declared.document.Gathering.{Gathering}
+use Rattle.desk_tree_document.specs.declared.gaps.Gaps.{Gaps}
 use Rattle.desk_tree_document.specs.Gathering.{IsGathering, gathering_text, is_document}
 
 -- the program's status: done if there is a document, and else refused
@@ -15,3 +16,16 @@ abbrev pub Gathers : Reader → List SourceFile → Named → List ℕ → ℕ �
 Gathers r files title text status =
     (answer : Gathering) × IsGathering r files title answer × (text ≡ gathering_text answer)
     × (status ≡ gathering_status answer)
+
+-- the line on the files of which the document says no licence or no notice, if there are any
+abbrev pub gaps_line : Gaps → List ℕ
+gaps_line gaps = if gaps.licences == 0 && gaps.notices == 0 then []
+    else codes "files without a licence: " ++ (decimal gaps.licences
+    ++ (codes ", without a notice: " ++ (decimal gaps.notices
+    ++ codes "; the document says NOASSERTION of them\n")))
+
+-- what is reported besides the text, which may go into a file: this line of a document, and the
+-- text itself if it is that of a fault
+abbrev pub report : Option Gaps → List ℕ → List ℕ
+report None text = text
+report (Some gaps) text = gaps_line gaps

@@ -1,14 +1,15 @@
 //! The document of a source tree, written out.
 
-ghost use Rattle.std.specs.Prelude.{◌≡◌, ℕ, List, IfOk, IfErr};
+ghost use Rattle.std.specs.Prelude.{◌≡◌, ℕ, List, IfOk, IfErr, OnOk};
+ghost use Rattle.std.specs.String.{string_bytes};
 ghost use Rattle.std.specs.Io.KnownBytes.{Appends, Keeps};
 ghost use Rattle.desk_tree_infos.specs.Readers.{Reader, IsRightReader};
 ghost use Rattle.desk_tree_document.specs.Gathering.{IsGathering, IsUnwritable};
 ghost use Rattle.desk_subcommands.specs.Failures.{IfBadValue, IfUntold, IsOfDocument};
-ghost use Rattle.desk_subcommands.specs.Gathering.{gathering_status, Gathers};
+ghost use Rattle.desk_subcommands.specs.Gathering.{gaps_line, gathering_status, Gathers, report};
 
 use crate::failure::Failure;
-use desk_tree_document::{Gathering, TextFault, document_of};
+use desk_tree_document::{Gaps, Gathering, TextFault, document_of};
 use desk_tree_gather::SourceFile;
 use std::alloc::{AllocError, Global};
 use std::io::Write;
@@ -41,40 +42,44 @@ fn gathering_of(
     }
 }
 
-// How many lines of a text are this one.
-fn line_count(text: &str, line: &str) -> usize {
-    text.lines().filter(|one| *one == line).count()
-}
-
-// What is reported besides the document of a tree: how many of its files state no licence or no
-// notice.
-fn gaps(alloc: Global, text: &str) -> Result<Option<String>, AllocError> {
-    let licences = line_count(text, "LicenseConcluded: NOASSERTION");
-    let notices = line_count(text, "FileCopyrightText: NOASSERTION");
+// The line on the files of which a document says no licence or no notice, if there are any.
+fn gaps_line(alloc: Global, gaps: Gaps) -> Result<String, AllocError>
+    ensures { IfOk result (λ line. string_bytes line ≡ gaps_line gaps) }
+{
+    let Gaps { licences, notices } = gaps;
     if licences == 0 && notices == 0 {
-        return Ok(None);
+        return Ok(String::new(alloc));
     }
-    let told = format!(in alloc;
+    format!(in alloc;
         "files without a licence: {licences}, without a notice: {notices}; the document says NOASSERTION of them\n"
-    )?;
-    Ok(Some(told))
+    )
 }
 
 // Reports what was gathered besides what is written, which may go into a file: a fault, or what the
-// document lacks.
-fn tell<T: Write>(alloc: Global, status: u8, text: &str, teller: &mut T) -> Result<(), Failure> {
-    if status != 0 {
-        teller.write_all(text.as_bytes())?;
-    } else if let Some(told) = gaps(alloc, text)? {
-        teller.write_all(told.as_bytes())?;
+// document doesn't say.
+fn tell<T: Write>(
+    alloc: Global,
+    gaps: Option<Gaps>,
+    text: &str,
+    teller: &mut T,
+) -> Result<(), Failure>
+    ensures { OnOk result
+        (Appends (T.contents teller.old) (T.contents teller.new) (report gaps text.now)) }
+{
+    match gaps {
+        None => teller.write_all(text.as_bytes())?,
+        Some(gaps) => {
+            let line = gaps_line(alloc, gaps)?;
+            teller.write_all(line.as_bytes())?;
+        }
     }
     Ok(())
 }
 
 /// Writes the document of a tree of files, or one line with the fault for which there is none, and
 /// returns the program's status. If no memory is left, or some value can't be written in its field,
-/// nothing is written. A fault is also reported to another writer, as is how many files state no
-/// licence or no notice.
+/// nothing is written. A fault is also reported to another writer, as is of how many files the
+/// document says no licence or no notice.
 pub fn gather<W: Write, T: Write>(
     alloc: Global,
     files: Vec<SourceFile>,
@@ -95,11 +100,11 @@ pub fn gather<W: Write, T: Write>(
         (IfUntold (Keeps (W.contents writer.old) (W.contents writer.new))) }
 {
     let answer = gathering_of(alloc, files, name, namespace, created)?;
-    let status = status_of(&answer);
+    let (status, gaps) = (status_of(&answer), answer.gaps());
     let text = answer.text(alloc)?;
     writer.write_all(text.as_bytes())?;
     writer.flush()?;
     // If that can't be reported, what is written still says it.
-    let _told = tell(alloc, status, text.as_str(), teller);
+    let _told = tell(alloc, gaps, text.as_str(), teller);
     Ok(status)
 }

@@ -1,6 +1,6 @@
 -- The answer for the document of a tree of files.
 use Rattle.std.specs.Prelude.{◌≡◌, ◌≤◌, ◌<◌, ℕ, Bool, true, false, List, [], ◌++◌, length, map}
-use Rattle.std.specs.Prelude.{codes, decimal, Ok, Err, All}
+use Rattle.std.specs.Prelude.{codes, decimal, Ok, Err, All, Option, Some, None}
 use Rattle.std.specs.String.{string_bytes}
 use Rattle.desk_tree_annotations.specs.Numbers.{kind_number}
 use Rattle.desk_base.specs.Limits.{document_bytes, document_elements}
@@ -13,6 +13,8 @@ use Rattle.desk_tree_gather.specs.declared.fault.GatherFault.TheVariants.{Expres
 use Rattle.desk_tree_gather.specs.declared.files.SourceFile.{SourceFile}
 use Rattle.desk_tree_infos.specs.Readers.{Reader}
 use Rattle.desk_tree_document.specs.Drafts.{Named, draft_of}
+use Rattle.desk_tree_document.specs.Gaps.{gaps_of}
+use Rattle.desk_tree_document.specs.declared.gaps.Gaps.{Gaps}
 use Rattle.desk_tree_document.specs.Shipping.{ShipsWhenRead}
 use Rattle.desk_tagvalue.specs.declared.drafts.Draft.{Draft}
 use Rattle.desk_tagvalue.specs.declared.drafts.DraftFile.{DraftFile}
@@ -52,11 +54,12 @@ IsReadBack d text = length text ≤ document_bytes → length d.files < document
     → (x : DocumentText) × Spells text (Ok x) × GivesDraft d x
 
 -- the answer for a tree: the text of its draft's lines, from which the draft is read back and which
--- ships its package, whose code agrees; or the fault because of which it has no draft
+-- ships its package, whose code agrees, and about how many files the draft says nothing; or the
+-- fault because of which it has no draft
 abbrev pub IsGathering : Reader → List SourceFile → Named → Gathering → Type 0
-IsGathering r files title (Document text) =
+IsGathering r files title (Document text gaps) =
     (d : Draft) × IsDraft r files title d × Adds [] (draft_lines d) (string_bytes text)
-    × IsReadBack d (string_bytes text) × ShipsWhenRead d (string_bytes text)
+    × IsReadBack d (string_bytes text) × ShipsWhenRead d (string_bytes text) × (gaps ≡ gaps_of d)
 IsGathering r files title (Fault fault) = (code : List ℕ) → draft_of r files title code ≡ Err fault
 
 -- it has a draft with a value that can't be in its field
@@ -65,13 +68,18 @@ IsUnwritable r files title = (d : Draft) × IsDraft r files title d
     × (All Stands (draft_lines d) → ⊥)
 
 abbrev pub gathering_text : Gathering → List ℕ
-gathering_text (Document text) = string_bytes text
+gathering_text (Document text gaps) = string_bytes text
 gathering_text (Fault fault) = fault_line fault
 
 -- whether it is a document
 abbrev pub is_document : Gathering → Bool
-is_document (Document text) = true
+is_document (Document text gaps) = true
 is_document (Fault fault) = false
+
+-- about how many files it says nothing, if it is one
+abbrev pub gaps_in : Gathering → Option Gaps
+gaps_in (Document text gaps) = Some gaps
+gaps_in (Fault fault) = None
 
 -- lack of memory is possible for any tree, `BadValue` only for one whose draft has such a value
 abbrev pub MayFail : Reader → List SourceFile → Named → TextFault → Type 0

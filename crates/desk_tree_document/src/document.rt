@@ -5,9 +5,10 @@ ghost use Rattle.std.specs.String.{string_bytes};
 ghost use Rattle.desk_tree_infos.specs.Readers.{Reader, IsRightReader};
 ghost use Rattle.desk_tagvalue.specs.Drafts.{draft_lines};
 ghost use Rattle.desk_tagvalue.specs.Written.{Adds, Stands};
-ghost use Rattle.desk_tree_document.specs.Gathering.{fault_line, gathering_text, is_document, IsGathering, IsReadBack, MayFail};
+ghost use Rattle.desk_tree_document.specs.Gathering.{fault_line, gaps_in, gathering_text, is_document, IsGathering, IsReadBack, MayFail};
 
 use crate::draft;
+use crate::gaps::{Gaps, gaps_of};
 use desk_tagvalue::{Draft, WriteFault, write};
 use desk_tree_gather::{GatherFault, SourceFile};
 use std::alloc::{AllocError, Global};
@@ -28,8 +29,8 @@ pub enum TextFault {
 /// The answer for the document of a tree.
 #[derive(Drop)]
 pub enum Gathering {
-    /// The text of the document.
-    Document(String),
+    /// The text of the document, and about how many files it says nothing.
+    Document(String, Gaps),
     /// Why nothing is gathered.
     Fault(GatherFault),
 }
@@ -78,8 +79,18 @@ impl Gathering {
         ensures { result ≡ is_document self.now }
     {
         match self {
-            Gathering::Document(_) => true,
+            Gathering::Document(_, _) => true,
             Gathering::Fault(_) => false,
+        }
+    }
+
+    /// About how many files the document says nothing, if it is one.
+    pub fn gaps(&self) -> Option<Gaps>
+        ensures { result ≡ gaps_in self.now }
+    {
+        match self {
+            Gathering::Document(_, gaps) => Some(*gaps),
+            Gathering::Fault(_) => None,
         }
     }
 
@@ -88,7 +99,7 @@ impl Gathering {
         ensures { IfOk result (λ text. string_bytes text ≡ gathering_text self) }
     {
         match self {
-            Gathering::Document(text) => Ok(text),
+            Gathering::Document(text, _) => Ok(text),
             Gathering::Fault(fault) => fault_line(alloc, &fault),
         }
     }
@@ -127,7 +138,10 @@ pub fn document_of(
         (record { name = name.now; namespace = namespace.now; created = created.now })) }
 {
     match draft(alloc, files, name, namespace, created) {
-        Ok(draft) => Ok(Gathering::Document(text_of(alloc, &draft)?)),
+        Ok(draft) => {
+            let gaps = gaps_of(&draft);
+            Ok(Gathering::Document(text_of(alloc, &draft)?, gaps))
+        }
         Err(GatherFault::Memory(error)) => Err(TextFault::Memory(error)),
         Err(fault) => Ok(Gathering::Fault(fault)),
     }

@@ -8,7 +8,8 @@
 //!   parentheses, and notices by line feeds. `draft` answers as it says for each reader that is
 //!   right by the definitions on which `desk_tree_gather` relies.
 //! - `document_of` is the draft's text, which `desk_tagvalue` writes, or the fault's line: its name
-//!   and each of its values after a space (`IsGathering` of `specs/Gathering.antt`).
+//!   and each of its values after a space (`IsGathering` of `specs/Gathering.antt`). With the text it
+//!   returns about how many files the draft says nothing (`specs/Gaps.antt`).
 //! - `drafts_ship` and `drafts_of_trees_ship` are laws: what such a text spells ships the draft's
 //!   package, and no other.
 #![tactic(auto)]
@@ -16,8 +17,10 @@
 mod document;
 mod drafting;
 mod files;
+mod gaps;
 pub mod laws;
 mod texts;
 
 pub use document::{Gathering, TextFault, document_of};
 pub use drafting::draft;
+pub use gaps::Gaps;

@@ -21,4 +21,5 @@ returns-in_ok-text_of-in-Ok-clause-ok c = λ r right.
       lines,
       c.in_ok-text_of-in-Ok.ensures.read,
       ships_tree r c.args.files.items title d text made whole,
+      c.gaps_of-gaps.ensures,
     )
