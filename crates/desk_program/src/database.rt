@@ -20,7 +20,7 @@ use desk_views::{page, show};
 use sqlite::{Alter, Connection};
 use sqlite_disk::{Disk, Unknown};
 use sqlite_store::FileStore;
-use std::alloc::{AllocError, Global};
+use std::alloc::Global;
 use std::io::{self, BufWriter, IsTerminal, Write};
 use std::rt::Stderr;
 
@@ -47,6 +47,12 @@ enum Task<'a> {
     Wanting { release: &'a Text },
     /// It serves this many connections over HTTP.
     Serve { port: u16, limit: u32 },
+}
+
+impl<'a> From<Query> for Task<'a> {
+    fn from(query: Query) -> Task<'a> {
+        Task::Show { query }
+    }
 }
 
 /// What is to be done with a file.
@@ -401,33 +407,27 @@ fn load(rt: &HostRuntime, path: &str, catalogue: &str) -> Result<u8, Failure> {
     }
 }
 
-/// The task of a desk for a call that needs no other file.
-fn task_of<'a>(call: &'a FileCall) -> Result<Option<Task<'a>>, AllocError> {
+/// Does what is asked of the desk that a file keeps, or of the file.
+pub fn answer(rt: &HostRuntime, path: &str, call: &FileCall) -> Result<u8, Failure> {
     let task = match call {
-        FileCall::Import { .. }
-        | FileCall::Catalogue { .. }
-        | FileCall::Audit
-        | FileCall::Migrate => return Ok(None),
-        FileCall::Notices { release } => Task::Show {
-            query: Query::Bill {
-                release: release.clone()?,
-            },
-        },
-        FileCall::Duties { release } => Task::Show {
-            query: Query::Duties {
-                release: release.clone()?,
-            },
-        },
-        FileCall::Totals { release } => Task::Show {
-            query: Query::Totals {
-                release: release.clone()?,
-            },
-        },
-        FileCall::Changes { duty } => Task::Show {
-            query: Query::Changes {
-                duty: u64::from(*duty),
-            },
-        },
+        FileCall::Import { document, profile } => {
+            return import(rt, path, document.as_str(), *profile);
+        }
+        FileCall::Catalogue { catalogue } => return load(rt, path, catalogue.as_str()),
+        FileCall::Audit => return work_in(rt, path, Work::Audit),
+        FileCall::Migrate => return migrate(rt, path),
+        FileCall::Notices { release } => Task::from(Query::Bill {
+            release: release.clone()?,
+        }),
+        FileCall::Duties { release } => Task::from(Query::Duties {
+            release: release.clone()?,
+        }),
+        FileCall::Totals { release } => Task::from(Query::Totals {
+            release: release.clone()?,
+        }),
+        FileCall::Changes { duty } => Task::from(Query::Changes {
+            duty: u64::from(*duty),
+        }),
         FileCall::List { list } => Task::List { list },
         FileCall::Page { release } => Task::Page { release },
         FileCall::Choices { release } => Task::Choices { release },
@@ -440,18 +440,5 @@ fn task_of<'a>(call: &'a FileCall) -> Result<Option<Task<'a>>, AllocError> {
             limit: *limit,
         },
     };
-    Ok(Some(task))
-}
-
-/// Does what is asked of the desk that a file keeps, or of the file.
-pub fn answer(rt: &HostRuntime, path: &str, call: &FileCall) -> Result<u8, Failure> {
-    if let Some(task) = task_of(call)? {
-        return do_in(rt, path, task);
-    }
-    match call {
-        FileCall::Import { document, profile } => import(rt, path, document.as_str(), *profile),
-        FileCall::Catalogue { catalogue } => load(rt, path, catalogue.as_str()),
-        FileCall::Migrate => migrate(rt, path),
-        _ => work_in(rt, path, Work::Audit),
-    }
+    do_in(rt, path, task)
 }
