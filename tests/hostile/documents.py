@@ -170,6 +170,16 @@ def beside_import(program, path, data, profile, desk):
     return b"" if wrong else told_beside(data, profile, desk.documents[0].shipped(), json.loads(reply)["rows"]), wrong
 
 
+def beside_refusal(data, err):
+    """What `desk import` says beside a refusal: why the bytes are no document in JSON either. If Python reads them as JSON, why is open."""
+    start = b"nor is it a document in JSON: "
+    try:
+        json.loads(data)
+    except (ValueError, RecursionError):
+        return start + b"NotJson\n"
+    return err if err.startswith(start) and err.count(b"\n") == 1 else start
+
+
 def from_a_file(program, data, profile):
     """What `desk import` says of a file, and that its desk is sound behind it."""
     desk = second_desk.SecondDesk()
@@ -180,6 +190,8 @@ def from_a_file(program, data, profile):
             out.write(data)
         done = program.run("import", "--db", path, "--profile", str(profile), file, size=len(data))
         beside, wrong = beside_import(program, path, data, profile, desk)
+        if b"refused" in wanted:
+            beside = beside_refusal(data, done.err)
         if wrong or (done.status, done.out, done.err) != (int(b"refused" in wanted), wanted, beside):
             return f"import: {done!r}, and not {wanted!r}, {beside!r}: {wrong}"
         done = program.run("audit", "--db", path, size=len(data))

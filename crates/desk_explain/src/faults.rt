@@ -138,7 +138,7 @@ pub(crate) const EXPRESSION_FAULTS: [Entry; 7] = [
 ];
 
 /// The other faults, of files and trees.
-pub(crate) const OTHER_FAULTS: [Entry; 3] = [
+pub(crate) const OTHER_FAULTS: [Entry; 8] = [
     Entry {
         name: "BadVersion",
         kind: Kind::OtherFault { place: "--db FILE" },
@@ -158,6 +158,36 @@ pub(crate) const OTHER_FAULTS: [Entry; 3] = [
         },
         meaning: Some("a file's licences can't be joined to one expression"),
         cause: Some("a limit of expressions"),
+    },
+    Entry {
+        name: "TooLarge",
+        kind: Kind::OtherFault { place: "JSON" },
+        meaning: Some("more than 64 MiB"),
+        cause: Some("a list of each file: write documents for parts of it"),
+    },
+    Entry {
+        name: "NotJson",
+        kind: Kind::OtherFault { place: "JSON" },
+        meaning: Some("the bytes aren't JSON in UTF-8, or nest more than 127 deep"),
+        cause: Some("a file cut short; another form of SPDX"),
+    },
+    Entry {
+        name: "Missing",
+        kind: Kind::OtherFault { place: "JSON" },
+        meaning: Some("a required member is missing at AT"),
+        cause: Some("a tool that leaves out names or ids; SPDX 3, or JSON of something else"),
+    },
+    Entry {
+        name: "BadType",
+        kind: Kind::OtherFault { place: "JSON" },
+        meaning: Some("the value at AT isn't of the type that SPDX 2.3 gives its member"),
+        cause: Some("a text instead of a list; SPDX 3"),
+    },
+    Entry {
+        name: "BadValue",
+        kind: Kind::OtherFault { place: "JSON" },
+        meaning: Some("the text at AT can't be in its tag-value field"),
+        cause: Some("a line end in a name or version, </text> in a notice, a blank in an id"),
     },
 ];
 

@@ -9,12 +9,17 @@ pub const CONVERT: Help = Help {
 Writes an SPDX document in JSON as a tag-value document
 
 JSON is a document of SPDX 2.2 or 2.3 in JSON, as many tools write it. What is written says the same of
-the document, its packages, files, extracted licences and relationships. Standard error counts what the
-desk doesn't read and is left out, as annotations and snippets.
+the document, its packages, files, extracted licences and relationships, and names its snippets. Standard
+error counts what the desk doesn't read and is left out, as annotations.
 
-A value that can't stand in a tag-value document is refused with its place, a JSON pointer (RFC 6901):
+What isn't converted is refused with its place, a JSON pointer (RFC 6901), unless it is no JSON or more
+than 64 MiB:
 
-  fault: BadValue at /packages/0/name",
+  fault: Missing at /packages/0/SPDXID    a required member is missing
+  fault: BadType at /packages             the value is of another type
+  fault: BadValue at /packages/0/name     the value can't stand in a tag-value document
+  fault: NotJson
+  fault: TooLarge",
     after_help: "\
 import takes such a document as it is. JSON may be /dev/stdin.
 

@@ -8,12 +8,15 @@ pub const IMPORT: Help = Help {
     long_about: "\
 Imports an SPDX document into the desk that a file keeps
 
-Reads a tag-value document (SPDX 2.1, 2.2 or 2.3) from DOC, imports it as the request import of script
-does, and prints the reply, one line of JSON:
+Reads a tag-value document (SPDX 2.1, 2.2 or 2.3) from DOC, or one in JSON (2.2 or 2.3), which it converts
+as desk convert does. Imports it as the request import of script does, and prints the reply, one line of
+JSON:
 
   {\"document\":N,\"new\":true}              it was taken in as document N
-  {\"document\":N,\"new\":false}             the same bytes stand already as document N
-  {\"at\":[..],\"name\":\"..\",\"refused\":..}   it was refused, and nothing was changed",
+  {\"document\":N,\"new\":false}             the same text stands already as document N
+  {\"at\":[..],\"name\":\"..\",\"refused\":..}   it was refused, and nothing was changed
+
+Standard error counts what of JSON is left out, or says why what was refused is no document in JSON.",
     after_help: "\
 A FILE that is not there, is empty, or is a database with no tables becomes an empty desk first.
 Any other that keeps no desk of this version is left as it is, and one line says so:

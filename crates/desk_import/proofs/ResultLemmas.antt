@@ -1,6 +1,6 @@
 -- The value of a text, the faults of a document, and the fields of its text.
 use Rattle.std.proofs.Common.{◌≡◌, ◌⊎◌, inl, inr, ℕ, List, [], ◌∷◌, ◌++◌, Bool, true, false, Some}
-use Rattle.std.proofs.Common.{None, Ok, refl, sym, subst, arith, IsUtf8, codes, append_assoc}
+use Rattle.std.proofs.Common.{None, Ok, refl, sym, subst, arith, IsUtf8, codes, append_assoc, ◌≤◌, length}
 use Rattle.std.specs.Prelude.{All, if◌then◌else◌}
 use Rattle.std.specs.Str.{is_utf8}
 use Rattle.std.proofs.lemmas.Str.{IsUtf8-from_is_utf8, is_utf8-from_IsUtf8}
@@ -19,23 +19,30 @@ use Rattle.desk_import.specs.declared.faults.ConvertFault.{ConvertFault}
 use Rattle.desk_import.specs.declared.faults.ConvertFault.TheVariants as faults
 use Rattle.desk_spdx_json.specs.Steps.{StepText, WhatText, put, left_out, missing, bad_type, bad_value}
 use Rattle.desk_spdx_json.specs.Documents.{document_steps}
-use Rattle.desk_import.specs.Results.{Goes, Passes, FailsAt, FailsFirst, IsRefused, json_of, line_in, lines_of}
+use Rattle.desk_import.specs.Results.{Goes, Passes, FailsAt, FailsFirst, IsRefused, json_bytes, json_in, json_of, line_in, lines_of}
 
 -- ---- the value of a text
 
-pub json_of-json : (bytes : List ℕ) (d : Data) → IsUtf8 bytes → read bytes ≡ Some d
-    → json_of bytes ≡ Some d
-json_of-json bytes d utf8 is = rw (is_utf8-from_IsUtf8 bytes utf8) is
+pub json_in-json : (bytes : List ℕ) (d : Data) → IsUtf8 bytes → read bytes ≡ Some d
+    → json_in bytes ≡ Some d
+json_in-json bytes d utf8 is = rw (is_utf8-from_IsUtf8 bytes utf8) is
 
 by_test : (bytes : List ℕ) (b : Bool) → is_utf8 bytes ≡ b → (IsUtf8 bytes → read bytes ≡ None)
     → (if b then read bytes else None) ≡ None
 by_test bytes true is none = none (IsUtf8-from_is_utf8 bytes is)
 by_test bytes false is none = refl
 
-pub json_of-other : (bytes : List ℕ) → (IsUtf8 bytes → read bytes ≡ None) → json_of bytes ≡ None
-json_of-other bytes none = by_test bytes (is_utf8 bytes) refl none
+pub json_in-other : (bytes : List ℕ) → (IsUtf8 bytes → read bytes ≡ None) → json_in bytes ≡ None
+json_in-other bytes none = by_test bytes (is_utf8 bytes) refl none
 
 -- ---- a fault of a step gives its place
+
+too_large : (at : List ℕ) (w : WhatText) → FailsAt at w faults.TooLarge → ⊥
+too_large at (put line) h = absurd (let e = h.0 in cc)
+too_large at (left_out kind) h = h
+too_large at missing h = cc
+too_large at bad_type h = cc
+too_large at bad_value h = cc
 
 not_json : (at : List ℕ) (w : WhatText) → FailsAt at w faults.NotJson → ⊥
 not_json at (put line) h = absurd (let e = h.0 in cc)
@@ -44,15 +51,26 @@ not_json at missing h = cc
 not_json at bad_type h = cc
 not_json at bad_value h = cc
 
-pub refused : (bytes : List ℕ) (d : Data) (fault : ConvertFault) → json_of bytes ≡ Some d
-    → (fault ≡ faults.Memory) ⊎ FailsFirst (document_steps d) fault
+pub refused : (bytes : List ℕ) (d : Data) (fault : ConvertFault) → length bytes ≤ json_bytes
+    → json_of bytes ≡ Some d → (fault ≡ faults.Memory) ⊎ FailsFirst (document_steps d) fault
     → (fault ≡ faults.Memory) ⊎ IsRefused bytes fault
-refused bytes d fault is (inl m) = inl m
-refused bytes d faults.Memory is (inr f) = inl refl
-refused bytes d faults.NotJson is (inr f) = absurd (not_json f.failing.at f.failing.what f.fails)
-refused bytes d (faults.Missing at) is (inr f) = inr (d, is, f)
-refused bytes d (faults.BadType at) is (inr f) = inr (d, is, f)
-refused bytes d (faults.BadValue at) is (inr f) = inr (d, is, f)
+refused bytes d fault few is (inl m) = inl m
+refused bytes d faults.Memory few is (inr f) = inl refl
+refused bytes d faults.TooLarge few is (inr f) =
+    absurd (too_large f.failing.at f.failing.what f.fails)
+refused bytes d faults.NotJson few is (inr f) =
+    absurd (not_json f.failing.at f.failing.what f.fails)
+refused bytes d (faults.Missing at) few is (inr f) = inr (few, d, is, f)
+refused bytes d (faults.BadType at) few is (inr f) = inr (few, d, is, f)
+refused bytes d (faults.BadValue at) few is (inr f) = inr (few, d, is, f)
+
+-- bytes that are no JSON
+pub refused_json : (bytes : List ℕ) (fault : ConvertFault) → length bytes ≤ json_bytes
+    → (fault ≡ faults.Memory) ⊎ ((fault ≡ faults.NotJson) × (json_of bytes ≡ None))
+    → (fault ≡ faults.Memory) ⊎ IsRefused bytes fault
+refused_json bytes fault few (inl m) = inl m
+refused_json bytes fault few (inr none) =
+    inr (subst (IsRefused bytes) (sym none.0) (few, none.1))
 
 -- ---- the text is read as the fields of its lines
 

@@ -1,3 +1,4 @@
 pub mod Results
+pub mod Intakes
 pub mod Summaries
 pub mod Proposals

@@ -1,6 +1,6 @@
 -- The text that steps give, and how they pass or fail.
-use Rattle.std.specs.Prelude.{◌≡◌, ◌⊎◌, ◌==◌, ℕ, Bool, false, List, [], ◌∷◌, ◌++◌, All, Option}
-use Rattle.std.specs.Prelude.{Some, None, Ok, count_by, if◌then◌else◌}
+use Rattle.std.specs.Prelude.{◌≡◌, ◌⊎◌, ◌==◌, ◌<◌, ◌≤◌, ℕ, Bool, false, List, [], ◌∷◌, ◌++◌, All}
+use Rattle.std.specs.Prelude.{Option, Some, None, Ok, count_by, length, if◌then◌else◌}
 use Rattle.std.specs.List.{flat_map}
 use Rattle.std.specs.Str.{is_utf8}
 use Rattle.std.specs.String.{string_bytes}
@@ -95,9 +95,17 @@ skipped_of steps = record {
 
 -- ---- the whole
 
+-- the bytes of the longest document in JSON that is converted
+abbrev pub json_bytes : ℕ
+json_bytes = 67108864
+
 -- the value whose JSON text the bytes are (RFC 8259)
+abbrev pub json_in : List ℕ → Option Data
+json_in bytes = if is_utf8 bytes then read bytes else None
+
+-- the same, if a byte order mark at the start is skipped (section 8.1)
 abbrev pub json_of : List ℕ → Option Data
-json_of bytes = if is_utf8 bytes then read bytes else None
+json_of bytes = json_in (behind_mark bytes)
 
 pub record IsOf (steps : List StepText) (c : Converted) : Type 0 where
   pub text : string_bytes c.text ≡ text_of_lines (lines_of steps)
@@ -105,15 +113,18 @@ pub record IsOf (steps : List StepText) (c : Converted) : Type 0 where
   pub skipped : c.skipped ≡ skipped_of steps
 
 abbrev pub IsConverted : List ℕ → Converted → Type 0
-IsConverted bytes c = (d : Data) × (json_of bytes ≡ Some d) × IsOf (document_steps d) c
+IsConverted bytes c = (length bytes ≤ json_bytes) × (d : Data) × (json_of bytes ≡ Some d)
+    × IsOf (document_steps d) c
 
 -- the text is read as the fields of the lines, in order, and as no others
 abbrev pub AreFields : List ℕ → List ℕ → Type 0
 AreFields bytes text = (d : Data) × (json_of bytes ≡ Some d)
     × Reads 1 (behind_mark text) (Ok (fields_of_lines 1 (lines_of (document_steps d))))
 
--- the bytes are no JSON, or some step of the document fails
+-- the bytes are too many, or no JSON, or some step of the document fails
 abbrev pub IsRefused : List ℕ → ConvertFault → Type 0
 IsRefused bytes faults.Memory = ⊥
-IsRefused bytes faults.NotJson = json_of bytes ≡ None
-IsRefused bytes fault = (d : Data) × (json_of bytes ≡ Some d) × FailsFirst (document_steps d) fault
+IsRefused bytes faults.TooLarge = json_bytes < length bytes
+IsRefused bytes faults.NotJson = (length bytes ≤ json_bytes) × (json_of bytes ≡ None)
+IsRefused bytes fault = (length bytes ≤ json_bytes) × (d : Data) × (json_of bytes ≡ Some d)
+    × FailsFirst (document_steps d) fault

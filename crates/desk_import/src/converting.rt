@@ -1,14 +1,16 @@
 //! The conversion of a document.
 
-ghost use Rattle.std.specs.Prelude.{◌≡◌, ◌⊎◌, Ok, IfOk, IfErr, List, ℕ, map};
+ghost use Rattle.std.specs.Prelude.{◌≡◌, ◌⊎◌, None, Some, IfOk, IfErr, map};
 ghost use Rattle.std.specs.String.{string_bytes};
 ghost use Rattle.serde_json.specs.View.{view};
 ghost use Rattle.desk_spdx_json.specs.Steps.{step_text};
 ghost use Rattle.desk_spdx_json.specs.Documents.{document_steps};
-ghost use Rattle.desk_import.specs.Results.{is_left, count_left, kind_number, skipped_of, IsOf, IsStopped, IsConverted, IsRefused, AreFields};
+ghost use Rattle.desk_fields.specs.Cutting.{behind_mark};
+ghost use Rattle.desk_import.specs.Results.{is_left, count_left, json_of, kind_number, skipped_of, IsOf, IsStopped, IsConverted, IsRefused, AreFields};
 
 use crate::faults::ConvertFault;
 use crate::writing::put_steps;
+use desk_base::limits::INPUT_BYTES;
 use desk_spdx_json::{Kind, Step, What};
 use serde_json::Value;
 use std::alloc::Global;
@@ -94,23 +96,46 @@ fn conversion_of(alloc: Global, value: &Value) -> Result<Converted, ConvertFault
     }
 }
 
-/// The tag-value document that says what the desk reads in an SPDX document in JSON.
+// The bytes without a byte order mark at their start.
+fn behind_mark(bytes: &[u8]) -> &[u8]
+    ensures { result.now ≡ behind_mark bytes.now }
+{
+    match bytes {
+        [0xEF, 0xBB, 0xBF, rest @ ..] => rest,
+        _ => bytes,
+    }
+}
+
+// The value whose JSON text the bytes are.
+fn value_of(alloc: Global, bytes: &[u8]) -> Result<Value, ConvertFault>
+    ensures ok { IfOk result (λ value. json_of bytes.now ≡ Some (view value)) }
+    ensures err { IfErr result
+        (λ e. (e ≡ ConvertFault.Memory) ⊎ ((e ≡ ConvertFault.NotJson) × (json_of bytes.now ≡ None))) }
+{
+    match Value::from_slice(alloc, behind_mark(bytes)) {
+        Ok(value) => Ok(value),
+        Err(error) if error.is_memory() => Err(ConvertFault::Memory),
+        Err(_) => Err(ConvertFault::NotJson),
+    }
+}
+
+/// The tag-value document that says what the desk reads in an SPDX document in JSON of at most 64
+/// MiB. A byte order mark at its start is skipped.
 pub fn convert(alloc: Global, bytes: &[u8]) -> Result<Converted, ConvertFault>
     // The text consists of the lines of the document's steps, all of which pass, and what is left
     // out is counted.
     ensures ok { IfOk result (λ c. IsConverted bytes.now c) }
     // The text has the fields of these lines and no others.
     ensures fields { IfOk result (λ c. AreFields bytes.now (string_bytes c.text)) }
-    // No memory was left, the bytes are no JSON, or this is the first step that doesn't pass.
+    // No memory was left, the bytes are too many or no JSON, or this is the first step that doesn't
+    // pass.
     ensures err { IfErr result (λ e. (e ≡ ConvertFault.Memory) ⊎ IsRefused bytes.now e) }
 {
-    match Value::from_slice(alloc, bytes) {
-        Ok(value) => {
-            let converted = conversion_of(alloc, &value);
-            drop(value);
-            converted
-        }
-        Err(error) if error.is_memory() => Err(ConvertFault::Memory),
-        Err(_) => Err(ConvertFault::NotJson),
+    if bytes.len() > INPUT_BYTES {
+        return Err(ConvertFault::TooLarge);
     }
+    let value = value_of(alloc, bytes)?;
+    let converted = conversion_of(alloc, &value);
+    drop(value);
+    converted
 }

@@ -8,6 +8,8 @@ use desk_base::Text;
 pub enum ConvertFault {
     /// No memory was left.
     Memory,
+    /// The bytes are more than 64 MiB.
+    TooLarge,
     /// The bytes are no JSON text in UTF-8.
     NotJson,
     /// A required member is missing.

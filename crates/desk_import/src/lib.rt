@@ -11,6 +11,9 @@
 //! linear in the number of bytes. Objects and arrays nest at most 127 deep, the limit of
 //! `serde_json`.
 //!
+//! `intake_of` decides what is imported of the bytes of a file (`specs/Intakes.antt`): what `read`
+//! takes as it is, and anything else as what it converts to, if it is a document in JSON.
+//!
 //! `summary_of` says how many packages a document has and ships, which of these have a conclusion
 //! of their own, and what in the document isn't as the standard has it (`specs/Summaries.antt`). A
 //! `Summary` prints as two lines. `proposals_of` proposes the declared licence of each package that
@@ -19,6 +22,7 @@
 
 mod converting;
 mod faults;
+mod intake;
 mod licences;
 mod proposals;
 mod summary;
@@ -26,5 +30,6 @@ mod writing;
 
 pub use converting::{Converted, Skipped, convert};
 pub use faults::ConvertFault;
+pub use intake::{Intake, Origin, intake_of};
 pub use proposals::{Proposals, proposals_of};
 pub use summary::{Standing, Summary, summary_of};

@@ -3,18 +3,19 @@
 ghost use Rattle.std.specs.Prelude.{◌≡◌, false, IfOk};
 
 use crate::differences::{Difference, first_difference};
-use crate::input::{bytes_at, require_file};
+use crate::input::{bytes_at, require_file, text_at};
 use crate::progress::Step;
 use crate::scripts::{self, Course};
 use crate::trouble::{trouble_at, trouble_of};
 use crate::{blocks, looking, progress, serving, summaries};
 use desk_base::{Items, Profile, Text};
+use desk_import::{Intake, Origin, intake_of};
 use desk_line::{FileCall, Listed};
 use desk_model::Query;
 use desk_store::{AdoptFault, CreateFault, MigrateFault, SqlDesk, audit_connection};
 use desk_subcommands::{
-    Failure, NoDesk, Teller, Trouble, catalogue, document_of, refuse_catalogue, refuse_conversion,
-    refuse_database, tell_migration, tell_report, text_of,
+    Failure, NoDesk, Teller, Trouble, catalogue, refuse_catalogue, refuse_database, tell_migration,
+    tell_report, text_of,
 };
 use desk_views::{page, show};
 use sqlite::{Alter, Connection};
@@ -28,25 +29,48 @@ use std::rt::Stderr;
 #[derive(Drop)]
 enum Task<'a> {
     /// It replies to the requests of standard input.
-    Script { course: Course },
+    Script {
+        course: Course,
+    },
     /// It imports a document.
-    Import { bytes: Items<u8>, profile: Profile },
+    Import {
+        bytes: Items<u8>,
+        profile: Profile,
+        origin: &'a Origin,
+    },
     /// It loads a catalogue.
-    Load { text: Text },
+    Load {
+        text: Text,
+    },
     /// It writes the text of an answer.
-    Show { query: Query },
+    Show {
+        query: Query,
+    },
     /// It writes a list of what it holds.
-    List { list: &'a Listed },
+    List {
+        list: &'a Listed,
+    },
     /// It writes a page on a release.
-    Page { release: &'a Text },
+    Page {
+        release: &'a Text,
+    },
     /// It writes the choices for packages that have only one.
-    Choices { release: &'a Text },
+    Choices {
+        release: &'a Text,
+    },
     /// It writes what is proposed for a document.
-    Proposals { document: u32 },
+    Proposals {
+        document: u32,
+    },
     /// It writes what keeps a release from being frozen.
-    Wanting { release: &'a Text },
+    Wanting {
+        release: &'a Text,
+    },
     /// It serves this many connections over HTTP.
-    Serve { port: u16, limit: u32 },
+    Serve {
+        port: u16,
+        limit: u32,
+    },
 }
 
 impl<'a> From<Query> for Task<'a> {
@@ -187,8 +211,13 @@ fn do_task<S: Alter + Drop, W: Write>(
     let alloc = rt.alloc();
     match task {
         Task::Script { course } => scripts::script(rt, desk, writer, course),
-        Task::Import { bytes, profile } => {
-            desk_subcommands::import(alloc, desk, bytes, profile, writer, &mut teller(rt))
+        Task::Import {
+            bytes,
+            profile,
+            origin,
+        } => {
+            let mut teller = teller(rt);
+            desk_subcommands::import(alloc, desk, bytes, profile, origin, writer, &mut teller)
         }
         Task::Load { text } => catalogue(alloc, desk, text, writer, &mut teller(rt)),
         Task::Show { query } => {
@@ -383,14 +412,19 @@ pub fn script(rt: &HostRuntime, path: &str, course: Course) -> Result<u8, Failur
 
 /// Lets the desk that a file keeps import the document of another file.
 fn import(rt: &HostRuntime, path: &str, document: &str, profile: Profile) -> Result<u8, Failure> {
-    let alloc = rt.alloc();
-    let bytes = match document_of(alloc, bytes_at(rt, document)?) {
-        Ok(bytes) => bytes,
-        Err(fault) => return refuse_conversion(alloc, fault, &mut io::writer(rt)),
+    let Intake {
+        bytes,
+        origin,
+        summary,
+    } = intake_of(rt.alloc(), bytes_at(rt, document)?, profile)?;
+    let task = Task::Import {
+        bytes: Items::from_vec(bytes),
+        profile,
+        origin: &origin,
     };
-    let summary = summaries::summary(alloc, bytes.as_slice(), profile);
-    let bytes = Items::from_vec(bytes);
-    let status = do_in(rt, path, Task::Import { bytes, profile })?;
+    let told = do_in(rt, path, task);
+    drop(origin);
+    let status = told?;
     if status == 0 {
         summaries::tell(rt, profile, summary);
     }
@@ -400,7 +434,7 @@ fn import(rt: &HostRuntime, path: &str, document: &str, profile: Profile) -> Res
 /// Lets the desk that a file keeps load the catalogue of another file.
 fn load(rt: &HostRuntime, path: &str, catalogue: &str) -> Result<u8, Failure> {
     let alloc = rt.alloc();
-    let bytes = bytes_at(rt, catalogue)?;
+    let bytes = text_at(rt, catalogue)?;
     match text_of(alloc, bytes.as_slice())? {
         Some(text) => do_in(rt, path, Task::Load { text }),
         None => refuse_catalogue(alloc, &mut io::writer(rt), &mut teller(rt)),

@@ -17,14 +17,12 @@ fn drop_last_character(bytes: &mut Vec<u8>) {
     }
 }
 
+// The bytes of a file. One byte too many shows that the file is longer than what is taken of it.
 fn read_at<R: Files + AllocGlobal + Clone + Drop>(rt: &R, path: &str) -> io::Result<Vec<u8>> {
     let mut bytes = Vec::new(rt.alloc());
     File::open(rt, path)?
-        .take(INPUT_BYTES as u64)
+        .take(INPUT_BYTES as u64 + 1)
         .read_to_end(&mut bytes)?;
-    if bytes.len() >= INPUT_BYTES {
-        drop_last_character(&mut bytes);
-    }
     Ok(bytes)
 }
 
@@ -36,7 +34,7 @@ fn unreadable(alloc: Global, path: &str, error: io::Error) -> Failure {
     }
 }
 
-/// The bytes of the file at a path, or the first 64 MiB if it is longer.
+/// The bytes of the file at a path, or the first 64 MiB and a byte if it is longer.
 pub fn bytes_at<R: Files + AllocGlobal + Clone + Drop>(
     rt: &R,
     path: &str,
@@ -45,6 +43,15 @@ pub fn bytes_at<R: Files + AllocGlobal + Clone + Drop>(
         Ok(bytes) => Ok(bytes),
         Err(error) => Err(unreadable(rt.alloc(), path, error)),
     }
+}
+
+/// The same for a text: without its last character if the file is longer.
+pub fn text_at(rt: &HostRuntime, path: &str) -> Result<Vec<u8>, Failure> {
+    let mut bytes = bytes_at(rt, path)?;
+    if bytes.len() > INPUT_BYTES {
+        drop_last_character(&mut bytes);
+    }
+    Ok(bytes)
 }
 
 /// Fails if there is no file at a path, since opening it would create one.

@@ -1,14 +1,19 @@
--- What `convert` writes, and what `import` takes as a document.
-use Rattle.std.specs.Prelude.{◌≡◌, ◌⊎◌, ◌==◌, ◌||◌, ◌++◌, ◌∷◌, [], ℕ, Bool, false, List, if◌then◌else◌, codes}
+-- What `convert` writes, and what is reported of a document in JSON.
+use Rattle.std.specs.Prelude.{◌≡◌, ◌⊎◌, ◌++◌, ◌∷◌, [], ℕ, List, codes, decimal}
 use Rattle.std.specs.String.{string_bytes}
 use Rattle.desk_import.specs.Results.{IsConverted, IsRefused}
 use Rattle.desk_import.specs.declared.converting.Converted.{Converted}
+use Rattle.desk_import.specs.declared.converting.Skipped.{Skipped}
 use Rattle.desk_import.specs.declared.faults.ConvertFault.{ConvertFault}
-use Rattle.desk_import.specs.declared.faults.ConvertFault.TheVariants.{Memory, NotJson, Missing, BadType, BadValue}
+use Rattle.desk_import.specs.declared.faults.ConvertFault.TheVariants.{Memory, TooLarge, NotJson}
+use Rattle.desk_import.specs.declared.faults.ConvertFault.TheVariants.{Missing, BadType, BadValue}
+use Rattle.desk_import.specs.declared.intake.Origin.{Origin}
+use Rattle.desk_import.specs.declared.intake.Origin.TheVariants.{TagValue, Json, Neither}
 
 -- the name of a fault, and where in the document it is
 abbrev pub fault_words : ConvertFault → List ℕ
 fault_words Memory = codes "Memory"
+fault_words TooLarge = codes "TooLarge"
 fault_words NotJson = codes "NotJson"
 fault_words (Missing at) = codes "Missing at " ++ at
 fault_words (BadType at) = codes "BadType at " ++ at
@@ -18,6 +23,14 @@ fault_words (BadValue at) = codes "BadValue at " ++ at
 abbrev pub convert_fault_line : ConvertFault → List ℕ
 convert_fault_line fault = (codes "fault: " ++ fault_words fault) ++ 10 ∷ []
 
+-- the line of what is left out
+abbrev pub left_out_line : Skipped → List ℕ
+left_out_line s =
+    codes "left out: " ++ (decimal s.annotations ++ (codes " annotations, "
+    ++ (decimal s.external_references ++ (codes " external references, "
+    ++ (decimal s.external_documents ++ (codes " references to documents, "
+    ++ (decimal s.fields ++ codes " other fields\n")))))))
+
 -- the converted document, or the line of the fault, and the program's status
 abbrev pub Converts : List ℕ → List ℕ → ℕ → Type 0
 Converts bytes text status =
@@ -25,11 +38,10 @@ Converts bytes text status =
     ⊎ ((fault : ConvertFault) × IsRefused bytes fault × (text ≡ convert_fault_line fault)
     × (status ≡ 1))
 
--- a blank, a tab, a line feed or a carriage return (RFC 8259)
-abbrev pub is_json_blank : ℕ → Bool
-is_json_blank byte = (byte == 32) || ((byte == 9) || ((byte == 10) || (byte == 13)))
-
--- the first byte that isn't blank opens a JSON object
-abbrev pub begins_object : List ℕ → Bool
-begins_object [] = false
-begins_object (byte ∷ bytes) = if is_json_blank byte then begins_object bytes else byte == 123
+-- the lines on what a file is whose bytes are imported: nothing of a tag-value document, what is
+-- left out of one in JSON, and why other bytes are none in JSON
+abbrev pub origin_text : Origin → List ℕ
+origin_text TagValue = []
+origin_text (Json skipped) = left_out_line skipped
+origin_text (Neither fault) =
+    (codes "nor is it a document in JSON: " ++ fault_words fault) ++ 10 ∷ []

@@ -1,82 +1,91 @@
-//! SPDX documents in JSON, taken as the tag-value documents that say the same.
+//! SPDX documents in JSON, written as the tag-value documents that say the same.
 
-ghost use Rattle.std.specs.Prelude.{◌≡◌, ◌⊎◌, ◌++◌, true, false, ℕ, List, IfOk, IfErr, OnOk, codes};
+ghost use Rattle.std.specs.Prelude.{◌≡◌, ◌++◌, ◌∷◌, [], ℕ, List, IfOk, IfErr, OnOk, codes};
 ghost use Rattle.std.specs.String.{string_bytes};
 ghost use Rattle.std.specs.Io.KnownBytes.{Appends, Keeps};
-ghost use Rattle.desk_import.specs.Results.{IsConverted, IsRefused};
-ghost use Rattle.desk_import.specs.declared.converting.Converted.{Converted as Made};
-ghost use Rattle.desk_subcommands.specs.Converting.{begins_object, convert_fault_line, Converts, fault_words, is_json_blank};
+ghost use Rattle.desk_subcommands.specs.Converting.{convert_fault_line, Converts, fault_words, left_out_line, origin_text};
 ghost use Rattle.desk_subcommands.specs.Failures.{IfMemory, IsOfOutput};
 
 use crate::failure::Failure;
 use crate::filing::{write_line, write_text};
 use desk_base::Text;
-use desk_import::{ConvertFault, Skipped};
+use desk_import::{ConvertFault, Origin, Skipped};
 use std::alloc::{AllocError, Global};
 use std::io::Write;
 
-fn is_json_blank(byte: u8) -> bool
-    ensures { result ≡ is_json_blank byte }
+// The name of a fault and its place.
+fn words_at(alloc: Global, name: &str, at: &Text) -> Result<String, AllocError>
+    ensures { IfOk result (λ words. string_bytes words ≡ name.now ++ at.now) }
 {
-    matches!(byte, b' ' | b'\t' | b'\n' | b'\r')
+    let mut words = String::from_str(alloc, name)?;
+    words.push_str(at.as_str())?;
+    Ok(words)
 }
 
-/// Whether bytes are a JSON object rather than a tag-value document: their first byte that isn't
-/// blank opens an object.
-fn begins_object(bytes: &[u8]) -> bool
-    ensures { result ≡ begins_object bytes.now }
+// The name of a fault, and where in the document it is.
+fn fault_words(alloc: Global, fault: &ConvertFault) -> Result<String, AllocError>
+    ensures { IfOk result (λ words. string_bytes words ≡ fault_words fault.now) }
 {
-    for byte in bytes {
-        if !is_json_blank(*byte) {
-            return *byte == b'{';
-        }
+    match fault {
+        ConvertFault::Memory => String::from_str(alloc, "Memory"),
+        ConvertFault::TooLarge => String::from_str(alloc, "TooLarge"),
+        ConvertFault::NotJson => String::from_str(alloc, "NotJson"),
+        ConvertFault::Missing(at) => words_at(alloc, "Missing at ", at),
+        ConvertFault::BadType(at) => words_at(alloc, "BadType at ", at),
+        ConvertFault::BadValue(at) => words_at(alloc, "BadValue at ", at),
     }
-    false
-}
-
-/// The tag-value document that the bytes are or, if they are an SPDX document in JSON, the one that
-/// says the same.
-pub fn document_of(alloc: Global, bytes: Vec<u8>) -> Result<Vec<u8>, ConvertFault>
-    ensures same { begins_object bytes.items ≡ false
-        → IfOk result (λ text. text.items ≡ bytes.items) }
-    ensures ok { begins_object bytes.items ≡ true → IfOk result (λ text. (c : Made)
-        × IsConverted bytes.items c × (text.items ≡ string_bytes c.text)) }
-    ensures err { IfErr result (λ fault. (begins_object bytes.items ≡ true)
-        × ((fault ≡ ConvertFault.Memory) ⊎ IsRefused bytes.items fault)) }
-{
-    if !begins_object(bytes.as_slice()) {
-        return Ok(bytes);
-    }
-    let converted = desk_import::convert(alloc, bytes.as_slice())?;
-    Ok(converted.text.into_bytes())
-}
-
-/// Adds the name of a fault and its place.
-fn add_place(line: &mut String, name: &str, place: &Text) -> Result<(), AllocError>
-    ensures { OnOk result (string_bytes line.new
-        ≡ (string_bytes line.old ++ name.now) ++ place.now) }
-{
-    line.push_str(name)?;
-    line.push_str(place.as_str())?;
-    Ok(())
 }
 
 fn fault_text(alloc: Global, fault: &ConvertFault) -> Result<String, AllocError>
     ensures { IfOk result (λ line. string_bytes line ≡ codes "fault: " ++ fault_words fault.now) }
 {
+    let words = fault_words(alloc, fault)?;
     let mut line = String::from_str(alloc, "fault: ")?;
-    match fault {
-        ConvertFault::Memory => line.push_str("Memory")?,
-        ConvertFault::NotJson => line.push_str("NotJson")?,
-        ConvertFault::Missing(at) => add_place(&mut line, "Missing at ", at)?,
-        ConvertFault::BadType(at) => add_place(&mut line, "BadType at ", at)?,
-        ConvertFault::BadValue(at) => add_place(&mut line, "BadValue at ", at)?,
-    }
+    line.push_str(words.as_str())?;
     Ok(line)
 }
 
-/// Writes why a document isn't converted, as a line, and returns the program's status.
-pub fn refuse_conversion<W: Write>(
+// The line of what is left out of a document in JSON.
+fn left_out_line(alloc: Global, skipped: Skipped) -> Result<String, AllocError>
+    ensures { IfOk result (λ line. string_bytes line ≡ left_out_line skipped) }
+{
+    let Skipped {
+        external_documents,
+        annotations,
+        external_references,
+        fields,
+    } = skipped;
+    format!(in alloc;
+        "left out: {annotations} annotations, {external_references} external references, {external_documents} references to documents, {fields} other fields\n"
+    )
+}
+
+// The line of why bytes that are no tag-value document are none in JSON either.
+fn neither_line(alloc: Global, fault: &ConvertFault) -> Result<String, AllocError>
+    ensures { IfOk result (λ line. string_bytes line
+        ≡ (codes "nor is it a document in JSON: " ++ fault_words fault.now) ++ 10 ∷ []) }
+{
+    let words = fault_words(alloc, fault)?;
+    let mut line = String::from_str(alloc, "nor is it a document in JSON: ")?;
+    line.push_str(words.as_str())?;
+    line.push_str("\n")?;
+    Ok(line)
+}
+
+/// The lines on what a file is whose bytes are imported: what is left out of a document in JSON, or
+/// why bytes that are no document aren't one in JSON either.
+pub(crate) fn origin_text(alloc: Global, origin: &Origin) -> Result<String, AllocError>
+    ensures { IfOk result (λ text. string_bytes text ≡ origin_text origin.now) }
+{
+    match origin {
+        Origin::TagValue => Ok(String::new(alloc)),
+        Origin::Json(skipped) => left_out_line(alloc, *skipped),
+        Origin::Neither(fault) => neither_line(alloc, fault),
+    }
+}
+
+// Writes why a document isn't converted, as a line, and returns the program's status.
+fn refuse_conversion<W: Write>(
     alloc: Global,
     fault: ConvertFault,
     writer: &mut W,
@@ -98,17 +107,12 @@ pub fn refuse_conversion<W: Write>(
     Ok(1)
 }
 
-// Reports how much of a document the desk doesn't read. The text itself may go into a file.
-fn tell_skipped<T: Write>(alloc: Global, skipped: Skipped, teller: &mut T) -> Result<(), Failure> {
-    let Skipped {
-        external_documents,
-        annotations,
-        external_references,
-        fields,
-    } = skipped;
-    let line = format!(in alloc;
-        "left out: {annotations} annotations, {external_references} external references, {external_documents} references to documents, {fields} other fields\n"
-    )?;
+// Reports how much of a document is left out. The text itself may go into a file.
+fn tell_skipped<T: Write>(alloc: Global, skipped: Skipped, teller: &mut T) -> Result<(), Failure>
+    ensures told { OnOk result
+        (Appends (T.contents teller.old) (T.contents teller.new) (left_out_line skipped)) }
+{
+    let line = left_out_line(alloc, skipped)?;
     teller.write_all(line.as_bytes())?;
     Ok(())
 }

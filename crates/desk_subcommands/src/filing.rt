@@ -14,6 +14,7 @@ use crate::failure::Failure;
 use crate::teller::Teller;
 use desk_base::{Items, Text};
 use desk_core::desk::Desk;
+use desk_import::Origin;
 use desk_json::{memory_line, reply_line};
 use desk_model::{Answer, CatalogueFault, Command, Fault, Outcome, Profile, Refusal};
 use desk_snapshot::AuditFault;
@@ -157,12 +158,14 @@ fn answer<W: Write, E: Write>(
 
 /// Lets a desk import a document, as the request `import` does, writes the reply as a line, and
 /// returns the program's status. If the desk fails, both the reply and the failure say so. If the
-/// reply can't be written, what the desk did is not undone.
+/// reply can't be written, what the desk did is not undone. What the file of the bytes is, is
+/// reported besides the reply.
 pub fn import<D: Desk, W: Write, E: Write>(
     alloc: Global,
     desk: &mut D,
     bytes: Items<u8>,
     profile: Profile,
+    origin: &Origin,
     writer: &mut W,
     teller: &mut Teller<E>,
 ) -> Result<u8, Failure>
@@ -179,7 +182,9 @@ pub fn import<D: Desk, W: Write, E: Write>(
         (IfMemory (Keeps (W.contents writer.old) (W.contents writer.new))) }
 {
     let outcome = import_bytes(desk, bytes, profile);
-    answer(alloc, outcome, writer, teller)
+    let told = answer(alloc, outcome, writer, teller);
+    teller.report(origin);
+    told
 }
 
 /// Lets a desk load a catalogue, as the request `catalogue` does, writes the reply as a line, and

@@ -13,8 +13,8 @@
 //!   which version to which a file was migrated (`specs/Migrating.antt`).
 //! - `gather` writes the document of a tree of files (`specs/Gathering.antt`), and `lint` what is
 //!   wrong in it (`specs/Linting.antt`).
-//! - `convert` writes the tag-value document that says the same as one in JSON, and `document_of`
-//!   takes either (`specs/Converting.antt`).
+//! - `convert` writes the tag-value document that says the same as one in JSON
+//!   (`specs/Converting.antt`).
 //! - `explain` writes what a name means (`specs/Meaning.antt`).
 //! - `tell` writes the reply to a request, and a `Teller` says in words why it was refused.
 //!   `desk_views` has the subcommands that show what a desk holds or propose.
@@ -39,7 +39,7 @@ mod trouble;
 
 pub use auditing::tell_report;
 pub use checking::check;
-pub use converting::{convert, document_of, refuse_conversion};
+pub use converting::convert;
 pub use explaining::Explainer;
 pub use failure::Failure;
 pub use filing::{

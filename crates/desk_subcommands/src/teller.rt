@@ -1,8 +1,12 @@
 //! Explains in words why a request isn't done, if somebody reads them.
 
-ghost use Rattle.std.specs.Prelude.{◌≡◌};
+ghost use Rattle.std.specs.Prelude.{◌≡◌, OnOk};
+ghost use Rattle.std.specs.Io.KnownBytes.{Appends};
+ghost use Rattle.desk_subcommands.specs.Converting.{origin_text};
 
+use crate::converting::origin_text;
 use crate::failure::Failure;
+use desk_import::Origin;
 use desk_model::{Answer, Outcome};
 use desk_words::RefusalWords;
 use std::alloc::{AllocError, Global};
@@ -47,6 +51,21 @@ impl<E: Write> Teller<E> {
             self.writer.write_all(line.as_bytes())?;
         }
         Ok(())
+    }
+
+    fn write_origin(&mut self, origin: &Origin) -> Result<(), Failure>
+        ensures { OnOk result (Appends (E.contents self.old.writer) (E.contents self.new.writer)
+            (origin_text origin.now)) }
+    {
+        let text = origin_text(self.alloc, origin)?;
+        self.writer.write_all(text.as_bytes())?;
+        Ok(())
+    }
+
+    /// Reports what a file is whose bytes were imported, whoever reads it.
+    pub fn report(&mut self, origin: &Origin) {
+        // If it can't be written, there is nobody left to tell.
+        let _told = self.write_origin(origin);
     }
 
     /// Explains why a request isn't done, by its outcome.

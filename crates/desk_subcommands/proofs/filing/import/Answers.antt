@@ -9,13 +9,13 @@ returns-clause-done g c = answered
     (Comes g.D.Desk.are_right g.D.Desk.tells g.D.Desk.stands (Import c.args.bytes c.args.profile)
     (g.D.Desk.seen c.args.desk.now) (g.D.Desk.seen c.import_bytes-outcome.new.desk))
     (λ answer. outcome_line (Answered answer)) (g.W.Write.contents c.args.writer.now)
-    (g.W.Write.contents c.answer.new.writer) c.import_bytes-outcome.result c.answer.result
-    c.import_bytes-outcome.ensures c.answer.ensures.done
+    (g.W.Write.contents c.answer-told.new.writer) c.import_bytes-outcome.result c.answer-told.result
+    c.import_bytes-outcome.ensures c.answer-told.ensures.done
 
 pub returns-clause-failed : goal.returns-clause-failed
 returns-clause-failed g c = failed
     (Comes g.D.Desk.are_right g.D.Desk.tells g.D.Desk.stands (Import c.args.bytes c.args.profile)
     (g.D.Desk.seen c.args.desk.now) (g.D.Desk.seen c.import_bytes-outcome.new.desk))
     (λ answer. outcome_line (Answered answer)) (g.W.Write.contents c.args.writer.now)
-    (g.W.Write.contents c.answer.new.writer) c.import_bytes-outcome.result c.answer.result
-    c.import_bytes-outcome.ensures c.answer.ensures.failed
+    (g.W.Write.contents c.answer-told.new.writer) c.import_bytes-outcome.result c.answer-told.result
+    c.import_bytes-outcome.ensures c.answer-told.ensures.failed

@@ -1,0 +1,36 @@
+-- What is imported of the bytes of a file.
+use Rattle.std.specs.Prelude.{◌≡◌, ℕ, List, Option, Some, None, Result, Ok, Err, IfOk}
+use Rattle.std.specs.declared.alloc.AllocError.{AllocError}
+use Rattle.std.specs.String.{string_bytes}
+use Rattle.desk_expr.specs.Tree.{Tree}
+use Rattle.desk_fields.specs.declared.fault.DocFault.{DocFault}
+use Rattle.desk_tagvalue.specs.Documents.{Spells}
+use Rattle.desk_tagvalue.specs.Parts.{DocumentText}
+use Rattle.desk_import.specs.Results.{IsConverted, IsRefused}
+use Rattle.desk_import.specs.Summaries.{IsSummary}
+use Rattle.desk_import.specs.declared.converting.Converted.{Converted}
+use Rattle.desk_import.specs.declared.intake.Origin.{Origin}
+use Rattle.desk_import.specs.declared.intake.Origin.TheVariants.{TagValue, Json, Neither}
+use Rattle.desk_import.specs.declared.summary.Summary.{Summary}
+
+-- the bytes spell a tag-value document, or none
+abbrev pub IsDocument : List ℕ → Type 0
+IsDocument bytes = (d : DocumentText) × Spells bytes (Ok d)
+
+abbrev pub IsNoDocument : List ℕ → Type 0
+IsNoDocument bytes = (fault : DocFault) × Spells bytes (Err fault)
+
+-- a tag-value document is imported as it is, whatever its bytes are as JSON; what is none, as the
+-- tag-value document that it converts to; and what is neither, as it is, so that it is refused
+abbrev pub Takes : List ℕ → List ℕ → Origin → Type 0
+Takes bytes taken TagValue = IsDocument bytes × (taken ≡ bytes)
+Takes bytes taken (Json skipped) = IsNoDocument bytes × (c : Converted) × IsConverted bytes c
+    × (taken ≡ string_bytes c.text) × (skipped ≡ c.skipped)
+Takes bytes taken (Neither fault) = IsNoDocument bytes × IsRefused bytes fault × (taken ≡ bytes)
+
+-- the summary of the document that bytes spell, unless no memory was left for it; no summary if
+-- they spell none
+abbrev pub IsFound : (List ℕ → Option Tree) → List ℕ → Option (Result Summary AllocError) → Type 0
+IsFound reads taken None = IsNoDocument taken
+IsFound reads taken (Some found) = (d : DocumentText) × Spells taken (Ok d)
+    × IfOk found (IsSummary reads d)
