@@ -23,6 +23,7 @@
 mod converting;
 mod faults;
 mod intake;
+pub mod laws;
 mod licences;
 mod proposals;
 mod summary;
