@@ -1,12 +1,12 @@
 -- Fields at most once, and columns by their names.
 use Rattle.std.proofs.Common.{◌≡◌, ◌∙◌, ℕ, ◌+◌, ◌≤◌, Bool, true, false, cond, List, [], ◌∷◌, map, refl}
 use Rattle.std.proofs.Common.{sym, ap, subst, arith, Option, Some, None, Result, Ok, get_or}
-use Rattle.std.specs.Prelude.{◌&&◌, ◌||◌, not, is_some, All, filter}
-use Rattle.std.specs.List.{count_by, list_any}
+use Rattle.std.specs.Prelude.{◌&&◌, ◌||◌, not, is_some, All, filter, codes, nat_eq}
+use Rattle.std.specs.List.{count_by, list_any, starts_with}
 use Rattle.std.proofs.lemmas.Bool.{eqb-true}
 use Rattle.std.proofs.lemmas.List.Elements.{All-nil, All-cons}
 use Rattle.std.proofs.lemmas.List.Sums.{sum_by-cons, take_while-cons}
-use Rattle.desk_fields.specs.Tags.{same_tag, tag_place}
+use Rattle.desk_fields.specs.Tags.{same_tag, tag_name, tag_place}
 use Rattle.desk_fields.specs.declared.fault.DocFault.{DocFault}
 use Rattle.desk_fields.specs.declared.fault.DocFault.TheVariants as faults
 use Rattle.desk_fields.specs.declared.tag.Tag.{Tag}
@@ -22,7 +22,7 @@ use Rattle.desk_tagvalue.specs.Missing.{missing_of}
 use Rattle.desk_tagvalue.specs.Parts.{DocumentText, Section, begins_with, document_of, extracted_of}
 use Rattle.desk_tagvalue.specs.Parts.{file_of, head_of, is_inside, package_of, section_at}
 use Rattle.desk_tagvalue.specs.Parts.{sections_of, snippet_of}
-use Rattle.desk_tagvalue.specs.Sections.{is_placed, once_in_document, once_in_section, section_begun}
+use Rattle.desk_tagvalue.specs.Sections.{is_package, is_placed, once_in_document, once_in_section, section_begun}
 use Rattle.desk_tagvalue.specs.declared.sections.SectionKind.{SectionKind}
 use Rattle.desk_tagvalue.proofs.SeenLemmas.{again_in_document, again_in_section}
 
@@ -381,3 +381,16 @@ pub columns_when_read : (bytes : List ℕ) (d : DocumentText) → Spells bytes (
 columns_when_read bytes d spells =
     let found = read bytes (Ok d) spells d refl in
     subst HasColumns (sym found.is) (columns found.entries)
+
+-- ---- where fields of packages count
+
+pub package_alone : (kind : SectionKind) (tag : Tag)
+    → starts_with nat_eq (tag_name tag) (codes "Package") ≡ true
+    → same_tag tag tags.PackageName ≡ false → is_placed kind tag ≡ is_package kind
+package_alone kind tags.PackageVersion named other = refl
+package_alone kind tags.DownloadLocation named other = refl
+package_alone kind tags.VerificationCode named other = refl
+package_alone kind tags.PackageConcluded named other = refl
+package_alone kind tags.PackageDeclared named other = refl
+package_alone kind tags.PackageCopyright named other = refl
+package_alone kind _ named other = absurd cc
