@@ -34,7 +34,7 @@ MOST_WORDS = {
     "docs/HTTP.md": 1_100,
     "docs/LINT.md": 1_020,
     "docs/PROVED.md": 4_400,
-    "docs/REFUSALS.md": 1_650,
+    "docs/REFUSALS.md": 1_700,
     "docs/REPORTS.md": 1_260,
     "docs/REQUESTS.md": 3_000,
     "docs/SPEED.md": 1_500,

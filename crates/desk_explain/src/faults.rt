@@ -138,7 +138,7 @@ pub(crate) const EXPRESSION_FAULTS: [Entry; 7] = [
 ];
 
 /// The other faults, of files and trees.
-pub(crate) const OTHER_FAULTS: [Entry; 8] = [
+pub(crate) const OTHER_FAULTS: [Entry; 9] = [
     Entry {
         name: "BadVersion",
         kind: Kind::OtherFault { place: "--db FILE" },
@@ -188,6 +188,14 @@ pub(crate) const OTHER_FAULTS: [Entry; 8] = [
         kind: Kind::OtherFault { place: "JSON" },
         meaning: Some("the text at AT can't be in its tag-value field"),
         cause: Some("a line end in a name or version, </text> in a notice, a blank in an id"),
+    },
+    Entry {
+        name: "origin",
+        kind: Kind::OtherFault {
+            place: "desk serve",
+        },
+        meaning: Some("a browser sent the request for a page of elsewhere; nothing was done"),
+        cause: Some("a page of another address, or a name that was bound to the desk's"),
     },
 ];
 

@@ -23,7 +23,7 @@ owe, and the state of each as its changes say. Else it prints the name of the fi
   BadChange    the changes of a duty
   BadState     the states of a release and its duties
 
-FILE is only read.",
+Nothing is recorded in FILE.",
     after_help: "\
 A FILE that is not there, is empty, or is a database with no tables becomes an empty desk first.
 

@@ -33,7 +33,7 @@ document is attached. Standard error says in words what each line means, and nam
 ship no package: they raise no duty. If nothing is printed, a freeze is accepted, unless its duties don't
 fit the desk.
 
-FILE is only read.",
+Nothing is recorded in FILE.",
     after_help: AFTER_HELP,
 };
 
@@ -51,6 +51,6 @@ choice, a line is printed: the request choose, as script reads it.
 A conclusion with OR has several choices, which desk alternatives lists; it is left out. Nothing is chosen
 until the lines are handed to script. If the release isn't open, the reply line of a refusal is printed.
 
-FILE is only read.",
+Nothing is recorded in FILE.",
     after_help: AFTER_HELP,
 };

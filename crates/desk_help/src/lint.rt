@@ -18,7 +18,7 @@ First what is wrong: .reuse/dep5, names of files, each REUSE.toml and each of it
 licence in a file that is no expression. Then what the rest lacks: texts of licences in LICENSES/ that
 are missing or, if nothing of the first part is wrong, that no file uses, and files without a copyright
 notice or without a licence. The last line counts the problems, the files that were looked at, and the
-problems of each kind. ? stands for a control character.
+problems of each kind. ? stands for a character that is not shown.
 
 DIR is the root of the tree, where LICENSES/ is. To have lines ignored, write REUSE-IgnoreStart before
 them and REUSE-IgnoreEnd behind them.",
