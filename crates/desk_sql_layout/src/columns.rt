@@ -1,8 +1,9 @@
-//! The value in a column of a row. No desk's table has a value of another kind.
+//! The value in a column of a row. No desk's table has a value of another kind, which is a fault of
+//! the rows and no other.
 
-ghost use Rattle.std.specs.Prelude.{◌≡◌, ◌<◌, IfErr, IfOk, IsTrue, if◌then◌else◌, Bool, List, Option, ℕ, length};
+ghost use Rattle.std.specs.Prelude.{◌≡◌, ◌≢◌, ◌<◌, Err, IfErr, IfOk, IsTrue, if◌then◌else◌, Bool, List, Option, ℕ, length};
 ghost use Rattle.sqlite_value.specs.Order.{column};
-ghost use Rattle.sqlite_value.specs.declared.value.Value.TheVariants.{Text as Words, Blob};
+ghost use Rattle.sqlite_value.specs.declared.value.Value.TheVariants.{Null, Text as Words, Blob};
 ghost use Rattle.desk_base.specs.Profiles.{profile_number};
 ghost use Rattle.desk_sql_layout.specs.Cells.{number, text_or_null};
 ghost use Rattle.desk_sql_layout.specs.Causes.{IsWritten};
@@ -24,6 +25,7 @@ pub fn number_at(row: &Row, at: usize) -> Result<u32, Fault>
     ensures cause { IfErr result (λ fault. (n : ℕ)
         → column row.now at ≡ number n
         → IsWritten (column row.now at) → fault ≡ Fault.Memory) }
+    ensures rows { IfErr result (λ fault. fault ≡ Fault.Store StoreFault.Rows) }
 {
     match row.get_ref(at) {
         Ok(ValueRef::Int(n)) => match u32::try_from(n) {
@@ -40,6 +42,7 @@ pub fn str_at(row: &Row, at: usize) -> Result<&str, Fault>
     ensures cause { IfErr result (λ fault. (text : List ℕ)
         → column row.now at ≡ Words text
         → IsWritten (column row.now at) → fault ≡ Fault.Memory) }
+    ensures rows { IfErr result (λ fault. fault ≡ Fault.Store StoreFault.Rows) }
 {
     match row.get_ref(at) {
         Ok(ValueRef::Text(bytes)) => match std::str::from_utf8(bytes) {
@@ -56,6 +59,8 @@ pub fn text_at(alloc: Global, row: &Row, at: usize) -> Result<Text, Fault>
     ensures cause { IfErr result (λ fault. (text : List ℕ)
         → column row.now at ≡ Words text
         → IsWritten (column row.now at) → fault ≡ Fault.Memory) }
+    ensures rows { ((text : List ℕ) → column row.now at ≢ Words text)
+        → result ≡ Err (Fault.Store StoreFault.Rows) }
 {
     let text = str_at(row, at)?;
     Ok(Text::of(alloc, text)?)
@@ -67,6 +72,8 @@ pub fn text_or_null_at(alloc: Global, row: &Row, at: usize) -> Result<Option<Tex
     ensures cause { IfErr result (λ fault. (text : Option (List ℕ)) → at < length row.now
         → column row.now at ≡ text_or_null text
         → IsWritten (column row.now at) → fault ≡ Fault.Memory) }
+    ensures rows { column row.now at ≢ Null → ((text : List ℕ) → column row.now at ≢ Words text)
+        → result ≡ Err (Fault.Store StoreFault.Rows) }
 {
     match row.get_ref(at) {
         Ok(ValueRef::Null) => Ok(None),
@@ -80,6 +87,7 @@ pub fn day_at(row: &Row, at: usize) -> Result<Day, Fault>
     ensures cause { IfErr result (λ fault. (day : List ℕ)
         → column row.now at ≡ Words day
         → IsWritten (column row.now at) → IsTrue (is_day day) → fault ≡ Fault.Memory) }
+    ensures rows { IfErr result (λ fault. fault ≡ Fault.Store StoreFault.Rows) }
 {
     match Day::parse(str_at(row, at)?) {
         Some(day) => Ok(day),
@@ -93,6 +101,7 @@ pub fn flag_at(row: &Row, at: usize) -> Result<bool, Fault>
     ensures cause { IfErr result (λ fault. (is : Bool)
         → column row.now at ≡ number (if is then 1 else 0)
         → IsWritten (column row.now at) → fault ≡ Fault.Memory) }
+    ensures rows { IfErr result (λ fault. fault ≡ Fault.Store StoreFault.Rows) }
 {
     match number_at(row, at)? {
         0 => Ok(false),
@@ -107,6 +116,7 @@ pub fn profile_at(row: &Row, at: usize) -> Result<Profile, Fault>
     ensures cause { IfErr result (λ fault. (profile : Profile)
         → column row.now at ≡ number (profile_number profile)
         → IsWritten (column row.now at) → fault ≡ Fault.Memory) }
+    ensures rows { IfErr result (λ fault. fault ≡ Fault.Store StoreFault.Rows) }
 {
     match number_at(row, at)? {
         1 => Ok(Profile::Capitals),
@@ -121,6 +131,7 @@ pub fn release_state_at(row: &Row, at: usize) -> Result<ReleaseState, Fault>
     ensures cause { IfErr result (λ fault. (state : ReleaseState)
         → column row.now at ≡ Words (release_state_name state)
         → IsWritten (column row.now at) → fault ≡ Fault.Memory) }
+    ensures rows { IfErr result (λ fault. fault ≡ Fault.Store StoreFault.Rows) }
 {
     ReleaseState::named(str_at(row, at)?).ok_or(ROWS)
 }
@@ -131,6 +142,7 @@ pub fn duty_state_at(row: &Row, at: usize) -> Result<DutyState, Fault>
     ensures cause { IfErr result (λ fault. (state : DutyState)
         → column row.now at ≡ Words (duty_state_name state)
         → IsWritten (column row.now at) → fault ≡ Fault.Memory) }
+    ensures rows { IfErr result (λ fault. fault ≡ Fault.Store StoreFault.Rows) }
 {
     DutyState::named(str_at(row, at)?).ok_or(ROWS)
 }
@@ -141,6 +153,7 @@ pub fn word_at(row: &Row, at: usize) -> Result<Word, Fault>
     ensures cause { IfErr result (λ fault. (word : Word)
         → column row.now at ≡ Words (word_name word)
         → IsWritten (column row.now at) → fault ≡ Fault.Memory) }
+    ensures rows { IfErr result (λ fault. fault ≡ Fault.Store StoreFault.Rows) }
 {
     Word::named(str_at(row, at)?).ok_or(ROWS)
 }
@@ -150,6 +163,8 @@ pub fn bytes_at(alloc: Global, row: &Row, at: usize) -> Result<Items<u8>, Fault>
     ensures value { IfOk result (λ bytes. column row.now at ≡ Blob bytes) }
     ensures cause { IfErr result (λ fault. (bytes : List ℕ)
         → column row.now at ≡ Blob bytes → fault ≡ Fault.Memory) }
+    ensures rows { ((bytes : List ℕ) → column row.now at ≢ Blob bytes)
+        → result ≡ Err (Fault.Store StoreFault.Rows) }
 {
     match row.get_ref(at) {
         Ok(ValueRef::Blob(bytes)) => Ok(Items::from_vec(Vec::from_slice(alloc, bytes)?)),
