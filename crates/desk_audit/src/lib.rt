@@ -130,7 +130,9 @@ fn first_fault<T: Texts>(
     }
 }
 
-fn report_on(alloc: Global, snapshot: &Snapshot) -> Result<AuditReport, AllocError>
+/// The report on a snapshot: sound if the ten conditions are met, or else the first that isn't.
+/// Texts are read by their standards.
+pub fn judge(alloc: Global, snapshot: &Snapshot) -> Result<AuditReport, AllocError>
     ensures { (w : Readings) → AreRight w → IfOk result (IsReport w snapshot.now) }
 {
     let found = first_fault(alloc, &Standard, snapshot)?;
@@ -138,12 +140,4 @@ fn report_on(alloc: Global, snapshot: &Snapshot) -> Result<AuditReport, AllocErr
         Some(fault) => Ok(AuditReport::Unsound(fault)),
         None => Ok(AuditReport::Sound),
     }
-}
-
-/// The report on a snapshot: sound if the ten conditions are met, or else the first that isn't.
-/// Texts are read by their standards.
-pub fn judge(alloc: Global, snapshot: Snapshot) -> Result<AuditReport, AllocError>
-    ensures { (w : Readings) → AreRight w → IfOk result (IsReport w snapshot) }
-{
-    report_on(alloc, &snapshot)
 }

@@ -1,5 +1,5 @@
 -- A text that only reads leaves every database as it is.
-use Rattle.std.proofs.Common.{◌≡◌, ◌⊎◌, inl, inr, ℕ, ◌+◌, Bool, true, false, List, IsTrue, Option}
+use Rattle.std.proofs.Common.{◌≡◌, ◌≢◌, ◌⊎◌, inl, inr, ℕ, ◌+◌, Bool, true, false, List, IsTrue, Option}
 use Rattle.std.proofs.Common.{Some, None, Ok, Err, refl, sym, ap, subst, ◌∙◌}
 use Rattle.std.specs.Prelude.{IsSome}
 use Rattle.sqlite_value.specs.Order.{Row}
@@ -19,6 +19,11 @@ use Rattle.sqlite.specs.Listing.{understood, reads_listing, if_select, is_select
 use Rattle.sqlite.specs.State.{State, HasCleanDisk, Survives, IsUnchanged, IsRolledBack}
 use Rattle.sqlite.specs.State.{FailsToQuery, FailsToShow, IsNotRun, Shown, ShowsRows}
 use Rattle.sqlite.specs.State.{CommitsShowing}
+use Rattle.sqlite.specs.declared.error.Error.TheVariants.{SqliteFailure}
+use Rattle.sqlite.specs.declared.error.ErrorCode.TheVariants.{OutOfMemory}
+use Rattle.desk_model.specs.declared.command.Fault.TheVariants.{Store}
+use Rattle.desk_model.specs.declared.command.StoreFault.TheVariants.{Rows}
+use Rattle.desk_sql_layout.specs.Faults.{fault_by}
 use Rattle.desk_sql_adopt.specs.Reading.{Asks, Answers, IsSpared}
 
 -- ---- what a text is, whatever the schema
@@ -176,3 +181,8 @@ module _ (sql : List ℕ) (params : Row) (old new : State) (bare : Asks sql) whe
     pub failed : (e : Error) → (HasCleanDisk new → FailsToQuery sql params old new e)
         → IsSpared old new
     failed e fails = spared (λ clean. failed_so e (fails clean))
+
+-- the error of a database is no fault of its rows
+pub never_rows : (e : Error) → fault_by e ≢ Store Rows
+never_rows (SqliteFailure OutOfMemory) is = absurd (cc)
+never_rows _ is = absurd (cc)

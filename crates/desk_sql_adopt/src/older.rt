@@ -9,6 +9,7 @@ ghost use Rattle.desk_sql_layout.specs.Layout.{desk_schema};
 ghost use Rattle.desk_sql_layout.specs.Causes.{HasCause};
 ghost use Rattle.desk_sql_adopt.specs.Older.{HoldsOlder, IsOlderContent, older_schema, version_number};
 ghost use Rattle.desk_sql_adopt.specs.Reading.{HasRead};
+ghost use Rattle.desk_model.specs.declared.command.StoreFault.TheVariants.{Rows};
 
 use crate::forms::{INDEXES, TABLES};
 use crate::matching::are;
@@ -144,6 +145,7 @@ pub fn examine_older<S: Alter>(conn: &mut Connection<S>) -> Result<OlderContent,
         → content ≡ OlderContent.Older version) }
     ensures read { HasRead (state S.Store conn.old) (state S.Store conn.new) result }
     ensures cause { IfErr result (HasCause (state S.Store conn.old) (state S.Store conn.new)) }
+    ensures refused { IfErr result (λ fault. fault ≢ Fault.Store Rows) }
     ensures mode { conn.new.in_transaction ≡ false }
 {
     let schema = conn.schema();

@@ -1,11 +1,12 @@
 //! A query of a database that may not be a desk's.
 
-ghost use Rattle.std.specs.Prelude.{◌≡◌, false, IfErr, IfOk};
+ghost use Rattle.std.specs.Prelude.{◌≡◌, ◌≢◌, false, IfErr, IfOk};
 ghost use Rattle.sqlite.specs.Held.{state};
 ghost use Rattle.sqlite.specs.State.{HasCleanDisk, Shown};
 ghost use Rattle.sqlite.specs.Values.{bound};
 ghost use Rattle.desk_sql_layout.specs.Causes.{HasCause, IsAsked};
 ghost use Rattle.desk_sql_adopt.specs.Reading.{Asks, HasRead};
+ghost use Rattle.desk_model.specs.declared.command.StoreFault.TheVariants.{Rows};
 
 use desk_model::Fault;
 use desk_sql_layout::fault::fault_of;
@@ -25,6 +26,7 @@ pub(crate) fn query<S: Alter>(
     ensures read { Asks sql.now → HasRead (state S.Store conn.old) (state S.Store conn.new) result }
     ensures cause { IsAsked sql.now (bound params.now) → IfErr result (HasCause
         (state S.Store conn.old) (state S.Store conn.new)) }
+    ensures refused { IfErr result (λ fault. fault ≢ Fault.Store Rows) }
     ensures mode { conn.new.in_transaction ≡ false }
 {
     let _settled = conn.is_autocommit();

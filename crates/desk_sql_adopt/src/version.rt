@@ -11,6 +11,7 @@ ghost use Rattle.desk_sql_layout.specs.Held.{seen_of};
 ghost use Rattle.desk_sql_layout.specs.Causes.{HasCause};
 ghost use Rattle.desk_sql_adopt.specs.Reading.{HasRead};
 ghost use Rattle.desk_sql_adopt.specs.Version.{IsContent, ShowsVersion, TellsVersion, has_version, is_meta, version_in, whole_number};
+ghost use Rattle.desk_model.specs.declared.command.StoreFault.TheVariants.{Rows};
 
 use crate::declared::is_declared;
 use crate::query::query;
@@ -87,6 +88,7 @@ pub(crate) fn version<S: Alter>(conn: &mut Connection<S>) -> Result<Option<i64>,
         (seen_of (state S.Store conn.new))) }
     ensures read { HasRead (state S.Store conn.old) (state S.Store conn.new) result }
     ensures cause { IfErr result (HasCause (state S.Store conn.old) (state S.Store conn.new)) }
+    ensures refused { IfErr result (λ fault. fault ≢ Fault.Store Rows) }
     ensures mode { conn.new.in_transaction ≡ false }
 {
     let rows = query(conn, "SELECT version FROM meta", &[])?;
@@ -122,6 +124,7 @@ pub fn examine<S: Alter>(conn: &mut Connection<S>) -> Result<Content, Fault>
         (seen_of (state S.Store conn.new))) }
     ensures read { HasRead (state S.Store conn.old) (state S.Store conn.new) result }
     ensures cause { IfErr result (HasCause (state S.Store conn.old) (state S.Store conn.new)) }
+    ensures refused { IfErr result (λ fault. fault ≢ Fault.Store Rows) }
     ensures mode { conn.new.in_transaction ≡ false }
 {
     let schema = conn.schema();

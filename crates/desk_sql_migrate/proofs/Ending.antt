@@ -9,6 +9,12 @@ use Rattle.sqlite.specs.State.{State, HasCleanDisk, IsRolledBack, KeepsCommit, S
 use Rattle.sqlite.specs.Steps.{FailsToCommit}
 use Rattle.sqlite.proofs.StateLemmas.{survives_then}
 use Rattle.desk_model.specs.declared.command.Fault.{Fault}
+use Rattle.desk_model.specs.declared.command.Fault.TheVariants.{Memory, Store}
+use Rattle.desk_model.specs.declared.command.StoreFault.TheVariants.{Database as DatabaseFault, Rows}
+use Rattle.desk_beside.specs.Beside.{report_of}
+use Rattle.desk_beside.specs.declared.beside.Audited.{Audited}
+use Rattle.desk_beside.specs.declared.beside.Audited.TheVariants as audited
+use Rattle.desk_beside.specs.declared.beside.Beside.{Beside}
 use Rattle.desk_sql_layout.specs.Held.{HasRows}
 use Rattle.desk_sql_layout.proofs.Clean.{clean_before}
 use Rattle.desk_sql_adopt.specs.Older.{IsOlderContent, migrated, older_schema}
@@ -20,7 +26,7 @@ use Rattle.desk_snapshot.specs.declared.fault.AuditReport.{AuditReport}
 use Rattle.desk_snapshot.specs.declared.fault.AuditReport.TheVariants.{Sound, Unsound}
 use Rattle.desk_sql_migrate.specs.Migrating.{Ends, IsLeft, IsReason, IsReportOn, IsUndone, Leaves}
 use Rattle.desk_sql_migrate.specs.Migrating.{LeavesMigrated, LeavesSome, Migrated, Prepared}
-use Rattle.desk_sql_migrate.specs.Migrating.{outcome_of}
+use Rattle.desk_sql_migrate.specs.Migrating.{IsKeptBeside, IsKeptIfSound, outcome_of, told_of}
 use Rattle.desk_sql_migrate.specs.Steps.{Becomes}
 use Rattle.desk_sql_migrate.specs.declared.fault.MigrateFault.{MigrateFault}
 
@@ -47,15 +53,15 @@ undone_by P a b it = record {
 }
 
 -- after a fault that is returned
-pub err_leaves : (version : OlderVersion) (a b : State) (r : Result AuditReport Fault) → IsErr r
-    → IsSpared a b → Leaves version a b r
+pub err_leaves : (version : OlderVersion) (a b : State) (r : Result Audited Fault) → IsErr r
+    → IsSpared a b → Leaves version a b (told_of r)
 err_leaves version a b (Ok x) is it = absurd (cc)
 err_leaves version a b (Err e) is it = undone_by (LeavesMigrated version a) a b it
 
-clean_first : (version : OlderVersion) (b c : State) (r : Result AuditReport Fault)
-    → Leaves version b c r → HasCleanDisk c → HasCleanDisk b
-clean_first version b c (Ok Sound) it clean = clean_before b c (LeavesMigrated version b) it clean
-clean_first version b c (Ok (Unsound f)) it clean = clean_before b c (λ _. ⊥) it.survives clean
+clean_first : (version : OlderVersion) (b c : State) (r : Result Audited Fault)
+    → Leaves version b c (told_of r) → HasCleanDisk c → HasCleanDisk b
+clean_first version b c (Ok (audited.Sound kept)) it clean = clean_before b c (LeavesMigrated version b) it clean
+clean_first version b c (Ok (audited.Unsound f)) it clean = clean_before b c (λ _. ⊥) it.survives clean
 clean_first version b c (Err f) it clean = clean_before b c (LeavesMigrated version b) it.survives
     clean
 
@@ -189,51 +195,77 @@ module _ (a b c : State) (stayed : HasStayed a b) (version : OlderVersion) where
     it.2,
   )
 
-  left_by : (r : Result AuditReport Fault) → Leaves version b c r
+  left_by : (r : Result Audited Fault) → Leaves version b c (told_of r)
       → IfErr (outcome_of version r) (IsLeft a c)
-  left_by (Ok Sound) it = tt
-  left_by (Ok (Unsound f)) it = spared_then a b c stayed.0 it
+  left_by (Ok (audited.Sound kept)) it = tt
+  left_by (Ok (audited.Unsound f)) it = spared_then a b c stayed.0 it
   left_by (Err f) it = undone_first it
 
-  survives_by : (r : Result AuditReport Fault) → Leaves version b c r
+  survives_by : (r : Result Audited Fault) → Leaves version b c (told_of r)
       → OnOk (outcome_of version r) (Survives a c (LeavesSome a))
-  survives_by (Ok Sound) it = some_survives it
-  survives_by (Ok (Unsound f)) it = tt
+  survives_by (Ok (audited.Sound kept)) it = some_survives it
+  survives_by (Ok (audited.Unsound f)) it = tt
   survives_by (Err f) it = tt
 
-  reason_by : (r : Result AuditReport Fault) → IsOlderContent a (content.Older version)
-      → HasCleanDisk b → IfOk r (Ends version b c) → IfErr (outcome_of version r) (IsReason a)
-  reason_by (Ok Sound) older clean it = tt
-  reason_by (Ok (Unsound f)) older clean it = inr (
+  reason_by : (r : Result Audited Fault) → IsOlderContent a (content.Older version)
+      → HasCleanDisk b → IfOk r (λ found. Ends version b c (report_of found))
+      → IfErr (outcome_of version r) (IsReason a)
+  reason_by (Ok (audited.Sound kept)) older clean it = tt
+  reason_by (Ok (audited.Unsound f)) older clean it = inr (
     version,
     older,
     λ is. ended (Unsound f) clean (stayed.1 clean is) it,
   )
-  reason_by (Err f) older clean it = tt
+  reason_by (Err Memory) older clean it = tt
+  reason_by (Err (Store DatabaseFault)) older clean it = tt
+  reason_by (Err (Store Rows)) older clean it = (version, older)
 
-  migrated_by : (r : Result AuditReport Fault) → IsOlderContent a (content.Older version)
-      → HasCleanDisk b → IfOk r (Ends version b c)
-      → IfOk (outcome_of version r) (λ v. IsOlderContent a (content.Older v) × Migrated v a c)
-  migrated_by (Ok Sound) older clean it = (older, ended Sound clean it.was_open it)
-  migrated_by (Ok (Unsound f)) older clean it = tt
+  migrated_by : (r : Result Audited Fault) → IsOlderContent a (content.Older version)
+      → HasCleanDisk b → IfOk r (λ found. Ends version b c (report_of found))
+      → IfOk (outcome_of version r)
+      (λ made. IsOlderContent a (content.Older made.0) × Migrated made.0 a c)
+  migrated_by (Ok (audited.Sound kept)) older clean it = (older, ended Sound clean it.was_open it)
+  migrated_by (Ok (audited.Unsound f)) older clean it = tt
   migrated_by (Err f) older clean it = tt
 
+  kept_by : (r : Result Audited Fault) → IfOk r (IsKeptIfSound c.now)
+      → IfOk (outcome_of version r) (λ made. IsKeptBeside c.now made.1)
+  kept_by (Ok (audited.Sound kept)) it = it
+  kept_by (Ok (audited.Unsound f)) it = tt
+  kept_by (Err f) it = tt
+
+  -- a stop leaves what was committed
+  abbrev pub StopsAt : Trees → Type 0
+  StopsAt given = (trees : Trees) → c.may_leave trees → trees ≡ given
+
+  stop_by : (r : Result Audited Fault) → OnOk r (IsTrue c.is_open → StopsAt c.committed.trees)
+      → IfOk (outcome_of version r)
+      (λ made. IsOlderContent a (content.Older made.0) × Migrated made.0 a c)
+      → OnOk (outcome_of version r) (StopsAt c.now.trees)
+  stop_by (Ok (audited.Sound kept)) stop it = λ trees left. stop it.1.is_open trees left
+      ∙ ap (λ (d : Database). d.trees) it.1.settled
+  stop_by (Ok (audited.Unsound f)) stop it = tt
+  stop_by (Err f) stop it = tt
+
   -- the outcome, after a refusal or a fault, and if the database was migrated
-  module _ (r : Result AuditReport Fault) (left : Leaves version b c r)
-      (o : Result OlderVersion MigrateFault) (is : o ≡ outcome_of version r) where
+  module _ (r : Result Audited Fault) (left : Leaves version b c (told_of r))
+      (o : Result (OlderVersion × Beside) MigrateFault) (is : o ≡ outcome_of version r) where
     pub left_first : IfErr o (IsLeft a c)
     left_first = subst (λ o. IfErr o (IsLeft a c)) (sym is) (left_by r left)
 
     pub survives_first : OnOk o (Survives a c (LeavesSome a))
     survives_first = subst (λ o. OnOk o (Survives a c (LeavesSome a))) (sym is) (survives_by r left)
 
+    pub kept_first : IfOk r (IsKeptIfSound c.now) → IfOk o (λ made. IsKeptBeside c.now made.1)
+    kept_first it = subst (λ o. IfOk o (λ made. IsKeptBeside c.now made.1)) (sym is) (kept_by r it)
+
     module _ (found : HasCleanDisk b → IsOlderContent a (content.Older version))
         (ends : HasCleanDisk c → (IsTrue b.is_open → b.now.schema ≡ older_schema version)
-        → IfOk r (Ends version b c)) (clean : HasCleanDisk c) where
+        → IfOk r (λ found. Ends version b c (report_of found))) (clean : HasCleanDisk c) where
       before_it : HasCleanDisk b
       before_it = clean_first version b c r left clean
 
-      so_ended : IfOk r (Ends version b c)
+      so_ended : IfOk r (λ found. Ends version b c (report_of found))
       so_ended = ends clean (λ is. ap (λ (d : Database). d.schema) (same_now before_it is)
           ∙ (found before_it).1)
 
@@ -241,7 +273,17 @@ module _ (a b c : State) (stayed : HasStayed a b) (version : OlderVersion) where
       reason_first = subst (λ o. IfErr o (IsReason a)) (sym is)
           (reason_by r (found before_it) before_it so_ended)
 
-      pub migrated_first : IfOk o (λ v. IsOlderContent a (content.Older v) × Migrated v a c)
+      migrated_so : IfOk (outcome_of version r)
+          (λ made. IsOlderContent a (content.Older made.0) × Migrated made.0 a c)
+      migrated_so = migrated_by r (found before_it) before_it so_ended
+
+      pub migrated_first : IfOk o
+          (λ made. IsOlderContent a (content.Older made.0) × Migrated made.0 a c)
       migrated_first = subst (λ o. IfOk o
-          (λ v. IsOlderContent a (content.Older v) × Migrated v a c)) (sym is)
-          (migrated_by r (found before_it) before_it so_ended)
+          (λ made. IsOlderContent a (content.Older made.0) × Migrated made.0 a c)) (sym is)
+          migrated_so
+
+      pub stop_first : OnOk r (IsTrue c.is_open → StopsAt c.committed.trees)
+          → OnOk o (StopsAt c.now.trees)
+      stop_first stop = subst (λ o. OnOk o (StopsAt c.now.trees)) (sym is)
+          (stop_by r stop migrated_so)

@@ -109,3 +109,9 @@ holds_migrated Two t old new holds becomes =
       };
       orderly = holds.orderly;
     }
+
+-- the same, if the version is one that was read
+pub holds_older : (version other : OlderVersion) (t : Tables) (old new : Database)
+    → version ≡ other → HoldsOlder other t old → Becomes version old new → Holds t new
+holds_older version other t old new same holds becomes = holds_migrated other t old new holds
+    (subst (λ v. Becomes v old new) same becomes)

@@ -5,3 +5,5 @@ pub mod Ends
 mod Preparing
 mod Ending
 mod Transacting
+pub mod Kept
+mod Examined

@@ -5,12 +5,20 @@ use Rattle.sqlite.specs.Effect.{Database}
 use Rattle.sqlite.specs.State.{State, HasCleanDisk, KeepsCommit, Survives}
 use Rattle.desk_model.specs.Answers.{IsHistory}
 use Rattle.desk_model.specs.Readings.{Readings}
-use Rattle.desk_model.specs.Tables.{tables}
+use Rattle.desk_model.specs.Tables.{Tables, tables}
 use Rattle.desk_model.specs.declared.command.Command.{Command}
 use Rattle.desk_model.specs.declared.command.Fault.{Fault}
+use Rattle.desk_model.specs.declared.command.Fault.TheVariants.{Store}
+use Rattle.desk_model.specs.declared.command.StoreFault.TheVariants.{Rows}
+use Rattle.desk_sql_layout.specs.Held.{Holds}
+use Rattle.desk_beside.specs.Beside.{HasNumbers, IsBeside, report_of}
+use Rattle.desk_beside.specs.declared.beside.Audited.{Audited}
+use Rattle.desk_beside.specs.declared.beside.Audited.TheVariants as audited
+use Rattle.desk_beside.specs.declared.beside.Beside.{Beside}
 use Rattle.desk_sql_adopt.specs.Older.{HoldsOlder, IsOlderContent, older_schema}
 use Rattle.desk_sql_adopt.specs.Reading as reading
 use Rattle.desk_sql_adopt.specs.declared.older.OlderVersion.{OlderVersion}
+use Rattle.desk_sql_adopt.specs.declared.older.OlderContent.{OlderContent}
 use Rattle.desk_sql_adopt.specs.declared.older.OlderContent.TheVariants as content
 use Rattle.desk_snapshot.specs.Reports.{IsReport}
 use Rattle.desk_snapshot.specs.declared.fault.AuditFault.TheVariants.{BadMeta}
@@ -23,10 +31,28 @@ use Rattle.desk_sql_migrate.specs.Steps.{Becomes}
 use Rattle.desk_sql_migrate.specs.declared.fault.MigrateFault.{MigrateFault}
 use Rattle.desk_sql_migrate.specs.declared.fault.MigrateFault.TheVariants as fault
 
+-- sound rows have no number below 0
+abbrev pub HasNumbersIfSound : Snapshot → AuditReport → Type 0
+HasNumbersIfSound s report.Sound = HasNumbers s
+HasNumbersIfSound s (report.Unsound f) = Unit {0}
+
 -- the report on the rows of a database, by each right reading
 abbrev pub IsReportOn : Database → AuditReport → Type 0
-IsReportOn db told = (s : Snapshot) × IsSnapshot s db
+IsReportOn db told = (s : Snapshot) × IsSnapshot s db × HasNumbersIfSound s told
     × ((w : Readings) → AreRight w → IsReport w s told)
+
+-- what is kept beside the tables that a database holds
+abbrev pub IsKeptBeside : Database → Beside → Type 0
+IsKeptBeside db kept = (t : Tables) → Holds t db → IsBeside kept t
+
+abbrev pub IsKeptIfSound : Database → Audited → Type 0
+IsKeptIfSound db (audited.Sound kept) = IsKeptBeside db kept
+IsKeptIfSound db (audited.Unsound f) = Unit {0}
+
+-- what an audit reports, or its fault
+abbrev pub told_of : Result Audited Fault → Result AuditReport Fault
+told_of (Ok found) = Ok (report_of found)
+told_of (Err fault) = Err fault
 
 -- inside a transaction that is still open, the rows have become those of this version, and this is
 -- the report on them
@@ -79,18 +105,28 @@ Leaves version old new (Ok report.Sound) = Survives old new (LeavesMigrated vers
 Leaves version old new (Ok (report.Unsound f)) = reading.IsSpared old new
 Leaves version old new (Err fault) = IsUndone (LeavesMigrated version old) old new
 
--- the outcome for a report on the rows
-abbrev pub outcome_of : OlderVersion → Result AuditReport Fault → Result OlderVersion MigrateFault
-outcome_of version (Ok report.Sound) = Ok version
-outcome_of version (Ok (report.Unsound f)) = Err (fault.Unsound f)
+-- the outcome for what an audit finds
+abbrev pub outcome_of : OlderVersion → Result Audited Fault
+    → Result (OlderVersion × Beside) MigrateFault
+outcome_of version (Ok (audited.Sound kept)) = Ok (version, kept)
+outcome_of version (Ok (audited.Unsound f)) = Err (fault.Unsound f)
 outcome_of version (Err f) = Err (fault.Fault f)
+
+-- the older version that a database was found to have, or why it isn't migrated
+abbrev pub older_of : Result OlderContent Fault → Result OlderVersion MigrateFault
+older_of (Ok (content.Older version)) = Ok version
+older_of (Ok content.Untold) = Err (fault.Unsound BadMeta)
+older_of (Ok (content.OtherVersion n)) = Err (fault.BadVersion n)
+older_of (Ok content.Other) = Err fault.NotADesk
+older_of (Err f) = Err (fault.Fault f)
 
 -- a stop leaves the rows of some older version, migrated
 abbrev pub LeavesSome : State → Trees → Type 0
 LeavesSome old trees = (version : OlderVersion) × LeavesMigrated version old trees
 
 -- what the database was found to hold if it isn't migrated: something else; another version; no
--- single version; or rows that would not be sound
+-- single version; or rows that would not be sound. A fault of the rows is told only of the tables
+-- of an older version.
 abbrev pub IsReason : State → MigrateFault → Type 0
 IsReason s fault.NotADesk = IsOlderContent s content.Other
 IsReason s (fault.BadVersion n) = IsOlderContent s (content.OtherVersion n)
@@ -99,6 +135,8 @@ IsReason s (fault.Unsound f) =
     ⊎ ((version : OlderVersion) × IsOlderContent s (content.Older version)
     × (IsTrue s.is_open → (db : Database) × Becomes version s.now db
     × IsReportOn db (report.Unsound f)))
+IsReason s (fault.Fault (Store Rows)) = (version : OlderVersion)
+    × IsOlderContent s (content.Older version)
 IsReason s (fault.Fault f) = Unit {0}
 
 -- after a refusal the connection shows what it showed; after a fault too, if it still shows

@@ -16,7 +16,7 @@ use Rattle.desk_snapshot.specs.Tables.{catalogue_stored, rule_stored, document_s
 use Rattle.desk_snapshot.specs.Tables.{reading_stored, package_stored, extracted_stored}
 use Rattle.desk_snapshot.specs.Tables.{conclusion_stored, adoption_stored, release_stored}
 use Rattle.desk_snapshot.specs.Tables.{attached_stored, choice_stored, frozen_stored, duty_stored}
-use Rattle.desk_snapshot.specs.Tables.{change_stored, waiver_stored}
+use Rattle.desk_snapshot.specs.Tables.{change_stored, waiver_stored, snapshot_of}
 use Rattle.desk_sql_scan.specs.Cells.{stored_meta_cells, stored_catalogue_cells, stored_rule_cells}
 use Rattle.desk_sql_scan.specs.Cells.{stored_document_cells, stored_reading_cells}
 use Rattle.desk_sql_scan.specs.Cells.{stored_package_cells, stored_extracted_cells}
@@ -117,3 +117,9 @@ joined_of first second = record {
   changes = first.duties.changes;
   waiver = first.duties.waiver;
 }
+
+-- The snapshot has the rows of these tables. Rules and extracted licences are in the order of their
+-- keys, in which right readings list them too.
+pub record AreRowsOf (s : Snapshot) (t : Tables) : Type 0 where
+  pub rows : s ≡ record (snapshot_of t) { rule = s.rule; extracted = s.extracted }
+  pub listed : AreSortedAsListed t → s ≡ snapshot_of t

@@ -3,6 +3,7 @@
 ghost use Rattle.std.specs.Prelude.{◌≡◌, ℤ, IfErr, IfOk};
 ghost use Rattle.sqlite_value.specs.Order.{column};
 ghost use Rattle.sqlite_value.specs.declared.value.Value.TheVariants.{Int as Whole};
+ghost use Rattle.desk_model.specs.declared.command.StoreFault.TheVariants.{Rows};
 
 use desk_model::Fault;
 use desk_sql_layout::columns::ROWS;
@@ -14,6 +15,7 @@ pub(crate) fn number_at(row: &Row, at: usize) -> Result<i64, Fault>
     ensures value { IfOk result (λ n. column row.now at ≡ Whole n) }
     ensures cause { IfErr result (λ fault. (n : ℤ)
         → column row.now at ≡ Whole n → fault ≡ Fault.Memory) }
+    ensures rows { IfErr result (λ fault. fault ≡ Fault.Store Rows) }
 {
     match row.get_ref(at) {
         Ok(ValueRef::Int(number)) => Ok(number),

@@ -6,13 +6,11 @@ ghost use Rattle.sqlite.specs.State.{HasCleanDisk};
 ghost use Rattle.desk_access.specs.Seen.{OfRows};
 ghost use Rattle.desk_sql_layout.specs.Causes.{HasCause};
 ghost use Rattle.desk_sql_adopt.specs.Reading.{HasRead};
-ghost use Rattle.desk_history.specs.Laws.{AreSortedAsListed};
 ghost use Rattle.desk_sql_layout.specs.Held.{seen_of};
 ghost use Rattle.desk_sql_layout.specs.Layout.{desk_schema};
-ghost use Rattle.desk_snapshot.specs.Tables.{snapshot_of};
 ghost use Rattle.desk_sql_scan.specs.Asked.{HasAsked};
 ghost use Rattle.desk_sql_scan.specs.Causes.{ScanFailsFor};
-ghost use Rattle.desk_sql_scan.specs.Parts.{HasCatalogues, HasDocuments, HasDuties, HasOffice, HasReleases, OfCatalogues, OfDocuments, OfDuties, OfOffice, OfReleases, joined_of};
+ghost use Rattle.desk_sql_scan.specs.Parts.{AreRowsOf, HasCatalogues, HasDocuments, HasDuties, HasOffice, HasReleases, OfCatalogues, OfDocuments, OfDuties, OfOffice, OfReleases, joined_of};
 ghost use Rattle.desk_sql_scan.specs.Scanning.{Scans};
 ghost use Rattle.desk_sql_scan.specs.Scans.{IsRead, IsSnapshot};
 
@@ -107,7 +105,7 @@ fn join(first: FirstPart, second: SecondPart) -> Snapshot
 fn read_whole<R: Source>(alloc: Global, source: &mut R) -> Result<Snapshot, Fault>
     requires { R.is_ready source.old }
     ensures { Scans R.Source source.old source.new result IsSnapshot
-        (λ s t. AreSortedAsListed t → s ≡ snapshot_of t) }
+        AreRowsOf }
 {
     let first = first_part(alloc, source)?;
     let second = second_part(alloc, source)?;
@@ -125,7 +123,7 @@ pub fn snapshot<S: Alter>(alloc: Global, conn: &mut Connection<S>) -> Result<Sna
     ensures raw { HasCleanDisk (state S.Store conn.new)
         → (state S.Store conn.old).now.schema ≡ desk_schema
         → IfOk result (λ s. IsSnapshot s (state S.Store conn.old).now) }
-    ensures found { IfOk result (λ s. OfRows (λ t. AreSortedAsListed t → s ≡ snapshot_of t)
+    ensures found { IfOk result (λ s. OfRows (AreRowsOf s)
         (seen_of (state S.Store conn.old)) (seen_of (state S.Store conn.new))) }
     ensures read { HasRead (state S.Store conn.old) (state S.Store conn.new) result }
     ensures cause { IfErr result (HasCause (state S.Store conn.old) (state S.Store conn.new)) }
@@ -143,7 +141,7 @@ pub fn snapshot_inside<S: Alter>(
     tx: &mut Transaction<'_, S>,
 ) -> Result<Snapshot, Fault>
     ensures ok { IfOk result
-        (λ s. IsRead (IsSnapshot s) (λ t. AreSortedAsListed t → s ≡ snapshot_of t)
+        (λ s. IsRead (IsSnapshot s) (AreRowsOf s)
         (state S.Store tx.old.conn.now) (state S.Store tx.new.conn.now)) }
     ensures asked { HasAsked (state S.Store tx.old.conn.now) (state S.Store tx.new.conn.now)
         result }

@@ -161,9 +161,9 @@ pub fn create_tables<S: Alter>(conn: &mut Connection<S>) -> Result<(), Refused>
     ensures mode { conn.new.in_transaction ≡ false }
     ensures crash { Survives (state S.Store conn.old) (state S.Store conn.new) (λ trees.
         Stands trees no_tables) }
-    ensures stop { OnOk result (IsTrue (state S.Store conn.new).is_open → (trees : _)
+    ensures stop { HasCleanDisk (state S.Store conn.new) → OnOk result ((trees : _)
         → (state S.Store conn.new).may_leave trees
-        → trees ≡ (state S.Store conn.new).committed.trees) }
+        → trees ≡ (state S.Store conn.new).now.trees) }
 {
     let _settled = conn.is_autocommit();
     let schema = conn.schema();

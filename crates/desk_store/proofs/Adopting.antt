@@ -13,24 +13,6 @@ use Rattle.desk_store.specs.Causes.{AdoptFailsIf, IsCausedFault}
 use Rattle.desk_store.specs.declared.fault.AdoptFault.{AdoptFault}
 use Rattle.desk_store.specs.declared.fault.AdoptFault.TheVariants as adopt
 
--- ---- what was read
-
--- a cause that needs one fact about the tables is one if they have another that implies it
-pub weaken_cause : (P Q : Tables → Type 0) (old new : State) (fault : Fault)
-    → (HasCleanDisk new → IsTrue old.is_open → (t : Tables) → (seen_of old).holds t → AreWritten t
-    → P t → Q t) → HasCauseIf Q old new fault → HasCauseIf P old new fault
-weaken_cause P Q old new fault so has = record {
-  cause = λ clean opened unlimited t holds written is. has.cause clean opened unlimited t holds
-      written (so clean opened t holds written is);
-}
-
--- after another call
-pub later_cause : (Is : Tables → Type 0) (a b c : State) (fault : Fault) → HasStayed a b
-    → IsSpared b c → HasCauseIf Is b c fault → HasCauseIf Is a c fault
-later_cause Is a b c fault stayed spared =
-    cause_after Is a b c (record { kept = kept a b stayed.0; stays = stayed.1 })
-    stayed.0.survives.limit (clean_before b c (λ _. ⊥) spared.survives) fault
-
 -- ---- what isn't adopted
 
 -- a fault that was returned

@@ -14,10 +14,12 @@ use Rattle.desk_model.specs.declared.row.CatalogueRow.{CatalogueRow}
 use Rattle.desk_model.specs.declared.command.Command.{Command}
 use Rattle.desk_model.specs.declared.command.Command.TheVariants.{LoadCatalogue}
 use Rattle.desk_sql_layout.specs.Held.{known_of}
-use Rattle.desk_sql_adopt.specs.Revisions.{is_revision, body_of}
-use Rattle.desk_store.specs.Adopting.{HasCounts, HasForms}
+use Rattle.desk_beside.specs.Beside.{IsBeside, body_of, forms_by}
+use Rattle.desk_beside.specs.declared.beside.Beside.{Beside}
+use Rattle.desk_model.specs.Keys.{is_revision}
+use Rattle.desk_store.specs.Adopting.{HasForms}
 use Rattle.desk_store.specs.Counting.{known_by}
-use Rattle.desk_store.specs.declared.counts.Counts.{Counts}
+use Rattle.desk_texts.specs.Right.{AreRight}
 
 abbrev row_of : ℕ → List ℕ → CatalogueRow
 row_of n text = record { revision = n; body = text }
@@ -59,17 +61,14 @@ last_body (LoadCatalogue text ∷ h) n is =
     (found_behind (is_revision n) (revisions h) last (none_higher h n before)) ∙ rw same refl
 last_body (_ ∷ h) n is = last_body h n is
 
--- what is read from tables is what a store knows of them
-pub known : (w : Readings) (t : Tables) (counts : Counts) (forms : List (List ℕ))
-    (body : Option (List ℕ)) → HasCounts counts t → body ≡ body_of t counts.revisions
-    → forms ≡ forms_in (option_and_then (λ text. result_ok (w.catalogue text)) body) → HasForms w t
-    → known_of t ≡ known_by counts forms
-known w t counts forms body has read are right =
-    let told : Option (List ℕ) → List (List ℕ) =
-    λ b. forms_in (option_and_then (λ text. result_ok (w.catalogue text)) b) in
-    let in_force : t.forms ≡ forms = right
-    ∙ (ap (λ n. told (body_of t n)) has.revisions ∙ sym (are ∙ ap told read)) in
-    rw (has.revisions, has.documents, has.releases, has.duties, in_force) refl
+-- what is kept beside tables is what a store knows of them
+pub known : (w : Readings) → AreRight w → (t : Tables) (kept : Beside) → IsBeside kept t
+    → HasForms w t → known_of t ≡ known_by kept.counts kept.forms
+known w right t kept it are =
+    let counts = it.counts in
+    let in_force : t.forms ≡ kept.forms = are
+    ∙ (ap (forms_by w t) counts.revisions ∙ sym (it.forms w right)) in
+    rw (counts.revisions, counts.documents, counts.releases, counts.duties, in_force) refl
 
 -- the forms of the tables of a history are those of the catalogue that was loaded last
 pub history_forms : (w : Readings) (h : List Command) → HasForms w (tables w h)

@@ -8,16 +8,13 @@ use Rattle.sqlite.specs.State.{State, HasCleanDisk}
 use Rattle.desk_model.specs.Keys.{release_below}
 use Rattle.desk_model.specs.Tables.{Tables, applied}
 use Rattle.desk_history.specs.Laws.{Ascends}
-use Rattle.desk_model.specs.declared.row.DutyRow.{DutyRow}
-use Rattle.desk_model.specs.declared.row.ReleaseRow.{ReleaseRow}
-use Rattle.desk_tally.specs.Kept.{AreKept, are_countable}
-use Rattle.desk_store.specs.Adopting.{IsUncountable}
+use Rattle.desk_tally.specs.Kept.{AreKept}
 use Rattle.desk_tally.specs.declared.tallies.Tallies.{Tallies}
 use Rattle.desk_model.specs.declared.command.Change.{Change}
 use Rattle.desk_model.specs.declared.command.Change.TheVariants as change
 use Rattle.desk_store.specs.Counting.{known_by, counts_after, forms_after, forms_noted, tallied}
 use Rattle.desk_sql_cache.specs.Found.{AreFound, nothing_kept}
-use Rattle.desk_store.specs.declared.counts.Counts.{Counts}
+use Rattle.desk_beside.specs.declared.counts.Counts.{Counts}
 use Rattle.desk_sql_cache.specs.declared.found.Found.{Found}
 use Rattle.desk_model.specs.declared.command.Fault.{Fault}
 use Rattle.desk_access.specs.Follows.{Follows}
@@ -215,22 +212,3 @@ pub noted : (c : Change) (old s : Seen Trees) (has : Found) (m : Tallies) (count
     → Wrote Stands c old (tallied has m (known_by counts now) s) r
 noted c old s has m counts forms now (Ok x) written e f made failed = rw (f, e) made
 noted c old s has m counts forms now (Err fault) written e f made failed = rw (f, e) failed
-
--- ---- what is counted of rows that were read
-
-pub counted_kept : (a b : Seen Trees) (releases : List ReleaseRow) (duties : List DutyRow)
-    → OfRows (λ t. (releases ≡ t.releases) × (duties ≡ t.duty)) a b → (found : Option Tallies)
-    → IfSome found (λ tallies. (t : Tables) → releases ≡ t.releases → duties ≡ t.duty
-    → AreKept tallies t) → IfSome found (λ tallies. OfRows (AreKept tallies) a b)
-counted_kept a b releases duties read None is = is
-counted_kept a b releases duties read (Some tallies) is = λ honest t held. let rows =
-    read honest t held in is t rows.0 rows.1
-
-pub counted_none : (a b : Seen Trees) (releases : List ReleaseRow) (duties : List DutyRow)
-    → OfRows (λ t. (releases ≡ t.releases) × (duties ≡ t.duty)) a b → (found : Option Tallies)
-    → IfNone found (are_countable releases duties ≡ false) → IfNone found (OfRows IsUncountable a b)
-counted_none a b releases duties read None is = λ honest t held.
-    let rows = read honest t held in
-    ap (λ rs. are_countable rs t.duty) (sym rows.0)
-    ∙ (ap (are_countable releases) (sym rows.1) ∙ is)
-counted_none a b releases duties read (Some tallies) is = is

@@ -33,7 +33,7 @@ use Rattle.desk_store.specs.Causes.{CommitFailsFor}
 use Rattle.desk_sql_write.specs.Replacing.{Takes}
 use Rattle.desk_store.specs.Counting.{HasCount, known_by, tallied}
 use Rattle.desk_sql_cache.specs.Found.{AreFound}
-use Rattle.desk_store.specs.declared.counts.Counts.{Counts}
+use Rattle.desk_beside.specs.declared.counts.Counts.{Counts}
 use Rattle.desk_sql_cache.specs.declared.found.Found.{Found}
 
 -- ---- there is room for the counts

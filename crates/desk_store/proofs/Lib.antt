@@ -2,7 +2,7 @@ mod RepeatedLemmas
 mod Counted
 mod Bodies
 mod Vetted
-mod Migrated
+mod Adopted
 mod FoundRows
 mod Missed
 mod Failing

@@ -1,5 +1,5 @@
 -- What an examination and an audit of a connection report together.
-use Rattle.std.proofs.Common.{◌≡◌, Ok, Err, Result, IfErr, ap, subst, ◌∙◌}
+use Rattle.std.proofs.Common.{◌≡◌, Ok, Err, Result, IfErr, IfOk, ap, subst, ◌∙◌}
 use Rattle.std.specs.Prelude.{IsTrue, OnOk}
 use Rattle.sqlite.specs.State.{State, HasCleanDisk, Survives}
 use Rattle.desk_sql_layout.specs.Layout.{desk_schema}
@@ -7,12 +7,18 @@ use Rattle.desk_sql_layout.proofs.Clean.{clean_before}
 use Rattle.desk_sql_adopt.specs.Reading.{HasStayed}
 use Rattle.desk_sql_adopt.specs.Version.{IsContent}
 use Rattle.desk_sql_adopt.specs.declared.version.Content.TheVariants as content
-use Rattle.desk_sql_adopt.proofs.Spared.{spared_then}
+use Rattle.desk_sql_adopt.proofs.Spared.{kept, spared_then}
+use Rattle.desk_access.specs.Seen.{OfRows}
+use Rattle.desk_beside.specs.Beside.{IsBeside}
+use Rattle.desk_beside.specs.declared.beside.Beside.{Beside}
+use Rattle.desk_model.specs.declared.command.Fault.TheVariants.{Memory, Store}
+use Rattle.desk_model.specs.declared.command.StoreFault.TheVariants.{Database, Rows}
+use Rattle.desk_sql_layout.specs.Held.{seen_of}
 use Rattle.desk_snapshot.specs.declared.fault.AuditReport.{AuditReport}
 use Rattle.desk_snapshot.specs.declared.fault.AuditReport.TheVariants as report
 use Rattle.desk_sql_scan.specs.Scans.{IsSnapshot}
 use Rattle.desk_store.specs.Adopting.{IsFinding, IsLeft, IsOfAudit, IsReason}
-use Rattle.desk_store.specs.Auditing.{Reports}
+use Rattle.desk_store.specs.Auditing.{IsSoundDesk, Reports}
 use Rattle.desk_store.specs.declared.fault.AdoptFault.{AdoptFault}
 use Rattle.desk_store.specs.declared.fault.AdoptFault.TheVariants.{NotADesk, BadVersion, Unsound, Fault}
 
@@ -35,6 +41,9 @@ module _ (old between : State) where
       → Reports old told
   reports_before told same it = (it.0, subst (IsSnapshot it.0) same it.1, it.2)
 
+  sound_before : between.now ≡ old.now → IsSoundDesk between → IsSoundDesk old
+  sound_before same it = (it.0, subst (IsSnapshot it.0) same it.1, it.2, it.3)
+
   pub reason_after : {A : Type 0} (r : Result A AdoptFault) → IsContent old content.Desk
       → (IsTrue old.is_open → between.now ≡ old.now) → IfErr r IsOfAudit
       → (between.now.schema ≡ desk_schema → IfErr r (IsFinding between)) → IfErr r (IsReason old)
@@ -44,17 +53,27 @@ module _ (old between : State) where
     λ is. reports_before (report.Unsound f) (same is)
         (told (ap (λ d. d.schema) (same is) ∙ desk.1)),
   )
-  reason_after (Err (Fault f)) desk same only told = tt
+  reason_after (Err (Fault Memory)) desk same only told = tt
+  reason_after (Err (Fault (Store Database))) desk same only told = tt
+  reason_after (Err (Fault (Store Rows))) desk same only told = desk
   reason_after (Err NotADesk) desk same only told = absurd only
   reason_after (Err (BadVersion n)) desk same only told = absurd only
 
   pub passed_after : {A : Type 0} (r : Result A AdoptFault) → IsContent old content.Desk
       → between.now ≡ old.now
-      → (between.now.schema ≡ desk_schema → OnOk r (Reports between report.Sound))
-      → OnOk r (Reports old report.Sound)
-  passed_after (Ok x) desk same told = reports_before report.Sound same
+      → (between.now.schema ≡ desk_schema → OnOk r (IsSoundDesk between))
+      → OnOk r (IsSoundDesk old)
+  passed_after (Ok x) desk same told = sound_before same
       (told (ap (λ d. d.schema) same ∙ desk.1))
   passed_after (Err e) desk same told = tt
+
+  -- what is kept beside the rows is kept beside those that were shown first
+  pub kept_after : (new : State) (r : Result Beside AdoptFault) → HasStayed old between
+      → IfOk r (λ b. OfRows (IsBeside b) (seen_of between) (seen_of new))
+      → IfOk r (λ b. OfRows (IsBeside b) (seen_of old) (seen_of new))
+  kept_after new (Ok b) stayed it = λ clean t holds.
+      it clean t ((kept old between stayed.0).spared.holds t holds)
+  kept_after new (Err e) stayed it = tt
 
   then : {new : State} → HasStayed old between → HasStayed between new → HasStayed old new
   then {new} p q = (

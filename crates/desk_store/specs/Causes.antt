@@ -1,6 +1,5 @@
 -- When a look-up of a store fails, when a commit does, and when a database isn't adopted.
-use Rattle.std.specs.Prelude.{◌≡◌, ◌<◌, ◌^◌, true, List, length, is_some, IfErr, IfOk, IfSome, None, IsTrue, Result}
-use Rattle.std.specs.Result.{result_ok}
+use Rattle.std.specs.Prelude.{◌≡◌, List, IfErr, IfOk, None, IsTrue, Result}
 use Rattle.sqlite_trees.specs.Tree.{Trees}
 use Rattle.sqlite.specs.State.{State, HasCleanDisk}
 use Rattle.desk_model.specs.Answers.{IsHistory}
@@ -14,7 +13,6 @@ use Rattle.desk_access.specs.Seen.{Looked, OfRows, Seen}
 use Rattle.desk_sql_layout.specs.Held.{rows_of, seen_of}
 use Rattle.desk_sql_layout.specs.Causes.{AreWritten}
 use Rattle.desk_sql_write.specs.Taking.{CanStand, HasRoom, IsCaused, rows_in}
-use Rattle.desk_sql_adopt.specs.Revisions.{body_of}
 use Rattle.desk_store.specs.declared.fault.AdoptFault.{AdoptFault}
 use Rattle.desk_store.specs.declared.fault.AdoptFault.TheVariants as adopt
 use Rattle.desk_texts.specs.Right.{AreRight}
@@ -53,18 +51,6 @@ pub record CommitFailsFor (change : Change) (seen : Seen Trees) (old new : State
       → seen.holds t → AreWritten t → Follows change t
       → CanStand (rows_of t) → CanStand (rows_of (applied change t))
       → HasRoom (rows_in change) old.now.trees → IsCaused old new fault
-
--- the number of rows of each of these kinds is a number of 32 bits
-pub record AreFew (t : Tables) : Type 0 where
-  pub revisions : length t.catalogue < 2 ^ 32
-  pub documents : length t.document < 2 ^ 32
-  pub releases : length t.releases < 2 ^ 32
-  pub duties : length t.duty < 2 ^ 32
-
--- the text of the last revision, if there is one, is a catalogue
-abbrev pub HasCatalogue : Readings → Tables → Type 0
-HasCatalogue w t = IfSome (body_of t (length t.catalogue))
-    (λ text. is_some (result_ok (w.catalogue text)) ≡ true)
 
 -- they are the tables of a recorded history
 pub record AreRecorded (t : Tables) : Type 0 where

@@ -11,7 +11,7 @@ use Rattle.desk_tally.specs.Kept.{AreKept}
 use Rattle.desk_tally.specs.declared.tallies.Tallies.{Tallies}
 use Rattle.desk_sql_cache.specs.Found.{AreFound}
 use Rattle.desk_sql_cache.specs.declared.found.Found.{Found}
-use Rattle.desk_store.specs.declared.counts.Counts.{Counts}
+use Rattle.desk_beside.specs.declared.counts.Counts.{Counts}
 
 abbrev pub known_by : Counts → List (List ℕ) → Known
 known_by counts forms = record {

@@ -1,18 +1,10 @@
-//! How many rows some of the tables have.
+//! How many rows some of the tables have after a change.
 
 ghost use Rattle.std.specs.Prelude.{◌≡◌, IfNone, IfSome};
 ghost use Rattle.desk_store.specs.Counting.{HasCount, counts_after};
 
+use desk_beside::Counts;
 use desk_model::Change;
-
-/// How many revisions, documents, releases and duties there are.
-#[derive(Clone, Copy, PartialEq, Eq)]
-pub struct Counts {
-    pub revisions: u32,
-    pub documents: u32,
-    pub releases: u32,
-    pub duties: u32,
-}
 
 /// The counts after a change, if there is room for them.
 pub(crate) fn counts_after(change: &Change, counts: Counts) -> Option<Counts>

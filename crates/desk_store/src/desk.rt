@@ -1,6 +1,6 @@
 //! The desk in a database.
 
-ghost use Rattle.std.specs.Prelude.{◌≡◌, true, false, IfOk, IfErr, IsTrue, Err};
+ghost use Rattle.std.specs.Prelude.{◌≡◌, ◌≢◌, true, false, IfOk, IfErr, IsTrue, Err, None};
 ghost use Rattle.sqlite_trees.specs.Tree.{Trees};
 ghost use Rattle.sqlite.specs.Held.{state};
 ghost use Rattle.sqlite.specs.State.{HasCleanDisk, Survives};
@@ -8,33 +8,35 @@ ghost use Rattle.desk_model.specs.Readings.{Readings};
 ghost use Rattle.desk_model.specs.Tables.{Tables, tables};
 ghost use Rattle.desk_access.specs.Seen.{Looked, OfRows, Same};
 ghost use Rattle.desk_core.specs.Desks.{InHistory};
-ghost use Rattle.desk_sql_layout.specs.Held.{Stands, known_of, seen_of};
+ghost use Rattle.desk_sql_layout.specs.Held.{Holds, Stands, known_of, seen_of};
+ghost use Rattle.desk_sql_layout.specs.Layout.{no_schema};
 ghost use Rattle.desk_tally.specs.Kept.{AreKept};
 ghost use Rattle.desk_texts.specs.Right.{AreRight};
 ghost use Rattle.desk_sql_write.specs.Creating.{has_meta};
+ghost use Rattle.desk_sql_write.specs.Taking.{IsCaused};
+ghost use Rattle.desk_model.specs.declared.command.Fault.{Fault as CallFault};
 ghost use Rattle.desk_sql_write.specs.Written.{Undone};
 ghost use Rattle.desk_sql_adopt.specs.Reading.{HasStayed};
 ghost use Rattle.desk_sql_adopt.specs.Older.{IsOlderContent};
 ghost use Rattle.desk_sql_adopt.specs.Version.{IsContent};
 ghost use Rattle.desk_sql_adopt.specs.declared.older.OlderVersion.{OlderVersion as Version};
-ghost use Rattle.desk_sql_migrate.specs.Migrating.{InOlderHistory, IsFault as IsMigrateFault, IsReason as IsMigrateReason, LeavesSome, Migrated};
-ghost use Rattle.desk_store.specs.Adopting.{HasForms, IsEmpty, IsFault, IsLeft, IsReason, StandsEmpty};
-ghost use Rattle.desk_store.specs.Auditing.{IsAudit, Reports};
+ghost use Rattle.desk_sql_migrate.specs.Migrating.{InOlderHistory, IsFault as IsMigrateFault, IsLeft as IsMigrateLeft, IsReason as IsMigrateReason, LeavesSome, Migrated};
+ghost use Rattle.desk_store.specs.Adopting.{HasForms, IsEmpty, IsFault, IsLeft, IsReason, StandsEmpty, creation_of};
+ghost use Rattle.desk_store.specs.Auditing.{IsAudit, IsSoundDesk};
 ghost use Rattle.desk_store.specs.Causes.{AdoptFailsFor, MissesIf};
 ghost use Rattle.desk_store.specs.Counting.{known_by};
-ghost use Rattle.desk_store.specs.Migrating.{IsLeftBy};
+ghost use Rattle.desk_model.specs.declared.command.StoreFault.TheVariants.{Database as DatabaseFault};
 
 use crate::adopt::examine_desk;
-use crate::counts::Counts;
 use crate::fault::{AdoptFault, CreateFault};
-use crate::migrate::migrate_store;
 use crate::store::SqlStore;
-use desk_base::{Items, Text};
+use desk_base::Items;
+use desk_beside::{Beside, Counts};
 use desk_core::{Answer, Command, Desk, Fault, Query, TableDesk};
 use desk_model::Profile;
 use desk_snapshot::AuditReport;
 use desk_sql_adopt::{Content, OlderContent, OlderVersion};
-use desk_sql_migrate::MigrateFault;
+use desk_sql_migrate::{MigrateFault, migrate_tables};
 use desk_sql_write::{Refused, create_tables};
 use desk_tally::Tallies;
 use desk_texts::Standard;
@@ -55,20 +57,29 @@ pub struct SqlDesk<S: Alter> {
     pub(crate) desk: TableDesk<Standard, SqlStore<S>>,
 }
 
+/// Why no desk was created.
+fn creation_of(refused: Refused) -> CreateFault
+    ensures { result ≡ creation_of refused }
+{
+    match refused {
+        Refused::NotEmpty => CreateFault::NotEmpty,
+        Refused::Fault(fault) => CreateFault::Fault(fault),
+    }
+}
+
 impl<S: Alter> SqlDesk<S> {
-    fn over(
-        alloc: Global,
-        conn: Connection<S>,
-        counts: Counts,
-        forms: Items<Text>,
-        tallies: Tallies,
-    ) -> SqlDesk<S>
+    fn over(alloc: Global, conn: Connection<S>, kept: Beside) -> SqlDesk<S>
         requires { conn.in_transaction ≡ false }
         ensures same { result.desk.store.conn ≡ conn }
-        ensures holds { (t : Tables) → known_of t ≡ known_by counts forms → AreKept tallies t
-            → (seen_of (state S.Store conn)).holds t
+        ensures holds { (t : Tables) → known_of t ≡ known_by kept.counts kept.forms
+            → AreKept kept.tallies t → (seen_of (state S.Store conn)).holds t
             → (⟦<SqlDesk<S> as Desk>⟧.seen result).holds t }
     {
+        let Beside {
+            counts,
+            forms,
+            tallies,
+        } = kept;
         let store = SqlStore::over(alloc, conn, counts, forms, tallies);
         SqlDesk {
             desk: TableDesk::over(alloc, Standard, store),
@@ -79,7 +90,8 @@ impl<S: Alter> SqlDesk<S> {
     ///
     /// A database with a table `meta` is refused as `NotEmpty`, and one with other tables by a
     /// fault of the store; the connection is returned. After `NotEmpty` it is as it was. After a
-    /// fault its tables are as they were, and a stop may leave the empty desk.
+    /// fault its tables are as they were, and a stop may leave the empty desk. In an empty database
+    /// it fails only because no memory is left, or because the disk failed once more.
     pub fn create(
         alloc: Global,
         conn: Connection<S>,
@@ -92,6 +104,14 @@ impl<S: Alter> SqlDesk<S> {
             → result ≡ Err (CreateFault.NotEmpty, conn) }
         ensures not_empty { IfErr result (λ e. e.0 ≡ CreateFault.NotEmpty
             → has_meta (state S.Store conn).now.schema ≡ true) }
+        ensures others { has_meta (state S.Store conn).now.schema ≡ false
+            → (state S.Store conn).now.schema ≢ no_schema → result
+            ≡ Err (CreateFault.Fault (Fault.Store DatabaseFault), conn) }
+        ensures cause { (state S.Store conn).now.schema ≡ no_schema → IfErr result (λ e.
+            HasCleanDisk (state S.Store e.1) → IsTrue (state S.Store conn).is_open
+            → (state S.Store conn).step_limit ≡ None
+            → (fault : CallFault) × (e.0 ≡ CreateFault.Fault fault)
+            × IsCaused (state S.Store conn) (state S.Store e.1) fault) }
         ensures undone { IfErr result (λ e. HasCleanDisk (state S.Store e.1)
             → Undone (state S.Store conn) (state S.Store e.1)) }
         ensures survives { IfErr result
@@ -103,10 +123,14 @@ impl<S: Alter> SqlDesk<S> {
             Ok(()) => {
                 let forms = Items::new(alloc);
                 let tallies = Tallies::new(alloc);
-                Ok(SqlDesk::over(alloc, conn, NO_ROWS, forms, tallies))
+                let kept = Beside {
+                    counts: NO_ROWS,
+                    forms,
+                    tallies,
+                };
+                Ok(SqlDesk::over(alloc, conn, kept))
             }
-            Err(Refused::NotEmpty) => Err((CreateFault::NotEmpty, conn)),
-            Err(Refused::Fault(fault)) => Err((CreateFault::Fault(fault), conn)),
+            Err(refused) => Err((creation_of(refused), conn)),
         }
     }
 
@@ -118,7 +142,8 @@ impl<S: Alter> SqlDesk<S> {
     /// of a desk are declared as `create` declares them, in its order, or if there is a table, an
     /// index or a view besides them; and as `Unsound` if `audit_connection` finds that its tables
     /// aren't sound. After these the connection is as it was. The fault is that no memory was left,
-    /// that the database failed, or that it gave rows that no desk has.
+    /// that the database failed, or that a desk's tables gave rows that no desk has: a cell has a
+    /// value of another kind than its column has in a desk, or sound rows have a number below 0.
     ///
     /// The tables of a recorded history are sound, so for them the only error is a fault. Whatever
     /// sound rows the connection shows are the desk's rows, so a refusal or a fault leaves them.
@@ -140,8 +165,7 @@ impl<S: Alter> SqlDesk<S> {
         ensures desk { IfOk result (λ desk. HasCleanDisk (state S.Store desk.desk.store.conn)
             → IsContent (state S.Store conn) Content.Desk) }
         ensures passed { IfOk result (λ desk. HasCleanDisk (state S.Store desk.desk.store.conn)
-            → IsTrue (state S.Store conn).is_open
-            → Reports (state S.Store conn) AuditReport.Sound) }
+            → IsTrue (state S.Store conn).is_open → IsSoundDesk (state S.Store conn)) }
         ensures reason { IfErr result (λ e. HasCleanDisk (state S.Store e.1)
             → IsReason (state S.Store conn) e.0) }
         ensures stayed { IfOk result (λ desk. HasStayed (state S.Store conn)
@@ -153,9 +177,7 @@ impl<S: Alter> SqlDesk<S> {
     {
         let mut conn = conn;
         match examine_desk(alloc, &mut conn) {
-            Ok((counts, forms, tallies)) => {
-                Ok(SqlDesk::over(alloc, conn, counts, forms, tallies))
-            }
+            Ok(kept) => Ok(SqlDesk::over(alloc, conn, kept)),
             Err(fault) => Err((fault, conn)),
         }
     }
@@ -163,8 +185,9 @@ impl<S: Alter> SqlDesk<S> {
     /// Migrates a desk's tables of version 1 or 2 in a database to version 3, as `migrate_tables`
     /// does, and adopts it. The old version is returned beside the desk.
     ///
-    /// It is refused as `migrate_tables` says, and is then as it was. A fault may also come after
-    /// the migration: then the database that is returned shows the migrated tables.
+    /// It is refused as `migrate_tables` says. After a refusal the database is as it was, and after a
+    /// fault it shows what it showed, although a stop may leave the migrated tables. After `Ok` a stop
+    /// leaves the migrated tables and no others.
     pub fn migrate(
         alloc: Global,
         conn: Connection<S>,
@@ -173,8 +196,19 @@ impl<S: Alter> SqlDesk<S> {
         ensures migrated { IfOk result (λ made. HasCleanDisk (state S.Store made.0.desk.store.conn)
             → IsOlderContent (state S.Store conn) (OlderContent.Older made.1)
             × Migrated made.1 (state S.Store conn) (state S.Store made.0.desk.store.conn)) }
+        ensures rows { IfOk result (λ made. HasCleanDisk (state S.Store made.0.desk.store.conn)
+            → (w : Readings) → AreRight w → (t : Tables)
+            → Holds t (state S.Store made.0.desk.store.conn).now → HasForms w t
+            → (⟦<SqlDesk<S> as Desk>⟧.seen made.0).holds t) }
         ensures holds { IfOk result (λ made. (version : Version) → InOlderHistory version (λ w h.
             (made.1 ≡ version) × (⟦<SqlDesk<S> as Desk>⟧.seen made.0).holds (tables w h))
+            (state S.Store conn) (state S.Store made.0.desk.store.conn)) }
+        ensures stop { IfOk result (λ made. HasCleanDisk (state S.Store made.0.desk.store.conn)
+            → (left : Trees) → (⟦<SqlDesk<S> as Desk>⟧.seen made.0).leaves left
+            → left ≡ (state S.Store made.0.desk.store.conn).now.trees) }
+        ensures stands { IfOk result (λ made. (version : Version) → InOlderHistory version (λ w h.
+            (left : Trees) → (⟦<SqlDesk<S> as Desk>⟧.seen made.0).leaves left
+            → Stands left (tables w h))
             (state S.Store conn) (state S.Store made.0.desk.store.conn)) }
         ensures leaves { IfOk result
             (λ made. Survives (state S.Store conn) (state S.Store made.0.desk.store.conn)
@@ -183,14 +217,13 @@ impl<S: Alter> SqlDesk<S> {
             → IsMigrateReason (state S.Store conn) e.0) }
         ensures history { IfErr result (λ e. (version : Version) → InOlderHistory version (λ w h.
             IsMigrateFault e.0) (state S.Store conn) (state S.Store e.1)) }
-        ensures left { IfErr result (λ e. IsLeftBy (state S.Store conn) (state S.Store e.1) e.0) }
+        ensures left { IfErr result
+            (λ e. IsMigrateLeft (state S.Store conn) (state S.Store e.1) e.0) }
         ensures idle { IfErr result (λ e. e.1.in_transaction ≡ false) }
     {
         let mut conn = conn;
-        match migrate_store(alloc, &mut conn) {
-            Ok((version, (counts, forms, tallies))) => {
-                Ok((SqlDesk::over(alloc, conn, counts, forms, tallies), version))
-            }
+        match migrate_tables(alloc, &mut conn) {
+            Ok((version, kept)) => Ok((SqlDesk::over(alloc, conn, kept), version)),
             Err(fault) => Err((fault, conn)),
         }
     }

@@ -21,12 +21,11 @@ mod counts;
 mod desk;
 mod fault;
 mod looking;
-mod migrate;
 mod store;
 
 pub use audit::audit_connection;
-pub use counts::Counts;
 pub use desk::SqlDesk;
+pub use desk_beside::Counts;
 pub use desk_sql_migrate::MigrateFault;
 pub use fault::{AdoptFault, CreateFault};
 pub use store::SqlStore;

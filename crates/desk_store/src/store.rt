@@ -35,9 +35,10 @@ ghost use Rattle.desk_store.specs.Counting.{forms_after, forms_noted, known_by, 
 ghost use Rattle.desk_texts.specs.Right.{AreRight};
 
 use crate::audit::audit_connection;
-use crate::counts::{Counts, counts_after};
+use crate::counts::counts_after;
 use desk_access::store::Store;
 use desk_base::{Day, Items, Text};
+use desk_beside::Counts;
 use desk_memory_rows::ByPackage;
 use desk_model::{
     AttachedRow, Change, ChangeRow, DocumentHead, DutyRow, Fault, FrozenRow, PackageRow, Profile,

@@ -1,5 +1,5 @@
 use Rattle.desk_audit.proofs.Firsts.{sound, unsound}
-use Rattle.desk_audit.proofs.report_on.Goals as goal
+use Rattle.desk_audit.proofs.judge.Goals as goal
 
 pub returns-in-Some : goal.returns-in-Some
 returns-in-Some c = λ w right. unsound w c.args.snapshot.now c.in-Some.fault

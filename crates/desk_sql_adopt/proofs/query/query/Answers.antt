@@ -1,7 +1,7 @@
 use Rattle.std.proofs.Common.{rules}
 use Rattle.sqlite.specs.Held.{state}
 use Rattle.sqlite.specs.Values.{bound}
-use Rattle.desk_sql_adopt.proofs.Asking.{answered, failed}
+use Rattle.desk_sql_adopt.proofs.Asking.{answered, failed, never_rows}
 use Rattle.sqlite.specs.State.{CommitsShowing}
 use Rattle.desk_sql_layout.proofs.Causes.{failed_cause}
 use Rattle.desk_sql_adopt.proofs.query.query.Goals as goal
@@ -28,3 +28,6 @@ returns-in-Err-clause-cause g c = λ asked.
     let new = state g.S.Store c.query_all.new.self in
     rw c.fault_of.ensures (failed_cause sql params old new (CommitsShowing sql params old)
     c.query_all.ensures.survives asked c.in-Err.error c.in-Err.ensures.err)
+
+pub returns-in-Err-clause-refused : goal.returns-in-Err-clause-refused
+returns-in-Err-clause-refused g c = rw c.fault_of.ensures (never_rows c.in-Err.error)

@@ -1,4 +1,5 @@
-use Rattle.std.proofs.Common.{sym, subst, ◌∙◌}
+use Rattle.std.proofs.Common.{sym, subst}
+use Rattle.desk_sql_scan.specs.Parts.{AreRowsOf}
 use Rattle.desk_sql_scan.specs.Scans.{IsSnapshot}
 use Rattle.desk_sql_scan.proofs.Chains.{as_one, fails_so, hands_on, then_fails, then_scans}
 use Rattle.desk_sql_scan.proofs.Joining.{joined_has, joined_is}
@@ -22,6 +23,6 @@ returns g c =
       same = it.same;
       raw = λ clean has. subst (λ s. IsSnapshot s old.now) (sym c.join.ensures)
           (joined_has c.in_ok-first.first c.in_ok-second.second old.now (it.raw clean has));
-      found = λ clean t holds sorted. c.join.ensures
-          ∙ joined_is c.in_ok-first.first c.in_ok-second.second t (it.found clean t holds) sorted;
+      found = λ clean t holds. subst (λ s. AreRowsOf s t) (sym c.join.ensures)
+          (joined_is c.in_ok-first.first c.in_ok-second.second t (it.found clean t holds));
     })

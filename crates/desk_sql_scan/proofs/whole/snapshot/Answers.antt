@@ -12,8 +12,8 @@ returns-clause-raw g c = λ clean has. IfOk-weaker c.read_whole.result _ _ (λ s
 
 pub returns-clause-found : goal.returns-clause-found
 returns-clause-found g c = IfOk-weaker c.read_whole.result _ _
-    (λ s it. λ clean t shows sorted. it.found clean t
-    (shows (clean_before _ _ (λ _. ⊥) it.survives clean) (it.same clean).0.was_open).holds sorted)
+    (λ s it. λ clean t shows. it.found clean t
+    (shows (clean_before _ _ (λ _. ⊥) it.survives clean) (it.same clean).0.was_open).holds)
     c.read_whole.ensures.ok
 
 pub returns-clause-read : goal.returns-clause-read

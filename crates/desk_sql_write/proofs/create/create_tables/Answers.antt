@@ -1,4 +1,5 @@
-use Rattle.std.proofs.Common.{◌∙◌, refl, sym, rules}
+use Rattle.std.proofs.Common.{◌∙◌, ap, refl, sym, rules}
+use Rattle.sqlite.specs.Effect.{Database}
 use Rattle.sqlite.specs.Held.{state}
 use Rattle.desk_sql_write.proofs.Empty.{leaves_tables}
 use Rattle.desk_sql_write.proofs.create.create_tables.Goals as goal
@@ -21,3 +22,8 @@ returns-in-Err-clause-cause g c none clean opened unlimited = (
   c.in-Err.ensures.cause.cause clean opened unlimited
       (record { declared = none; empty = tt; sound = (c.schema-schema.ensures.live opened).0 }),
 )
+
+pub returns-in-Ok-clause-stop : goal.returns-in-Ok-clause-stop
+returns-in-Ok-clause-stop g c = λ clean trees left.
+    let it = c.in-Ok.ensures.ok clean in
+    c.write.ensures.stop it.is_open trees left ∙ ap (λ (db : Database). db.trees) it.settled

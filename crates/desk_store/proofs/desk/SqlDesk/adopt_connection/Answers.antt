@@ -1,7 +1,7 @@
 use Rattle.sqlite.specs.Held.{state}
 use Rattle.desk_model.specs.Tables.{tables}
 use Rattle.desk_sql_adopt.proofs.Spared.{kept}
-use Rattle.desk_store.proofs.Bodies.{history_forms}
+use Rattle.desk_store.proofs.Bodies.{history_forms, known}
 use Rattle.desk_store.proofs.desk.SqlDesk.adopt_connection.Goals as goal
 
 pub returns-in-Ok-clause-rows : goal.returns-in-Ok-clause-rows
@@ -9,8 +9,8 @@ returns-in-Ok-clause-rows g c = λ w right honest t held forms.
     let old = state g.S.Store c.args.conn in
     let new = state g.S.Store c.examine_desk.new.conn in
     let clean = rw c.over.ensures.same at honest in
-    c.over.ensures.holds t (c.in-Ok.ensures.known w right clean t held forms)
-    (c.in-Ok.ensures.kept clean t held)
+    let beside = c.in-Ok.ensures.kept clean t held in
+    c.over.ensures.holds t (known w right t c.in-Ok.kept beside forms) beside.tallies
     ((kept old new c.in-Ok.ensures.stayed.0).spared.holds t held)
 
 pub returns-in-Ok-clause-holds : goal.returns-in-Ok-clause-holds

@@ -1,5 +1,4 @@
-use Rattle.std.proofs.Common.{[], ap, refl, ◌∙◌}
-use Rattle.sqlite.specs.Effect.{Database}
+use Rattle.std.proofs.Common.{[], refl}
 use Rattle.sqlite.specs.Held.{state}
 use Rattle.desk_model.specs.Tables.{tables}
 use Rattle.desk_store.proofs.desk.SqlDesk.create.Goals as goal
@@ -19,7 +18,6 @@ returns-in-Ok-clause-empty g c =
           let it = founded (rw same at clean) in (
             (state g.S.Store c.create_tables.new.conn).now,
             it.holds,
-            c.in-Ok.ensures.stop it.is_open x (rw same at left)
-                ∙ ap (λ (db : Database). db.trees) it.settled,
+            c.in-Ok.ensures.stop (rw same at clean) x (rw same at left),
           );
     }

@@ -14,7 +14,7 @@ returns-clause-kept g c = looked c.args.self.now.found c.args.self.now.tallies _
 pub returns-clause-found : goal.returns-clause-found
 returns-clause-found g c =
     IfOk-weaker c.snapshot.result _ _
-    (λ s it. λ w right honest h ok held. it honest (tables w h) held.2
+    (λ s it. λ w right honest h ok held. (it honest (tables w h) held.2).listed
     (c.listed_tables_are_sorted.ensures w h (c.right_readings_list_in_order.ensures w right)))
     c.snapshot.ensures.found
 

@@ -1,0 +1,15 @@
+//! What a store keeps beside the rows of a desk's tables, so as not to look it up again: how many
+//! rows some tables have, the forms of the catalogue in force, and the tallies of the releases.
+//!
+//! `beside_if_sound` takes it from a snapshot that an audit finds sound; `specs/Beside.antt` says
+//! what it is. No desk's tables have a number below 0, but the ten conditions of an audit admit one
+//! in a few columns: such rows are a fault.
+#![tactic(auto)]
+
+mod beside;
+mod counts;
+mod numbers;
+mod rows;
+
+pub use beside::{Audited, Beside, beside_if_sound};
+pub use counts::Counts;
