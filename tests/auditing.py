@@ -188,6 +188,19 @@ def of_sound_rows(desk, data):
     print(f"requests on {count} desks whose rows no command made")
 
 
+def of_numbers_below_0(desk, data):
+    """Sound rows with a number below 0 are no desk's, which keeps the file as it is."""
+    for below, other in breaks.BELOW_0:
+        for text, wanted in ((below, "error"), (other, "served")):
+            judged, _ = changed(desk, data, text)
+            differs(f"the second judge, after {text}", judged, ["sound"])
+            differs(f"audit, after {text}", desk.audit(), ["sound"])
+            before = bytes_at(desk.path)
+            differs(f"totals, after {text}", desk.totals(), [wanted])
+            differs(f"the file, after {text}", bytes_at(desk.path) == before, [True])
+    print(f"numbers below 0 in {len(breaks.BELOW_0)} columns")
+
+
 def two_at_once(desk, data):
     """The first one is told, whichever was broken first."""
     count = 0
@@ -400,6 +413,7 @@ def main():
         each_condition(desk, data)
         two_at_once(desk, data)
         of_sound_rows(desk, data)
+        of_numbers_below_0(desk, data)
         of_the_page(desk, files)
         at_random(desk, files, changes)
         in_other_places(desk, room, data)

@@ -383,6 +383,19 @@ def of_other_values(desk, files):
     print(f"{sum(told.values())} values that no desk writes ({without} can't stand)", flush=True)
 
 
+def of_numbers_below_0(desk, files):
+    """Sound rows with a number below 0 are no desk's: they aren't migrated, and the file stays as it was."""
+    for version in make.OLDER:
+        for below, other in breaks.BELOW_0:
+            auditing.executed(desk, files[version]["whole-office"], below)
+            before = bytes_at(desk.path)
+            differs(f"migrate version {version}, after {below}", desk.migrate(), ["error"])
+            differs(f"the file of version {version}, after {below}", bytes_at(desk.path) == before, [True])
+            auditing.executed(desk, files[version]["whole-office"], other)
+            differs(f"migrate version {version}, after {other}", desk.migrate(), [f"migrated {version}"])
+    print(f"numbers below 0 in {len(breaks.BELOW_0)} columns", flush=True)
+
+
 def at_random(desk, files, changes):
     turn, told, done = random.Random(1), collections.Counter(), 0
     while done < changes:
@@ -490,6 +503,7 @@ def main():
         of_other_tables(desk, files)
         of_other_forms(desk, files)
         of_other_values(desk, files)
+        of_numbers_below_0(desk, files)
         at_random(desk, files, changes)
         in_other_places(desk, room, files)
         stopping.try_all(desk, room, files, kills)

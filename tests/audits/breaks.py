@@ -321,3 +321,15 @@ ALONE = [
     ("BadChange", "UPDATE change SET day = 'x' WHERE duty = 2"),
     ("BadState", "UPDATE releases SET state = 'x' WHERE name = 'bare'"),
 ]
+
+# sound rows that no desk's tables have, and the same with a number that they may have
+BELOW_0 = (
+    ("INSERT INTO conclusion VALUES (-1, '', 'a OR b')", "INSERT INTO conclusion VALUES (0, '', 'a OR b')"),
+    ("INSERT INTO adoption VALUES (-1, 'LicenseRef-any', 'any')", "INSERT INTO adoption VALUES (0, 'LicenseRef-any', 'any')"),
+    ("INSERT INTO attached VALUES ('unknown', -1)", "INSERT INTO attached VALUES ('unknown', 0)"),
+    ("UPDATE releases SET revision = -1 WHERE name = 'held'", "UPDATE releases SET revision = 1 WHERE name = 'held'"),
+    (
+        "UPDATE frozen SET document = -77 WHERE release = 'gone' AND package = 'SPDXRef-a'; UPDATE duty SET document = -77 WHERE number = 10",
+        "UPDATE frozen SET document = 77 WHERE release = 'gone' AND package = 'SPDXRef-a'; UPDATE duty SET document = 77 WHERE number = 10",
+    ),
+)
