@@ -59,14 +59,16 @@ use Rattle.desk_history_laws.proofs.Sets.{set_rises}
 
 -- ---- the catalogue in force is the last revision
 
-find_behind : {A : Type 0} (test : A → Bool) (xs ys : List A) → find test xs ≡ None
+-- what isn't found among the first elements is sought among the others
+pub find_behind : {A : Type 0} (test : A → Bool) (xs ys : List A) → find test xs ≡ None
     → find test (xs ++ ys) ≡ find test ys
 find_behind test xs ys none = find-append test xs ys ∙ ap (λ o. option_or o (find test ys)) none
 
 differs : (n m : ℕ) → n < m → (n == m) ≡ false
 differs n m lt = grind (arith, nat_tests)
 
-no_revision : (h : List Command) (n : ℕ) → length (revisions h) < n
+-- no revision has a higher number than there are revisions
+pub no_revision : (h : List Command) (n : ℕ) → length (revisions h) < n
     → find (is_revision n) (revisions h) ≡ None
 no_revision [] n lt = refl
 no_revision (LoadCatalogue text ∷ h) n lt =

@@ -13,7 +13,7 @@ mod DutyRows
 mod FrozenRows
 mod FrozenChoices
 mod Bills
-mod Billed
+pub mod Billed
 mod Ships
 mod Findings
 mod Listings

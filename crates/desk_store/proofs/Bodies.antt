@@ -19,33 +19,11 @@ use Rattle.desk_beside.specs.declared.beside.Beside.{Beside}
 use Rattle.desk_model.specs.Keys.{is_revision}
 use Rattle.desk_store.specs.Adopting.{HasForms}
 use Rattle.desk_store.specs.Counting.{known_by}
+use Rattle.desk_history_laws.proofs.Billed.{find_behind, no_revision}
 use Rattle.desk_texts.specs.Right.{AreRight}
 
 abbrev row_of : ℕ → List ℕ → CatalogueRow
 row_of n text = record { revision = n; body = text }
-
-found_behind : (p : CatalogueRow → Bool) (xs : List CatalogueRow) (x : CatalogueRow)
-    → find p xs ≡ None → find p (xs ++ x ∷ []) ≡ find p (x ∷ [])
-found_behind p [] x none = refl
-found_behind p (y ∷ ys) x none = go (found_behind p ys x) (p y) refl
-  where
-    go : (find p ys ≡ None → find p (ys ++ x ∷ []) ≡ find p (x ∷ [])) → (b : Bool) → p y ≡ b
-        → find p (y ∷ ys ++ x ∷ []) ≡ find p (x ∷ [])
-    go more true is = absurd (let e = rw is at none in cc)
-    go more false is = rw is (more (rw is at none))
-
--- no revision has a higher number than there are revisions
-none_higher : (h : List Command) (n : ℕ) → length (revisions h) < n
-    → find (is_revision n) (revisions h) ≡ None
-none_higher [] n more = refl
-none_higher (LoadCatalogue text ∷ h) n more =
-    let last = row_of (length (revisions h) + 1) text in
-    let long : length (revisions h ++ last ∷ []) ≡ length (revisions h) + 1 =
-    length_push (revisions h) last in
-    let before : length (revisions h) < n = omega (arith, long) in
-    let other : (length (revisions h) + 1 == n) ≡ false = grind (arith, nat_tests, long) in
-    found_behind (is_revision n) (revisions h) last (none_higher h n before) ∙ rw other refl
-none_higher (_ ∷ h) n more = none_higher h n more
 
 -- the revision whose number is the number of revisions has the text that was loaded last
 last_body : (h : List Command) (n : ℕ) → length (revisions h) ≡ n
@@ -58,7 +36,7 @@ last_body (LoadCatalogue text ∷ h) n is =
     let before : length (revisions h) < n = omega (arith, long) in
     let same : (length (revisions h) + 1 == n) ≡ true = grind (arith, nat_tests, long) in
     ap (option_map (λ row. row.body))
-    (found_behind (is_revision n) (revisions h) last (none_higher h n before)) ∙ rw same refl
+    (find_behind (is_revision n) (revisions h) (last ∷ []) (no_revision h n before)) ∙ rw same refl
 last_body (_ ∷ h) n is = last_body h n is
 
 -- what is kept beside tables is what a store knows of them
