@@ -5,7 +5,7 @@ use Rattle.std.proofs.Common.{Equal, Greater}
 use Rattle.std.specs.Prelude.{◌&&◌, codes}
 use Rattle.std.specs.List.{list_any}
 use Rattle.std.specs.Cmp.Lexicographic.{slice_cmp}
-use Rattle.std.specs.Ordering.{is_eq, match_ordering, nat_cmp, ordering_then}
+use Rattle.std.specs.Ordering.{is_eq, match_ordering, nat_cmp}
 use Rattle.desk_base.proofs.Orders.{both_equal}
 use Rattle.std.proofs.lemmas.Map.Text.{is_eq-slice_cmp}
 use Rattle.std.specs.Str.{bytes_eq}
@@ -50,7 +50,7 @@ each_counts size put step s i (item d ds) t e =
 same_text : (a b : List ℕ) → slice_cmp nat_cmp a b ≡ Equal → bytes_eq b a ≡ true
 same_text a b e = texts_turned b a ∙ sym (is_eq-slice_cmp a b) ∙ ap is_eq e
 
-same_key : (x r : Rule) → rule_order x r ≡ Equal → is_rule x.term x.form r ≡ true
+pub same_key : (x r : Rule) → rule_order x r ≡ Equal → is_rule x.term x.form r ≡ true
 same_key x r e =
     let two = both_equal (slice_cmp nat_cmp x.term r.term) (slice_cmp nat_cmp x.form r.form) e in
     λ i. same_text x.term r.term two.0 i && same_text x.form r.form two.1 i

@@ -165,7 +165,7 @@ module _ (terms : List ℕ → Option (List ℕ)) (forms duties : List (List ℕ
       named (licence_of terms term) (is_among forms form) (list_all (is_among duties) owed)
       (stand_once owed) (record { term = term; form = form; duties = owed })
 
-  keys : (term form owed : Option Data)
+  pub keys : (term form owed : Option Data)
       → number (judged (rule_values index term form owed))
       ≡ least (key_fault as_str (term_fault terms) term)
       (least (key_fault as_str (form_fault forms) form)
@@ -211,7 +211,7 @@ title_at : (o : Option Data) → AtLeast 2 (key_fault title_of sound o)
 title_at None = omega arith
 title_at (Some d) = value_or_kind 0 (title_of d)
 
-duty_keys : (index : ℕ) (code title : Option Data)
+pub duty_keys : (index : ℕ) (code title : Option Data)
     → duty_number (duty_of_keys index code title)
     ≡ least (key_fault id_of sound code) (key_fault title_of sound title)
 duty_keys index None title = sym (least_left 2 (key_fault title_of sound title) (title_at title))
@@ -259,7 +259,7 @@ licence_at : (o : Option (List ℕ)) → AtLeast 2 (option_map_or licence_fault 
 licence_at None = omega arith
 licence_at (Some licence) = fewer 2 3 (licence_fault licence) (omega arith) (own_at licence)
 
-text_keys : (index : ℕ) (licence body : Option Data)
+pub text_keys : (index : ℕ) (licence body : Option Data)
     → text_number (text_of_keys index licence body)
     ≡ least (key_fault as_str licence_fault licence) (key_fault as_str sound body)
 text_keys index None body = sym (least_left 2 (key_fault as_str sound body) (body_at body))

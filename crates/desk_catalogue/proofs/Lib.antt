@@ -9,3 +9,8 @@ pub mod Sought
 mod StandOnce
 mod LeastFaults
 mod Counted
+mod Places
+mod EachFirst
+mod PartsFirst
+mod FormsFirst
+mod AllFirst

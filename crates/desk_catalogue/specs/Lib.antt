@@ -5,3 +5,4 @@ pub mod Reading
 pub mod Lookup
 pub mod Shown
 pub mod Faults
+pub mod AllFaults

@@ -9,6 +9,7 @@ ghost use Rattle.toml.specs.Data.{Data, Items, Members, as_table, get_member};
 ghost use Rattle.desk_catalogue.specs.declared.catalogue.Catalogue.{Catalogue};
 ghost use Rattle.desk_catalogue.specs.Terms.{ReadsTerms};
 ghost use Rattle.desk_catalogue.specs.Kept.{same_licence};
+ghost use Rattle.desk_catalogue.specs.AllFaults.{IsFirstOf, all_faults, place_of};
 ghost use Rattle.desk_catalogue.specs.Faults.{duty_fault, rule_fault, text_fault};
 ghost use Rattle.desk_catalogue.specs.Reading.{catalogue_of, catalogue_of_table, count, duty_at, rule_at, tables_of, text_at};
 ghost use Rattle.desk_model.specs.FaultNumbers.{catalogue_fault_number};
@@ -52,6 +53,14 @@ pub fn table_faults_are_the_least()
         ≡ rule_fault terms forms duties ms }
     ensures text { (index : ℕ) (d : Data) (ms : Members) → as_table d ≡ Some ms
         → option_map catalogue_fault_number (result_err (text_at index d)) ≡ text_fault ms }
+{}
+
+/// The fault of a text is the first of all that it has, each judged by itself: by the part, then by
+/// the place in it and by the number, but of the forms each kind before what occurs twice. What has
+/// none is a catalogue.
+pub fn the_fault_is_the_first_of_all()
+    ensures { (terms : List ℕ → Option (List ℕ)) (text : List ℕ) → IsFirstOf (all_faults terms text)
+        (option_map place_of (result_err (catalogue_of terms text))) }
 {}
 
 /// A catalogue has a rule for each rule table and a text for each text table: none replaces another.

@@ -45,7 +45,7 @@ pub use catalogue::{Catalogue, LicenceText};
 pub use fault::CatFault;
 pub use laws::{
     each_table_is_kept, forms_and_texts_stand_once, one_catalogue, rules_stand_once,
-    table_faults_are_the_least, terms_are_read,
+    table_faults_are_the_least, terms_are_read, the_fault_is_the_first_of_all,
 };
 pub use order::sorted_set;
 pub use ordered::OrderedRules;

@@ -28,7 +28,7 @@ impl Catalogue {
     }
 
     /// The catalogue's own spelling of a term in the rule for a form.
-    pub fn spelling(&self, term: &Term, form: &str) -> Option<&str>
+    pub fn spelled(&self, term: &Term, form: &str) -> Option<&str>
         ensures { option_map (λ text. text.now) result ≡ spelled_for self.now term.now form.now }
     {
         match self.rules.find(term, form) {
