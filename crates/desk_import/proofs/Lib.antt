@@ -3,4 +3,8 @@ pub mod ResultLemmas
 mod Standings
 mod Lines
 mod WordLemmas
+mod Plain
+mod Blocks
+mod SaidLines
+mod SaidSteps
 mod Reread

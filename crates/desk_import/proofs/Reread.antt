@@ -1,22 +1,28 @@
--- What is written for the object of a document is read as what it says.
-use Rattle.std.proofs.Common.{◌≡◌, ◌≤◌, ℕ, Bool, true, false, List, [], ◌∷◌, Some, codes, length, refl, ap}
+-- What is written for a document is read as what it says.
+use Rattle.std.proofs.Common.{◌≡◌, ◌∙◌, ◌≤◌, ℕ, List, [], Some, None, Option, Result, Ok, length, refl, sym, ap, subst, arith}
+use Rattle.std.specs.Prelude.{All, IsUtf8}
 use Rattle.std.specs.String.{string_bytes}
-use Rattle.std.proofs.lemmas.List.{append-nil}
 use Rattle.std.proofs.lemmas.Str.{IsUtf8-string_bytes}
 use Rattle.serde_json.specs.Data.{Data}
 use Rattle.desk_base.specs.Limits.{document_bytes}
-use Rattle.desk_tagvalue.specs.Documents.{Spells, judged, fields}
-use Rattle.desk_fields.specs.declared.tag.Tag.TheVariants.{Relationship}
-use Rattle.desk_tagvalue.specs.Parts.{document_of, edge_of, EdgeText}
-use Rattle.desk_tagvalue.specs.Written.{fields_of_lines}
+use Rattle.desk_fields.specs.declared.fault.DocFault.{DocFault}
+use Rattle.desk_tagvalue.specs.Documents.{Spells, judged, fields, no_fields, no_text, too_large, unless}
+use Rattle.desk_tagvalue.specs.Drafts.{LineText, text_of_lines}
+use Rattle.desk_tagvalue.specs.Faults.{first_fault, first_of}
+use Rattle.desk_tagvalue.specs.Missing.{missing_of}
+use Rattle.desk_tagvalue.specs.Parts.{DocumentText, document_of}
+use Rattle.desk_tagvalue.specs.Written.{Stands, fields_of_lines}
+use Rattle.desk_tagvalue.proofs.LinesReread.{lines_again}
+use Rattle.desk_tagvalue.proofs.ReadLemmas.{spells_once}
+use Rattle.desk_fields.specs.Cutting.{Reads}
 use Rattle.desk_spdx_json.specs.Documents.{document_steps}
-use Rattle.desk_spdx_json.specs.Words.{is_keyword, is_word}
 use Rattle.desk_import.specs.Results.{IsConverted, json_of, lines_of}
-use Rattle.desk_import.specs.Said.{DocumentSaid, document_object, entries_of, IsNormal, IsSaid}
-use Rattle.desk_import.specs.Said.{AreEdges, IsEdge, said}
+use Rattle.desk_import.specs.Said.{DocumentSaid, IsNormal, IsSaid, document_lines, document_object}
+use Rattle.desk_import.specs.Said.{entries_of, fields_in}
 use Rattle.desk_import.specs.declared.converting.Converted.{Converted}
-use Rattle.desk_import.proofs.ResultLemmas.{fields_again}
-use Rattle.desk_import.proofs.WordLemmas.{left_again, kind_again, right_again, three}
+use Rattle.desk_import.proofs.ResultLemmas.{all_stand, fields_again, unmarked}
+use Rattle.desk_import.proofs.SaidLines.{lines_said}
+use Rattle.desk_import.proofs.SaidSteps.{document_lined}
 
 pub conversion_read : (bytes : List ℕ) (c : Converted) → IsConverted bytes c
     → length (string_bytes c.text) ≤ document_bytes → (d : Data) × (json_of bytes ≡ Some d)
@@ -30,107 +36,56 @@ conversion_read bytes c is small =
           (fields_again steps (string_bytes c.text) is.3.text is.3.pass),
     )
 
-abbrev written : List ℕ → List ℕ → List ℕ → EdgeText
-written left kind right =
-    edge_of (record { line = 0; tag = Relationship; value = three left kind right })
+-- the text of lines that are each read back spells what their fields are
+text_spells : (lines : List LineText) → All Stands lines
+    → length (text_of_lines lines) ≤ document_bytes → IsUtf8 (text_of_lines lines)
+    → Spells (text_of_lines lines) (judged (fields_in lines))
+text_spells lines stand small utf8 =
+    fields (text_of_lines lines) (fields_of_lines 1 lines) small utf8
+    (subst (λ t. Reads 1 t (Ok (fields_of_lines 1 lines))) (sym (unmarked lines))
+    (lines_again lines stand 1 (omega arith)))
 
-edge_again : (left kind right : List ℕ) → is_word left ≡ true → is_word kind ≡ true
-    → is_word right ≡ true → IsEdge (said left kind right)
-    (written left kind right)
-edge_again left kind right l k r = (
-  left_again left kind right l k r,
-  kind_again left kind right l k r,
-  right_again left kind right l k r,
-)
+-- what spells a document is short enough, and UTF-8
+are_text : (bytes : List ℕ) (r : Result DocumentText DocFault) → Spells bytes r
+    → (x : DocumentText) → r ≡ Ok x → (length bytes ≤ document_bytes) × IsUtf8 bytes
+are_text bytes r (too_large _ big) x is = absurd cc
+are_text bytes r (no_text _ small not_utf8) x is = absurd cc
+are_text bytes r (no_fields _ fault small utf8 reads) x is = absurd cc
+are_text bytes r (fields _ fs small utf8 reads) x is = (small, utf8)
 
-edges_again : (d : DocumentSaid) → IsNormal d → AreEdges
-    (said d.package_said.id (codes "CONTAINS") d.package_said.contained
-    ∷ said (codes "SPDXRef-DOCUMENT") (codes "DESCRIBES") d.described ∷ d.edge ∷ [])
-    (written d.package_said.id (codes "CONTAINS") d.package_said.contained
-    ∷ written (codes "SPDXRef-DOCUMENT") (codes "DESCRIBES") d.described
-    ∷ written d.edge.left d.edge.kind d.edge.right ∷ [])
-edges_again d n = (
-  edge_again d.package_said.id (codes "CONTAINS") d.package_said.contained n.id refl n.contained,
-  (
-    edge_again (codes "SPDXRef-DOCUMENT") (codes "DESCRIBES") d.described refl refl n.described,
-    (edge_again d.edge.left d.edge.kind d.edge.right n.left n.kind n.right, tt),
-  ),
-)
+without_fault : (o : Option DocFault) (y x : DocumentText) → Ok x ≡ unless o y → x ≡ y
+without_fault None y x is = cc
+without_fault (Some fault) y x is = absurd cc
 
--- by whether the copyrights of the package and of the file are written in <text>
-by_copyrights : (d : DocumentSaid) (of_package of_file : Bool)
-    → is_keyword d.package_said.copyright ≡ of_package → is_keyword d.file.copyright ≡ of_file
-    → IsNormal d → IsSaid d (document_of (entries_of (document_steps (document_object d))))
-by_copyrights d true true p f n =
-    rw (p, f, n.code, n.contained, n.digits, n.sha1, n.left, n.kind, n.right, n.other, n.described)
-    (record {
-      version = refl;
-      data_license = refl;
-      id = refl;
-      name = refl;
-      namespace = refl;
-      creator = refl;
-      created = refl;
-      packages = (refl, refl, refl, refl, refl, ap Some (append-nil d.package_said.code), refl, refl, refl);
-      files = (refl, refl, refl, refl, refl);
-      in_file = refl;
-      snippets = refl;
-      licences = (refl, refl);
-      edges = edges_again d n;
-    })
-by_copyrights d true false p f n =
-    rw (p, f, n.code, n.contained, n.digits, n.sha1, n.left, n.kind, n.right, n.other, n.described)
-    (record {
-      version = refl;
-      data_license = refl;
-      id = refl;
-      name = refl;
-      namespace = refl;
-      creator = refl;
-      created = refl;
-      packages = (refl, refl, refl, refl, refl, ap Some (append-nil d.package_said.code), refl, refl, refl);
-      files = (refl, refl, refl, refl, refl);
-      in_file = refl;
-      snippets = refl;
-      licences = (refl, refl);
-      edges = edges_again d n;
-    })
-by_copyrights d false true p f n =
-    rw (p, f, n.code, n.contained, n.digits, n.sha1, n.left, n.kind, n.right, n.other, n.described)
-    (record {
-      version = refl;
-      data_license = refl;
-      id = refl;
-      name = refl;
-      namespace = refl;
-      creator = refl;
-      created = refl;
-      packages = (refl, refl, refl, refl, refl, ap Some (append-nil d.package_said.code), refl, refl, refl);
-      files = (refl, refl, refl, refl, refl);
-      in_file = refl;
-      snippets = refl;
-      licences = (refl, refl);
-      edges = edges_again d n;
-    })
-by_copyrights d false false p f n =
-    rw (p, f, n.code, n.contained, n.digits, n.sha1, n.left, n.kind, n.right, n.other, n.described)
-    (record {
-      version = refl;
-      data_license = refl;
-      id = refl;
-      name = refl;
-      namespace = refl;
-      creator = refl;
-      created = refl;
-      packages = (refl, refl, refl, refl, refl, ap Some (append-nil d.package_said.code), refl, refl, refl);
-      files = (refl, refl, refl, refl, refl);
-      in_file = refl;
-      snippets = refl;
-      licences = (refl, refl);
-      edges = edges_again d n;
-    })
+pub read_back : (d : DocumentSaid) (x : DocumentText) → IsNormal d → All Stands (document_lines d)
+    → Spells (text_of_lines (document_lines d)) (Ok x) → IsSaid d x
+read_back d x n stand spells =
+    let text = text_of_lines (document_lines d) in
+    let es = fields_in (document_lines d) in
+    let both = are_text text (Ok x) spells x refl in
+    let once : Ok x ≡ judged es = spells_once text (Ok x) (judged es) spells
+    (text_spells (document_lines d) stand both.0 both.1) in
+    subst (IsSaid d) (sym (without_fault (first_of (first_fault [] es) (missing_of es))
+    (document_of es) x once)) (lines_said d n)
 
 pub document_said : (d : DocumentSaid) → IsNormal d
     → IsSaid d (document_of (entries_of (document_steps (document_object d))))
-document_said d n = by_copyrights d (is_keyword d.package_said.copyright)
-    (is_keyword d.file.copyright) refl refl n
+document_said d n = subst (λ lines. IsSaid d (document_of (fields_in lines)))
+    (sym (document_lined d n)) (lines_said d n)
+
+value_in : (o : Option Data) (a b : Data) → o ≡ Some a → o ≡ Some b → a ≡ b
+value_in o a b is also = let both : Some a ≡ Some b = sym is ∙ also in cc
+
+pub conversion_said : (bytes : List ℕ) (c : Converted) (d : DocumentSaid) (x : DocumentText)
+    → IsNormal d → json_of bytes ≡ Some (document_object d) → IsConverted bytes c
+    → Spells (string_bytes c.text) (Ok x) → IsSaid d x
+conversion_said bytes c d x n is converted spells =
+    let made = converted.3 in
+    let lines : lines_of (document_steps converted.1) ≡ document_lines d =
+    ap (λ v. lines_of (document_steps v))
+    (value_in (json_of bytes) converted.1 (document_object d) converted.2 is)
+    ∙ document_lined d n in
+    let text : string_bytes c.text ≡ text_of_lines (document_lines d) =
+    made.text ∙ ap text_of_lines lines in
+    read_back d x n (subst (All Stands) lines (all_stand (document_steps converted.1) made.pass))
+    (subst (λ t. Spells t (Ok x)) text spells)

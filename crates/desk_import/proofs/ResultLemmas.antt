@@ -8,7 +8,6 @@ use Rattle.std.proofs.lemmas.List.Elements.{All-append, All-cons, All-nil, All-g
 use Rattle.serde_json.specs.Data.{Data}
 use Rattle.serde_json.specs.Read.{read}
 use Rattle.desk_fields.specs.declared.tag.Tag.{Tag}
-use Rattle.desk_fields.specs.declared.tag.Tag.TheVariants as tags
 use Rattle.desk_fields.specs.Cutting.{Reads, behind_mark}
 use Rattle.desk_fields.specs.Tags.{tag_name}
 use Rattle.desk_tagvalue.specs.Drafts.{LineText, blank, one_line, in_text, text_of_lines}
@@ -81,7 +80,7 @@ line_stands missing h = absurd h
 line_stands bad_type h = absurd h
 line_stands bad_value h = absurd h
 
-all_stand : (steps : List StepText) → All Passes steps → All Stands (lines_of steps)
+pub all_stand : (steps : List StepText) → All Passes steps → All Stands (lines_of steps)
 all_stand [] h = All-nil Stands
 all_stand (s ∷ steps) h =
     All-append Stands (line_in s.what) (lines_of steps)
@@ -93,7 +92,7 @@ tagged : (tag : Tag) (inner rest : List ℕ) → behind_mark (inner ++ rest) ≡
 tagged tag inner rest h = subst (λ t. behind_mark t ≡ t)
     (sym (append_assoc (tag_name tag) inner rest)) (mark_behind tag (inner ++ rest) h)
 
-unmarked : (ls : List LineText) → behind_mark (text_of_lines ls) ≡ text_of_lines ls
+pub unmarked : (ls : List LineText) → behind_mark (text_of_lines ls) ≡ text_of_lines ls
 unmarked [] = refl
 unmarked (blank ∷ ls) = refl
 unmarked (one_line tag value ∷ ls) = tagged tag (codes ": " ++ (value ++ (10 ∷ [])))

@@ -1,7 +1,7 @@
 -- The words of a relationship are read back.
-use Rattle.std.proofs.Common.{◌≡◌, ◌∙◌, ℕ, Bool, true, false, List, [], ◌∷◌, ◌++◌, length, take, drop}
+use Rattle.std.proofs.Common.{◌≡◌, ◌∙◌, ℕ, true, false, List, [], ◌∷◌, ◌++◌, length, take, drop}
 use Rattle.std.proofs.Common.{codes, refl, sym, ap, arith, ◌+◌, suc}
-use Rattle.std.specs.Prelude.{not, nat_lt, ◌&&◌, ◌||◌}
+use Rattle.std.specs.Prelude.{not, nat_lt}
 use Rattle.std.specs.List.{before_first, list_any, position_or_len, prefix_len}
 use Rattle.std.proofs.Math.Seq.{take-append_seam, drop-append_seam}
 use Rattle.std.proofs.lemmas.Bool.{not-true}

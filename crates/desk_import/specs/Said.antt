@@ -1,29 +1,46 @@
--- What the object of a document in JSON says in normal form, with one element of each kind and all
--- members that the desk reads (SPDX 2.3, JSON schema), and that a document says the same (clauses 6
--- to 11).
-use Rattle.std.specs.Prelude.{◌≡◌, ◌++◌, ℕ, Bool, true, false, List, [], ◌∷◌, Some, codes, map}
+-- What a document in normal form says: lists of elements of any length, each with all that the desk
+-- reads of it. Its lines in tag-value form (SPDX 2.3, clauses 6 to 11), its object in JSON (the JSON
+-- schema), and that a document which is read says the same.
+use Rattle.std.specs.Prelude.{◌≡◌, ◌++◌, ℕ, Bool, true, false, List, [], ◌∷◌, Some, codes, map, filter, All}
+use Rattle.std.specs.List.{flat_map}
 use Rattle.serde_json.specs.Data.{Data, Items, boolean, string, array, object, no_items, item}
 use Rattle.serde_json.specs.Data.{no_members, member}
+use Rattle.desk_fields.specs.declared.tag.Tag.{Tag}
 use Rattle.desk_fields.specs.declared.tag.Tag.TheVariants as tags
+use Rattle.desk_tagvalue.specs.Columns.{AreEach}
+use Rattle.desk_tagvalue.specs.Drafts.{LineText, blank, one_line, in_text}
 use Rattle.desk_tagvalue.specs.Entries.{EntryText, read_entry, value_of}
+use Rattle.desk_tagvalue.specs.Faults.{has_tag}
 use Rattle.desk_tagvalue.specs.Parts.{DocumentText, PackageText, FileText, SnippetText}
 use Rattle.desk_tagvalue.specs.Parts.{ExtractedText, EdgeText, is_sha1}
 use Rattle.desk_tagvalue.specs.Written.{fields_of_lines}
 use Rattle.desk_spdx_json.specs.Documents.{is_describing}
+use Rattle.desk_spdx_json.specs.Parts.{relationship_line}
 use Rattle.desk_spdx_json.specs.Steps.{StepText}
-use Rattle.desk_spdx_json.specs.Values.{flag_text}
+use Rattle.desk_spdx_json.specs.Values.{copyright_line, flag_text}
 use Rattle.desk_spdx_json.specs.Words.{is_word}
 use Rattle.desk_import.specs.Results.{lines_of}
 
--- the fields of the lines of steps
+-- the fields of lines, and of the lines of steps
+abbrev pub fields_in : List LineText → List EntryText
+fields_in lines = map read_entry (fields_of_lines 1 lines)
+
 abbrev pub entries_of : List StepText → List EntryText
-entries_of steps = map read_entry (fields_of_lines 1 (lines_of steps))
+entries_of steps = fields_in (lines_of steps)
 
--- an array of one item
-abbrev pub one : Data → Data
-one d = array (item d no_items)
+-- an array of the items of a list
+abbrev pub items_by : {A : Type 0} → (A → Data) → List A → Items
+items_by of_item [] = no_items
+items_by of_item (x ∷ xs) = item (of_item x) (items_by of_item xs)
 
--- ---- a package (clause 7), with a file that it contains
+abbrev pub array_by : {A : Type 0} → (A → Data) → List A → Data
+array_by of_item xs = array (items_by of_item xs)
+
+-- the values of all fields with a tag
+abbrev pub values_of : Tag → List EntryText → List (List ℕ)
+values_of tag es = map (λ (e : EntryText). e.value) (filter (has_tag tag) es)
+
+-- ---- a package (clause 7), with the files that it contains
 
 pub record PackageSaid : Type 0 where
   pub name : List ℕ
@@ -35,7 +52,24 @@ pub record PackageSaid : Type 0 where
   pub concluded : List ℕ
   pub declared : List ℕ
   pub copyright : List ℕ
-  pub contained : List ℕ
+  pub contained : List (List ℕ)
+
+abbrev pub contains_line : List ℕ → List ℕ → LineText
+contains_line id contained = relationship_line id (codes "CONTAINS") contained
+
+abbrev pub package_lines : PackageSaid → List LineText
+package_lines p =
+    blank
+    ∷ one_line tags.PackageName p.name
+    ∷ one_line tags.Identifier p.id
+    ∷ one_line tags.PackageVersion p.version
+    ∷ one_line tags.DownloadLocation p.download_location
+    ∷ one_line tags.FilesAnalyzed (flag_text p.files_analyzed)
+    ∷ one_line tags.VerificationCode p.code
+    ∷ one_line tags.PackageConcluded p.concluded
+    ∷ one_line tags.PackageDeclared p.declared
+    ∷ copyright_line tags.PackageCopyright p.copyright
+    ∷ map (contains_line p.id) p.contained
 
 abbrev pub code_object : List ℕ → Data
 code_object code = object
@@ -47,21 +81,23 @@ package_object p = object
     (member (codes "copyrightText") (string p.copyright)
     (member (codes "downloadLocation") (string p.download_location)
     (member (codes "filesAnalyzed") (boolean p.files_analyzed)
-    (member (codes "hasFiles") (one (string p.contained))
+    (member (codes "hasFiles") (array_by string p.contained)
     (member (codes "licenseConcluded") (string p.concluded)
     (member (codes "licenseDeclared") (string p.declared)
     (member (codes "name") (string p.name)
     (member (codes "packageVerificationCode") (code_object p.code)
     (member (codes "versionInfo") (string p.version) no_members))))))))))
 
-abbrev pub IsPackage : PackageSaid → List PackageText → Type 0
-IsPackage p (q ∷ []) =
-    (q.name ≡ p.name) × (q.id ≡ p.id) × (q.version ≡ Some p.version)
-    × (q.download_location ≡ Some p.download_location)
-    × (q.files_analyzed ≡ Some (flag_text p.files_analyzed))
-    × (q.verification_code ≡ Some p.code) × (q.concluded ≡ Some p.concluded)
-    × (q.declared ≡ Some p.declared) × (q.copyright ≡ Some p.copyright)
-IsPackage p _ = ⊥
+pub record IsPackage (p : PackageSaid) (q : PackageText) : Type 0 where
+  pub name : q.name ≡ p.name
+  pub id : q.id ≡ p.id
+  pub version : q.version ≡ Some p.version
+  pub download_location : q.download_location ≡ Some p.download_location
+  pub files_analyzed : q.files_analyzed ≡ Some (flag_text p.files_analyzed)
+  pub verification_code : q.verification_code ≡ Some p.code
+  pub concluded : q.concluded ≡ Some p.concluded
+  pub declared : q.declared ≡ Some p.declared
+  pub copyright : q.copyright ≡ Some p.copyright
 
 -- ---- a file (clause 8)
 
@@ -70,8 +106,17 @@ pub record FileSaid : Type 0 where
   pub id : List ℕ
   pub sha1 : List ℕ
   pub concluded : List ℕ
-  pub in_file : List ℕ
+  pub in_file : List (List ℕ)
   pub copyright : List ℕ
+
+abbrev pub file_lines : FileSaid → List LineText
+file_lines f =
+    blank
+    ∷ one_line tags.FileName f.name
+    ∷ one_line tags.Identifier f.id
+    ∷ one_line tags.FileChecksum (codes "SHA1: " ++ f.sha1)
+    ∷ one_line tags.FileConcluded f.concluded
+    ∷ (map (one_line tags.FileLicense) f.in_file ++ copyright_line tags.FileCopyright f.copyright ∷ [])
 
 abbrev pub checksum_object : List ℕ → Data
 checksum_object digits = object
@@ -81,36 +126,48 @@ checksum_object digits = object
 abbrev pub file_object : FileSaid → Data
 file_object f = object
     (member (codes "SPDXID") (string f.id)
-    (member (codes "checksums") (one (checksum_object f.sha1))
+    (member (codes "checksums") (array_by checksum_object (f.sha1 ∷ []))
     (member (codes "copyrightText") (string f.copyright)
     (member (codes "fileName") (string f.name)
     (member (codes "licenseConcluded") (string f.concluded)
-    (member (codes "licenseInfoInFiles") (one (string f.in_file)) no_members))))))
+    (member (codes "licenseInfoInFiles") (array_by string f.in_file) no_members))))))
 
-abbrev pub IsFile : FileSaid → List FileText → Type 0
-IsFile f (q ∷ []) = (q.name ≡ f.name) × (q.id ≡ f.id) × (q.sha1 ≡ Some f.sha1)
-    × (q.concluded ≡ Some f.concluded) × (q.copyright ≡ Some f.copyright)
-IsFile f _ = ⊥
+pub record IsFile (f : FileSaid) (q : FileText) : Type 0 where
+  pub name : q.name ≡ f.name
+  pub id : q.id ≡ f.id
+  pub sha1 : q.sha1 ≡ Some f.sha1
+  pub concluded : q.concluded ≡ Some f.concluded
+  pub copyright : q.copyright ≡ Some f.copyright
 
 -- ---- a snippet (clause 9)
+
+abbrev pub snippet_lines : List ℕ → List LineText
+snippet_lines id = blank ∷ one_line tags.SnippetIdentifier id ∷ []
 
 abbrev pub snippet_object : List ℕ → Data
 snippet_object id = object (member (codes "SPDXID") (string id) no_members)
 
-abbrev pub IsSnippet : List ℕ → List SnippetText → Type 0
-IsSnippet id (q ∷ []) = q.id ≡ id
-IsSnippet id _ = ⊥
+abbrev pub IsSnippet : List ℕ → SnippetText → Type 0
+IsSnippet id q = q.id ≡ id
 
 -- ---- an extracted licence (clause 10)
 
-abbrev pub licence_object : List ℕ → List ℕ → Data
-licence_object id text = object
-    (member (codes "extractedText") (string text)
-    (member (codes "licenseId") (string id) no_members))
+pub record LicenceSaid : Type 0 where
+  pub id : List ℕ
+  pub text : List ℕ
 
-abbrev pub IsLicence : List ℕ → List ℕ → List ExtractedText → Type 0
-IsLicence id text (q ∷ []) = (q.id ≡ id) × (q.text ≡ Some text)
-IsLicence id text _ = ⊥
+abbrev pub licence_lines : LicenceSaid → List LineText
+licence_lines l =
+    blank ∷ one_line tags.LicenseIdentifier l.id ∷ in_text tags.ExtractedText l.text ∷ []
+
+abbrev pub licence_object : LicenceSaid → Data
+licence_object l = object
+    (member (codes "extractedText") (string l.text)
+    (member (codes "licenseId") (string l.id) no_members))
+
+pub record IsLicence (l : LicenceSaid) (q : ExtractedText) : Type 0 where
+  pub id : q.id ≡ l.id
+  pub text : q.text ≡ Some l.text
 
 -- ---- a relationship (clause 11)
 
@@ -118,6 +175,9 @@ pub record EdgeSaid : Type 0 where
   pub left : List ℕ
   pub kind : List ℕ
   pub right : List ℕ
+
+abbrev pub edge_line : EdgeSaid → LineText
+edge_line e = relationship_line e.left e.kind e.right
 
 abbrev pub relationship_object : EdgeSaid → Data
 relationship_object e = object
@@ -128,15 +188,12 @@ relationship_object e = object
 abbrev pub said : List ℕ → List ℕ → List ℕ → EdgeSaid
 said left kind right = record { left = left; kind = kind; right = right }
 
-abbrev pub IsEdge : EdgeSaid → EdgeText → Type 0
-IsEdge e q = (q.left ≡ e.left) × (q.kind ≡ e.kind) × (q.right ≡ e.right)
+pub record IsEdge (e : EdgeSaid) (q : EdgeText) : Type 0 where
+  pub left : q.left ≡ e.left
+  pub kind : q.kind ≡ e.kind
+  pub right : q.right ≡ e.right
 
-abbrev pub AreEdges : List EdgeSaid → List EdgeText → Type 0
-AreEdges [] [] = Unit {0}
-AreEdges (e ∷ es) (q ∷ qs) = IsEdge e q × AreEdges es qs
-AreEdges _ _ = ⊥
-
--- ---- the document (clause 6), with an element that it describes
+-- ---- the document (clause 6), with the elements that it describes
 
 pub record DocumentSaid : Type 0 where
   pub version : List ℕ
@@ -144,66 +201,104 @@ pub record DocumentSaid : Type 0 where
   pub id : List ℕ
   pub name : List ℕ
   pub namespace : List ℕ
-  pub creator : List ℕ
+  pub creators : List (List ℕ)
   pub created : List ℕ
-  pub package_said : PackageSaid
-  pub file : FileSaid
-  pub snippet : List ℕ
-  pub licence : List ℕ
-  pub licence_text : List ℕ
-  pub edge : EdgeSaid
-  pub described : List ℕ
+  pub packages : List PackageSaid
+  pub files : List FileSaid
+  pub snippets : List (List ℕ)
+  pub licences : List LicenceSaid
+  pub edges : List EdgeSaid
+  pub described : List (List ℕ)
+
+abbrev pub describes : List ℕ → EdgeSaid
+describes id = said (codes "SPDXRef-DOCUMENT") (codes "DESCRIBES") id
+
+abbrev pub head_lines : DocumentSaid → List LineText
+head_lines d =
+    one_line tags.Version d.version
+    ∷ one_line tags.DataLicense d.data_license
+    ∷ one_line tags.Identifier d.id
+    ∷ one_line tags.DocumentName d.name
+    ∷ one_line tags.DocumentNamespace d.namespace
+    ∷ (map (one_line tags.Creator) d.creators ++ one_line tags.Created d.created ∷ [])
+
+abbrev pub edge_lines : DocumentSaid → List LineText
+edge_lines d = map (λ id. edge_line (describes id)) d.described ++ map edge_line d.edges
+
+abbrev pub document_lines : DocumentSaid → List LineText
+document_lines d =
+    head_lines d
+    ++ (flat_map file_lines d.files
+    ++ (flat_map snippet_lines d.snippets
+    ++ (flat_map package_lines d.packages
+    ++ (flat_map licence_lines d.licences ++ edge_lines d))))
 
 abbrev pub creation_object : DocumentSaid → Data
 creation_object d = object
     (member (codes "created") (string d.created)
-    (member (codes "creators") (one (string d.creator)) no_members))
+    (member (codes "creators") (array_by string d.creators) no_members))
 
 abbrev pub document_object : DocumentSaid → Data
 document_object d = object
     (member (codes "SPDXID") (string d.id)
     (member (codes "creationInfo") (creation_object d)
     (member (codes "dataLicense") (string d.data_license)
-    (member (codes "documentDescribes") (one (string d.described))
+    (member (codes "documentDescribes") (array_by string d.described)
     (member (codes "documentNamespace") (string d.namespace)
-    (member (codes "files") (one (file_object d.file))
-    (member (codes "hasExtractedLicensingInfos") (one (licence_object d.licence d.licence_text))
+    (member (codes "files") (array_by file_object d.files)
+    (member (codes "hasExtractedLicensingInfos") (array_by licence_object d.licences)
     (member (codes "name") (string d.name)
-    (member (codes "packages") (one (package_object d.package_said))
-    (member (codes "relationships") (one (relationship_object d.edge))
-    (member (codes "snippets") (one (snippet_object d.snippet))
+    (member (codes "packages") (array_by package_object d.packages)
+    (member (codes "relationships") (array_by relationship_object d.edges)
+    (member (codes "snippets") (array_by snippet_object d.snippets)
     (member (codes "spdxVersion") (string d.version) no_members))))))))))))
 
--- what is written between blanks is a word, the digest is one of SHA1, and the relationship doesn't
--- say what the document describes
-pub record IsNormal (d : DocumentSaid) : Type 0 where
-  pub code : is_word d.package_said.code ≡ true
-  pub id : is_word d.package_said.id ≡ true
-  pub contained : is_word d.package_said.contained ≡ true
-  pub digits : is_word d.file.sha1 ≡ true
-  pub sha1 : is_sha1 (codes "SHA1: " ++ d.file.sha1) ≡ true
-  pub left : is_word d.edge.left ≡ true
-  pub kind : is_word d.edge.kind ≡ true
-  pub right : is_word d.edge.right ≡ true
-  pub other : is_describing (relationship_object d.edge) ≡ false
-  pub described : is_word d.described ≡ true
+-- ---- normal form
 
--- the document says the same, and its relationships are that its package contains the file, that it
--- describes the element, and the one that it lists
+pub record IsNormalPackage (p : PackageSaid) : Type 0 where
+  pub code : is_word p.code ≡ true
+  pub id : is_word p.id ≡ true
+  pub contained : All (λ id. is_word id ≡ true) p.contained
+
+pub record IsNormalFile (f : FileSaid) : Type 0 where
+  pub digits : is_word f.sha1 ≡ true
+  pub sha1 : is_sha1 (codes "SHA1: " ++ f.sha1) ≡ true
+
+pub record IsNormalEdge (e : EdgeSaid) : Type 0 where
+  pub left : is_word e.left ≡ true
+  pub kind : is_word e.kind ≡ true
+  pub right : is_word e.right ≡ true
+  pub other : is_describing (relationship_object e) ≡ false
+
+-- what is written between blanks is a word, each digest is one of SHA1, and no relationship says
+-- what the document describes
+pub record IsNormal (d : DocumentSaid) : Type 0 where
+  pub packages : All IsNormalPackage d.packages
+  pub files : All IsNormalFile d.files
+  pub edges : All IsNormalEdge d.edges
+  pub described : All (λ id. is_word id ≡ true) d.described
+
+-- ---- the same, read
+
+-- that each package contains its files, what the document describes, and the relationships that it
+-- lists
+abbrev pub edges_said : DocumentSaid → List EdgeSaid
+edges_said d =
+    flat_map (λ (p : PackageSaid). map (said p.id (codes "CONTAINS")) p.contained) d.packages
+    ++ (map describes d.described ++ d.edges)
+
 pub record IsSaid (d : DocumentSaid) (x : DocumentText) : Type 0 where
   pub version : value_of tags.Version x.entries ≡ Some d.version
   pub data_license : value_of tags.DataLicense x.entries ≡ Some d.data_license
   pub id : value_of tags.Identifier x.entries ≡ Some d.id
   pub name : x.name ≡ d.name
   pub namespace : x.namespace ≡ d.namespace
-  pub creator : value_of tags.Creator x.entries ≡ Some d.creator
+  pub creators : values_of tags.Creator x.entries ≡ d.creators
   pub created : value_of tags.Created x.entries ≡ Some d.created
-  pub packages : IsPackage d.package_said x.packages
-  pub files : IsFile d.file x.files
-  pub in_file : value_of tags.FileLicense x.entries ≡ Some d.file.in_file
-  pub snippets : IsSnippet d.snippet x.snippets
-  pub licences : IsLicence d.licence d.licence_text x.extracted
-  pub edges : AreEdges
-      (said d.package_said.id (codes "CONTAINS") d.package_said.contained
-      ∷ said (codes "SPDXRef-DOCUMENT") (codes "DESCRIBES") d.described
-      ∷ d.edge ∷ []) x.edges
+  pub packages : AreEach IsPackage d.packages x.packages
+  pub files : AreEach IsFile d.files x.files
+  pub in_files : values_of tags.FileLicense x.entries
+      ≡ flat_map (λ (f : FileSaid). f.in_file) d.files
+  pub snippets : AreEach IsSnippet d.snippets x.snippets
+  pub licences : AreEach IsLicence d.licences x.extracted
+  pub edges : AreEach IsEdge (edges_said d) x.edges

@@ -2,18 +2,20 @@
 //! read (SPDX 2.3, clauses 6 to 11).
 //!
 //! `conversions_are_read` says that a converted text is judged by the fields of its lines and by
-//! nothing else. `fields_are_said` says that these are, for the object of a document in normal form,
-//! those of a document that says the same (`specs/Said.antt`).
+//! nothing else. `documents_are_read_back` and `objects_are_said` are about documents in normal form
+//! (`specs/Said.antt`): lists of elements of any length, with all columns that the desk reads.
 
-ghost use Rattle.std.specs.Prelude.{◌≡◌, ◌≤◌, ℕ, List, Some, length};
+ghost use Rattle.std.specs.Prelude.{◌≡◌, ◌≤◌, ℕ, List, Some, Ok, All, length};
 ghost use Rattle.std.specs.String.{string_bytes};
 ghost use Rattle.serde_json.specs.Data.{Data};
 ghost use Rattle.desk_base.specs.Limits.{document_bytes};
 ghost use Rattle.desk_tagvalue.specs.Documents.{Spells, judged};
-ghost use Rattle.desk_tagvalue.specs.Parts.{document_of};
+ghost use Rattle.desk_tagvalue.specs.Drafts.{text_of_lines};
+ghost use Rattle.desk_tagvalue.specs.Parts.{DocumentText, document_of};
+ghost use Rattle.desk_tagvalue.specs.Written.{Stands};
 ghost use Rattle.desk_spdx_json.specs.Documents.{document_steps};
-ghost use Rattle.desk_import.specs.Results.{IsConverted, json_of};
-ghost use Rattle.desk_import.specs.Said.{DocumentSaid, document_object, entries_of, IsNormal, IsSaid};
+ghost use Rattle.desk_import.specs.Results.{IsConverted, json_of, lines_of};
+ghost use Rattle.desk_import.specs.Said.{DocumentSaid, IsNormal, IsSaid, document_lines, document_object, entries_of};
 ghost use Rattle.desk_import.specs.declared.converting.Converted.{Converted};
 
 /// A converted text of at most 4 MiB spells the document, or has the fault, that the fields of its
@@ -24,9 +26,21 @@ pub fn conversions_are_read()
         × Spells (string_bytes c.text) (judged (entries_of (document_steps d))) }
 {}
 
-/// The fields of the lines for a document in normal form are those of a document that says the
-/// same.
-pub fn fields_are_said()
-    ensures { (d : DocumentSaid) → IsNormal d
+/// The text of a document in normal form, with elements of any number and all their columns, spells
+/// what the document says, if it spells a document and each of its lines is read back alone.
+pub fn documents_are_read_back()
+    ensures { (d : DocumentSaid) (x : DocumentText) → IsNormal d → All Stands (document_lines d)
+        → Spells (text_of_lines (document_lines d)) (Ok x) → IsSaid d x }
+{}
+
+/// The object of a document in normal form converts to the lines of that document, whose fields say
+/// the same; and if the converted text spells a document, that says the same.
+pub fn objects_are_said()
+    ensures lines { (d : DocumentSaid) → IsNormal d
+        → lines_of (document_steps (document_object d)) ≡ document_lines d }
+    ensures fields { (d : DocumentSaid) → IsNormal d
         → IsSaid d (document_of (entries_of (document_steps (document_object d)))) }
+    ensures text { (bytes : List ℕ) (c : Converted) (d : DocumentSaid) (x : DocumentText)
+        → IsNormal d → json_of bytes ≡ Some (document_object d) → IsConverted bytes c
+        → Spells (string_bytes c.text) (Ok x) → IsSaid d x }
 {}

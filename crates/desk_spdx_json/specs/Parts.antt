@@ -78,13 +78,25 @@ contained_steps owner at d = tie_step at owner (codes "CONTAINS") (as_str d) ∷
 -- ---- parts
 
 -- all but relationships come after a blank line
-abbrev pub part_steps : Part → List ℕ → Data → List StepText
-part_steps parts.Package at d =
+abbrev pub package_steps : List ℕ → Data → List StepText
+package_steps at d =
     step [] (put blank)
     ∷ (object_steps at package_members d
     ++ if_array (contained_steps (word_in (codes "SPDXID") d)) (member_at at (codes "hasFiles"))
     (get (codes "hasFiles") d))
-part_steps parts.File at d = step [] (put blank) ∷ object_steps at file_members d
-part_steps parts.Snippet at d = step [] (put blank) ∷ object_steps at snippet_members d
-part_steps parts.Extracted at d = step [] (put blank) ∷ object_steps at extracted_members d
-part_steps parts.Relationship at d = relationship_steps at d
+
+abbrev pub file_steps : List ℕ → Data → List StepText
+file_steps at d = step [] (put blank) ∷ object_steps at file_members d
+
+abbrev pub snippet_steps : List ℕ → Data → List StepText
+snippet_steps at d = step [] (put blank) ∷ object_steps at snippet_members d
+
+abbrev pub extracted_steps : List ℕ → Data → List StepText
+extracted_steps at d = step [] (put blank) ∷ object_steps at extracted_members d
+
+abbrev pub part_steps : Part → List ℕ → Data → List StepText
+part_steps parts.Package = package_steps
+part_steps parts.File = file_steps
+part_steps parts.Snippet = snippet_steps
+part_steps parts.Extracted = extracted_steps
+part_steps parts.Relationship = relationship_steps

@@ -2,7 +2,7 @@ use Rattle.std.proofs.lemmas.Result.{IfOk-weaker, IfErr-weaker}
 use Rattle.std.specs.String.{string_bytes}
 use Rattle.serde_json.specs.View.{view}
 use Rattle.desk_spdx_json.specs.Documents.{document_steps}
-use Rattle.desk_import.proofs.ResultLemmas.{refused, refused_json, fields_again}
+use Rattle.desk_import.proofs.ResultLemmas.{refused, fields_again}
 use Rattle.desk_import.proofs.converting.convert.Goals as goal
 
 pub returns-clause-ok : goal.returns-clause-ok
