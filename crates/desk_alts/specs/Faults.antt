@@ -1,4 +1,5 @@
 -- Which fault is reported for an expression.
+use Rattle.std.specs.Prelude.{ℕ}
 use Rattle.desk_base.specs.Limits.{listed_terms}
 use Rattle.desk_expr.specs.Tree.{Tree}
 use Rattle.desk_alts.specs.declared.fault.AltFault.{AltFault}
@@ -21,3 +22,9 @@ abbrev pub IsWidthFaultOf : Tree → AltFault → Type 0
 IsWidthFaultOf e TooManyTerms = ⊥
 IsWidthFaultOf e TooMany = HasWideFront e
 IsWidthFaultOf e (Memory error) = Unit {0}
+
+-- 0 if there was no memory
+abbrev pub fault_number : AltFault → ℕ
+fault_number (Memory error) = 0
+fault_number TooManyTerms = 1
+fault_number TooMany = 2

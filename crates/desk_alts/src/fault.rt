@@ -1,5 +1,8 @@
 //! Why the minimal sets aren't listed.
 
+ghost use Rattle.std.specs.Prelude.{◌≡◌};
+ghost use Rattle.desk_alts.specs.Faults.{fault_number};
+
 use std::alloc::AllocError;
 use thiserror::Error;
 
@@ -15,6 +18,19 @@ pub enum AltFault {
     /// No memory was left.
     #[error("{0}")]
     Memory(AllocError),
+}
+
+impl AltFault {
+    /// The fault's number, from 1, or 0 if no memory was left.
+    pub fn number(&self) -> u8
+        ensures { result ≡ fault_number self.now }
+    {
+        match self {
+            AltFault::Memory(_) => 0,
+            AltFault::TooManyTerms => 1,
+            AltFault::TooMany => 2,
+        }
+    }
 }
 
 impl From<AllocError> for AltFault {

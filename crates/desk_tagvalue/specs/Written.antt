@@ -48,3 +48,8 @@ onto_line n (in_text tag value) fs = field_at n (tag_name tag) value ∷ fs
 abbrev pub fields_of_lines : ℕ → List LineText → List FieldText
 fields_of_lines n [] = []
 fields_of_lines n (l ∷ ls) = onto_line n l (fields_of_lines (n + feeds (spelled l)) ls)
+
+-- 0 if there was no memory
+abbrev pub write_fault_number : WriteFault → ℕ
+write_fault_number faults.Memory = 0
+write_fault_number faults.BadValue = 1

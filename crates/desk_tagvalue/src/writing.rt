@@ -11,7 +11,7 @@ ghost use Rattle.desk_tagvalue.specs.Drafts.{line_text, one_line, in_text, spell
 ghost use Rattle.desk_tagvalue.specs.Parts.{DocumentText, sha1_digits};
 ghost use Rattle.desk_tagvalue.specs.Documents.{Spells};
 ghost use Rattle.desk_tagvalue.specs.Given.{GivesDraft};
-ghost use Rattle.desk_tagvalue.specs.Written.{field_at, Stands, Adds, IsDigestRead, IsStopped, fields_of_lines};
+ghost use Rattle.desk_tagvalue.specs.Written.{field_at, Stands, Adds, IsDigestRead, IsStopped, fields_of_lines, write_fault_number};
 
 use crate::drafts::{Draft, DraftFile, DraftLine, head_lines, lines_of_file};
 use desk_fields::{DocFault, Field, Tag, fields};
@@ -27,6 +27,18 @@ pub enum WriteFault {
     /// A value can't be read back from its field.
     #[error("a value that can't stand in its field")]
     BadValue,
+}
+
+impl WriteFault {
+    /// The fault's number, from 1, or 0 if no memory was left.
+    pub fn number(&self) -> u8
+        ensures { result ≡ write_fault_number self.now }
+    {
+        match self {
+            WriteFault::Memory => 0,
+            WriteFault::BadValue => 1,
+        }
+    }
 }
 
 impl From<AllocError> for WriteFault {

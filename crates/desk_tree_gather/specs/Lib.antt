@@ -7,3 +7,4 @@ pub mod Digests
 pub mod Survey
 pub mod Blanks
 pub mod Shown
+pub mod FaultNumbers

@@ -1,5 +1,8 @@
 //! Why nothing is gathered from a tree.
 
+ghost use Rattle.std.specs.Prelude.{◌≡◌};
+ghost use Rattle.desk_tree_gather.specs.FaultNumbers.{fault_number};
+
 use desk_base::Text;
 use desk_tree_annotations::AnnotationFault;
 use std::alloc::AllocError;
@@ -33,4 +36,22 @@ pub enum GatherFault {
     /// No memory was left.
     #[error(transparent)]
     Memory(#[from(alloc)] AllocError),
+}
+
+impl GatherFault {
+    /// The fault's number, from 1, or 0 if no memory was left.
+    pub fn number(&self) -> u8
+        ensures { result ≡ fault_number self.now }
+    {
+        match self {
+            GatherFault::Memory(_) => 0,
+            GatherFault::BadToml(_) => 1,
+            GatherFault::BadAnnotation(_, _, _) => 2,
+            GatherFault::BadExpression(_, _) => 3,
+            GatherFault::BadPath => 4,
+            GatherFault::TwicePath => 5,
+            GatherFault::TooManyFiles => 6,
+            GatherFault::ExpressionTooLong => 7,
+        }
+    }
 }
