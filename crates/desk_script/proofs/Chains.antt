@@ -31,8 +31,8 @@ use Rattle.desk_script.specs.Texts.{line_of, lines_of, count_refused, count_fail
 use Rattle.desk_script.specs.declared.answer.Reply.{Reply}
 use Rattle.desk_script.specs.declared.answer.Reply.TheVariants.{Became, NoRequest}
 use Rattle.desk_script.specs.declared.serving.ScriptEnd.{ScriptEnd}
-use Rattle.desk_script.specs.declared.serving.ScriptFault.{ScriptFault}
-use Rattle.desk_script.specs.declared.serving.ScriptFault.TheVariants.{Read, Write, Turns, Memory, Refused, Failed}
+use Rattle.desk_script.specs.declared.serving.ScriptStop.{ScriptStop}
+use Rattle.desk_script.specs.declared.serving.ScriptStop.TheVariants.{Read, Write, Turns, Memory, Refused, Failed}
 
 -- a history with the command of a request is a history
 pub IsHistory-past : (w : Readings) (h : List Command) (r : Request) (p : Reply) → IsHistory w h
@@ -43,7 +43,7 @@ IsHistory-past w h (Ask q) p ok is = ok
 IsHistory-past w h BadCommand p ok is = ok
 
 -- what follows from a fact if a script stops
-pub stop_then : {P Q : Type 0} (fault : ScriptFault) → (P → Q) → IfStop P fault → IfStop Q fault
+pub stop_then : {P Q : Type 0} (fault : ScriptStop) → (P → Q) → IfStop P fault → IfStop Q fault
 stop_then Refused f h = f h
 stop_then Failed f h = f h
 stop_then Read f h = tt
@@ -60,7 +60,7 @@ are_done ps qs h k =
     sum_by-append count_failed ps qs in
     (omega (arith, refused, h.0, k.0), omega (arith, failed, h.1, k.1))
 
-both_done : (fault : ScriptFault) (ps qs : List Reply) → IfStop (AreDone ps) fault
+both_done : (fault : ScriptStop) (ps qs : List Reply) → IfStop (AreDone ps) fault
     → IfStop (AreDone qs) fault → IfStop (AreDone (ps ++ qs)) fault
 both_done Refused ps qs h k = are_done ps qs h k
 both_done Failed ps qs h k = are_done ps qs h k
@@ -82,7 +82,7 @@ no_failed p ps none =
     (omega (arith, none, both), omega (arith, none, both))
 
 -- replies that are written, and then others until a fault
-told_after : (fault : ScriptFault) (ps qs : List Reply) (u v w : Option (List ℕ))
+told_after : (fault : ScriptStop) (ps qs : List Reply) (u v w : Option (List ℕ))
     → IfStop (AreDone ps) fault → Appends u v (lines_of ps) → AreToldUntil fault qs v w
     → AreToldUntil fault (ps ++ qs) u w
 told_after fault ps qs u v w done first rest = ⊎_elim (λ whole. inl (all whole))
@@ -340,7 +340,7 @@ module _ (is_right : Readings → Type 0) (tells : StoreFault → Type 0) {Left 
   )
 
   -- requests that were served, and then others until a fault
-  pub ServesUntil-then : (fault : ScriptFault) (a b c : Desk) (rs ss : List Request)
+  pub ServesUntil-then : (fault : ScriptStop) (a b c : Desk) (rs ss : List Request)
       (u v w : Option (List ℕ)) (from mid : ScriptEnd) → IfStop (IsUncounted from mid) fault
       → Serves is_right tells stands seen rs a b u v from mid
       → ServesUntil is_right tells stands seen fault ss b c v w
@@ -353,7 +353,7 @@ module _ (is_right : Readings → Type 0) (tells : StoreFault → Type 0) {Left 
   }
 
   -- requests that were served before a fault that isn't that of a reply
-  pub ServesUntil-line : (fault : ScriptFault) (a b : Desk) (rs : List Request)
+  pub ServesUntil-line : (fault : ScriptStop) (a b : Desk) (rs : List Request)
       (u v : Option (List ℕ)) (from to : ScriptEnd) → IsOfLine fault
       → Serves is_right tells stands seen rs a b u v from to
       → ServesUntil is_right tells stands seen fault rs a b u v

@@ -10,8 +10,8 @@ use Rattle.desk_script.specs.Faults.{IsOfReply, IsOfWriter}
 use Rattle.desk_script.specs.Losses.{AppendsFront, IsFrontOf, IsStopAt, Loses}
 use Rattle.desk_script.specs.Texts.{line_of}
 use Rattle.desk_script.specs.declared.answer.Reply.{Reply}
-use Rattle.desk_script.specs.declared.serving.ScriptFault.{ScriptFault}
-use Rattle.desk_script.specs.declared.serving.ScriptFault.TheVariants.{Read, Write, Turns, Memory, Refused, Failed}
+use Rattle.desk_script.specs.declared.serving.ScriptStop.{ScriptStop}
+use Rattle.desk_script.specs.declared.serving.ScriptStop.TheVariants.{Read, Write, Turns, Memory, Refused, Failed}
 
 -- more of the bytes
 pub front_moved : (bytes front rest : List ℕ) (n : ℕ) → bytes ≡ front ++ rest
@@ -58,7 +58,7 @@ pub front_whole : (u v : Option (List ℕ)) (bytes : List ℕ) → Appends u v b
 front_whole u v bytes h = (bytes, ([], sym (append-nil bytes)), h)
 
 -- the line of a reply that couldn't be written
-pub lost_line : {T : Type 0} (r : Result T ScriptFault) (reply : Reply) (u v : Option (List ℕ))
+pub lost_line : {T : Type 0} (r : Result T ScriptStop) (reply : Reply) (u v : Option (List ℕ))
     (bytes : List ℕ) → bytes ≡ line_of reply → IfErr r IsOfWriter
     → OnErr r (AppendsFront u v bytes) → IfErr r (λ fault. Loses fault reply u v)
 lost_line (Ok x) reply u v bytes is of front = tt
@@ -74,7 +74,7 @@ lost_line (Err Refused) reply u v bytes is of front = absurd of
 lost_line (Err Failed) reply u v bytes is of front = absurd of
 
 -- the fault by which a reply is lost is that of a reply
-pub lost_by : (fault : ScriptFault) (reply : Reply) (u v : Option (List ℕ)) → Loses fault reply u v
+pub lost_by : (fault : ScriptStop) (reply : Reply) (u v : Option (List ℕ)) → Loses fault reply u v
     → IsOfReply fault
 lost_by Write reply u v h = tt
 lost_by Memory reply u v h = tt
@@ -84,7 +84,7 @@ lost_by Refused reply u v h = tt
 lost_by Failed reply u v h = tt
 
 -- a reply that is written, and whose line isn't done, ends the script if it is to end there
-pub stopped_at : (fault : ScriptFault) (reply : Reply) (u v : Option (List ℕ))
+pub stopped_at : (fault : ScriptStop) (reply : Reply) (u v : Option (List ℕ))
     → IsStopAt reply fault → Appends u v (line_of reply) → Loses fault reply u v
 stopped_at Refused reply u v at written = record {
   front = line_of reply;

@@ -26,12 +26,12 @@ use Rattle.desk_script.specs.declared.answer.Reply.{Reply}
 use Rattle.desk_script.specs.declared.answer.Reply.TheVariants.{Became, NoRequest}
 use Rattle.desk_script.specs.declared.line.Line.{Line}
 use Rattle.desk_script.specs.declared.serving.ScriptEnd.{ScriptEnd}
-use Rattle.desk_script.specs.declared.serving.ScriptFault.{ScriptFault}
-use Rattle.desk_script.specs.declared.serving.ScriptFault.TheVariants.{Read, Write, Turns, Memory, Refused, Failed}
+use Rattle.desk_script.specs.declared.serving.ScriptStop.{ScriptStop}
+use Rattle.desk_script.specs.declared.serving.ScriptStop.TheVariants.{Read, Write, Turns, Memory, Refused, Failed}
 use Rattle.desk_script.proofs.Chains.{AreReplied-one, Serves-none}
 
 -- if there are no lines, all are done
-none_done : (fault : ScriptFault) → IfStop (AreDone []) fault
+none_done : (fault : ScriptStop) → IfStop (AreDone []) fault
 none_done Refused = (refl, refl)
 none_done Failed = (refl, refl)
 none_done Read = tt
@@ -134,7 +134,7 @@ module _ (is_right : Readings → Type 0) (tells : StoreFault → Type 0) {Left 
       })
 
   -- the reply to a line is lost
-  pub ServesUntil-one : (fault : ScriptFault) (now after : Desk) (u v : Option (List ℕ))
+  pub ServesUntil-one : (fault : ScriptStop) (now after : Desk) (u v : Option (List ℕ))
       (line : Line) (text : List ℕ) (reply : Reply) → HasCome line text → line.is_blank ≡ false
       → Replies is_right tells stands (seen now) (request_of text) reply (seen after)
       → Loses fault reply u v

@@ -20,7 +20,7 @@ use Rattle.desk_script.specs.Script.{AreLeft, HasServed, IsCutOff, IsFront, IsFr
 use Rattle.desk_script.specs.Script.{IsScript, IsUncounted, Serves, ServesUntil}
 use Rattle.desk_script.specs.declared.line.Line.{Line}
 use Rattle.desk_script.specs.declared.serving.ScriptEnd.{ScriptEnd}
-use Rattle.desk_script.specs.declared.serving.ScriptFault.{ScriptFault}
+use Rattle.desk_script.specs.declared.serving.ScriptStop.{ScriptStop}
 use Rattle.desk_script.proofs.Cutting.{BeginsWith-more, BeginsWith-append, CutsInto-append, requests_of-append}
 use Rattle.desk_script.proofs.Chains.{HasRun-of, IsRun-of, Serves-none, Serves-then, ServesUntil-line, ServesUntil-then}
 use Rattle.desk_script.proofs.Gathering.{IsLine-of, no_lf-of}
@@ -103,7 +103,7 @@ module _ (is_right : Readings → Type 0) (tells : StoreFault → Type 0) {Left 
       (Serves-then is_right tells stands seen a b c (requests_of lines) (requests_of more) u v w
       from mid to h k)
 
-  served_until : (fault : ScriptFault) (lines more : List LineText) (a b c : Desk)
+  served_until : (fault : ScriptStop) (lines more : List LineText) (a b c : Desk)
       (u v w : Option (List ℕ)) (from mid : ScriptEnd)
       → IfStop (IsUncounted from mid) fault
       → Serves is_right tells stands seen (requests_of lines) a b u v from mid
@@ -133,7 +133,7 @@ module _ (is_right : Readings → Type 0) (tells : StoreFault → Type 0) {Left 
     serves = both_served h.lines k.lines a b c u v w from mid to h.serves k.serves;
   }
 
-  pub IsFrontAt-then : (number : ℕ) (fault : ScriptFault) (front more : List ℕ) (a b c : Desk)
+  pub IsFrontAt-then : (number : ℕ) (fault : ScriptStop) (front more : List ℕ) (a b c : Desk)
       (u v w : Option (List ℕ)) (from mid : ScriptEnd) (line : Line)
       → IfStop (IsUncounted from mid) fault
       → (h : HasServed is_right tells stands seen number front a b u v from mid line)
@@ -149,7 +149,7 @@ module _ (is_right : Readings → Type 0) (tells : StoreFault → Type 0) {Left 
   }
 
   -- a fault that isn't that of a reply
-  pub IsFrontAt-of : (number : ℕ) (fault : ScriptFault) (front more : List ℕ) (a b : Desk)
+  pub IsFrontAt-of : (number : ℕ) (fault : ScriptStop) (front more : List ℕ) (a b : Desk)
       (u v : Option (List ℕ)) (from to : ScriptEnd) (line : Line)
       → IsOfLine fault → HasServed is_right tells stands seen number front a b u v from to line
       → IsFrontAt is_right tells stands seen number fault (front ++ more) a b u v
@@ -161,7 +161,7 @@ module _ (is_right : Readings → Type 0) (tells : StoreFault → Type 0) {Left 
         of_line h.serves;
   }
 
-  pub IsFront-at : (fault : ScriptFault) (bytes : List ℕ) (a b : Desk) (u v : Option (List ℕ))
+  pub IsFront-at : (fault : ScriptStop) (bytes : List ℕ) (a b : Desk) (u v : Option (List ℕ))
       → IsFrontAt is_right tells stands seen 1 fault bytes a b u v
       → IsFront is_right tells stands seen fault bytes a b u v
   IsFront-at fault bytes a b u v f = record {
@@ -214,7 +214,7 @@ module _ (is_right : Readings → Type 0) (tells : StoreFault → Type 0) {Left 
             (sym (requests_of-one number shows.0 at.0)) serves;
       }
 
-  pub IsFrontAt-line : (number : ℕ) (fault : ScriptFault) (came more : List ℕ) (a b : Desk)
+  pub IsFrontAt-line : (number : ℕ) (fault : ScriptStop) (came more : List ℕ) (a b : Desk)
       (u v : Option (List ℕ)) (line : Line) → (shows : Shows line came)
       → All (λ b. b ≢ 10) came → ServesUntil is_right tells stands seen fault (request_at shows.0) a
       b u v
@@ -230,7 +230,7 @@ module _ (is_right : Readings → Type 0) (tells : StoreFault → Type 0) {Left 
       }
 
   -- nothing was answered
-  pub IsFrontAt-none : (number : ℕ) (fault : ScriptFault) (bytes : List ℕ) (a : Desk)
+  pub IsFrontAt-none : (number : ℕ) (fault : ScriptStop) (bytes : List ℕ) (a : Desk)
       (w : Option (List ℕ)) (from : ScriptEnd) → IsOfLine fault
       → IsFrontAt is_right tells stands seen number fault bytes a a w w
   IsFrontAt-none number fault bytes a w from of_line = record {
@@ -241,7 +241,7 @@ module _ (is_right : Readings → Type 0) (tells : StoreFault → Type 0) {Left 
         (Serves-none is_right tells stands seen a w from);
   }
 
-  pub IsFrontAt-last : (number : ℕ) (fault : ScriptFault) (came : List ℕ) (a b : Desk)
+  pub IsFrontAt-last : (number : ℕ) (fault : ScriptStop) (came : List ℕ) (a b : Desk)
       (u v : Option (List ℕ)) → All (λ b. b ≢ 10) came
       → ServesUntil is_right tells stands seen fault (request_at came) a b u v
       → IsFrontAt is_right tells stands seen number fault came a b u v
@@ -323,7 +323,7 @@ piece_rest front taken rest piece more is =
 -- the bytes before this piece and those taken of it were served
 pub IsFrontAt-piece : (is_right : Readings → Type 0) (tells : StoreFault → Type 0)
     {Left Desk : Type 0} (stands : Left → Tables → Type 0) (seen : Desk → Seen Left) (number : ℕ)
-    (fault : ScriptFault) (front taken rest piece more : List ℕ) (a b : Desk)
+    (fault : ScriptStop) (front taken rest piece more : List ℕ) (a b : Desk)
     (u v : Option (List ℕ)) (from to : ScriptEnd) (line : Line) → piece ≡ taken ++ rest
     → IsOfLine fault
     → HasServed is_right tells stands seen number (front ++ taken) a b u v from to line

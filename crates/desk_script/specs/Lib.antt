@@ -5,3 +5,4 @@ pub mod Gathered
 pub mod Faults
 pub mod Losses
 pub mod Script
+pub mod Stops

@@ -3,8 +3,8 @@ use Rattle.std.specs.Prelude.{◌≡◌, ◌⊎◌, ℕ, List, [], ◌∷◌, �
 use Rattle.std.specs.Io.KnownBytes.{Appends}
 use Rattle.desk_script.specs.Texts.{TakesMemory, count_failed, count_refused, line_of, lines_of}
 use Rattle.desk_script.specs.declared.answer.Reply.{Reply}
-use Rattle.desk_script.specs.declared.serving.ScriptFault.{ScriptFault}
-use Rattle.desk_script.specs.declared.serving.ScriptFault.TheVariants.{Read, Write, Turns, Memory, Refused, Failed}
+use Rattle.desk_script.specs.declared.serving.ScriptStop.{ScriptStop}
+use Rattle.desk_script.specs.declared.serving.ScriptStop.TheVariants.{Read, Write, Turns, Memory, Refused, Failed}
 
 -- these bytes are a prefix of others
 abbrev pub IsFrontOf : List ℕ → List ℕ → Type 0
@@ -16,13 +16,13 @@ AppendsFront old new bytes = (front : List ℕ) × IsFrontOf front bytes × Appe
 
 -- if a script is to stop at the first line that isn't done: the fault is that the line of this
 -- reply isn't
-abbrev pub IsStopAt : Reply → ScriptFault → Type 0
+abbrev pub IsStopAt : Reply → ScriptStop → Type 0
 IsStopAt reply Refused = count_refused reply ≡ 1
 IsStopAt reply Failed = count_failed reply ≡ 1
 IsStopAt reply _ = ⊥
 
 -- the fact is true if the fault is such a line
-abbrev pub IfStop : Type 0 → ScriptFault → Type 0
+abbrev pub IfStop : Type 0 → ScriptStop → Type 0
 IfStop fact Refused = fact
 IfStop fact Failed = fact
 IfStop fact _ = Unit {0}
@@ -34,7 +34,7 @@ AreDone replies = (sum_by count_refused replies ≡ 0) × (sum_by count_failed r
 -- Why a reply is the last one, and what is written of it: its line couldn't be written, and some
 -- prefix of it was; no memory was left for its text, and nothing of it was written; or its line
 -- isn't done, and all of it is written.
-abbrev pub IsLost : ScriptFault → Reply → List ℕ → Type 0
+abbrev pub IsLost : ScriptStop → Reply → List ℕ → Type 0
 IsLost Write reply front = IsFrontOf front (line_of reply)
 IsLost Memory reply front = TakesMemory reply × (front ≡ [])
 IsLost Read reply front = ⊥
@@ -43,7 +43,7 @@ IsLost Refused reply front = IsStopAt reply Refused × (front ≡ line_of reply)
 IsLost Failed reply front = IsStopAt reply Failed × (front ≡ line_of reply)
 
 -- a fault before a line is whole: of the reader, or no memory for the line
-abbrev pub IsOfLine : ScriptFault → Type 0
+abbrev pub IsOfLine : ScriptStop → Type 0
 IsOfLine Read = Unit {0}
 IsOfLine Turns = Unit {0}
 IsOfLine Memory = Unit {0}
@@ -52,14 +52,14 @@ IsOfLine Refused = ⊥
 IsOfLine Failed = ⊥
 
 -- one reply is lost, or ends the script
-pub record Loses (fault : ScriptFault) (reply : Reply) (old new : Option (List ℕ)) : Type 0 where
+pub record Loses (fault : ScriptStop) (reply : Reply) (old new : Option (List ℕ)) : Type 0 where
   pub front : List ℕ
   pub lost : IsLost fault reply front
   pub written : Appends old new front
 
 -- the last of some replies is lost or ends the script, after the lines of the ones before it; if it
 -- ends the script, it is the first whose line isn't done
-pub record LosesLast (fault : ScriptFault) (replies : List Reply)
+pub record LosesLast (fault : ScriptStop) (replies : List Reply)
     (old new : Option (List ℕ)) : Type 0 where
   pub told : List Reply
   pub last : Reply
@@ -70,6 +70,6 @@ pub record LosesLast (fault : ScriptFault) (replies : List Reply)
   pub written : Appends old new (lines_of told ++ front)
 
 -- the replies are written, a line each, except the last one if it is lost
-abbrev pub AreToldUntil : ScriptFault → List Reply → Option (List ℕ) → Option (List ℕ) → Type 0
+abbrev pub AreToldUntil : ScriptStop → List Reply → Option (List ℕ) → Option (List ℕ) → Type 0
 AreToldUntil fault replies old new = (IsOfLine fault × Appends old new (lines_of replies))
     ⊎ LosesLast fault replies old new

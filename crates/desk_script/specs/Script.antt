@@ -16,7 +16,7 @@ use Rattle.desk_script.specs.Texts.{lines_of, count_refused, count_failed}
 use Rattle.desk_script.specs.declared.answer.Reply.{Reply}
 use Rattle.desk_script.specs.declared.line.Line.{Line}
 use Rattle.desk_script.specs.declared.serving.ScriptEnd.{ScriptEnd}
-use Rattle.desk_script.specs.declared.serving.ScriptFault.{ScriptFault}
+use Rattle.desk_script.specs.declared.serving.ScriptStop.{ScriptStop}
 
 -- no further line was refused, was no request or failed
 abbrev pub IsUncounted : ScriptEnd → ScriptEnd → Type 0
@@ -49,7 +49,7 @@ module _ (is_right : Readings → Type 0) (tells : StoreFault → Type 0) {Left 
     pub failed : to.failed ≡ from.failed + sum_by count_failed replies
 
   -- requests were answered until a fault, and the replies were written as far as it allowed
-  pub record ServesUntil (fault : ScriptFault) (requests : List Request) (before after : Desk)
+  pub record ServesUntil (fault : ScriptStop) (requests : List Request) (before after : Desk)
       (old new : Option (List ℕ)) : Type 0 where
     pub replies : List Reply
     pub replied : AreReplied is_right tells stands seen before requests replies after
@@ -74,7 +74,7 @@ module _ (is_right : Readings → Type 0) (tells : StoreFault → Type 0) {Left 
   -- was; the commands among them are a run; and the replies are written, a line each, except the
   -- last one if it is lost. A script that was to stop at the first line that isn't done stopped
   -- there.
-  pub record IsFront (fault : ScriptFault) (bytes : List ℕ) (before after : Desk)
+  pub record IsFront (fault : ScriptStop) (bytes : List ℕ) (before after : Desk)
       (old new : Option (List ℕ)) : Type 0 where
     pub lines : List LineText
     pub rest : List ℕ
@@ -102,7 +102,7 @@ module _ (is_right : Readings → Type 0) (tells : StoreFault → Type 0) {Left 
 
   -- a part of a script that stopped: the bytes begin with some lines, numbered from a number on,
   -- that are served until a fault
-  pub record IsFrontAt (number : ℕ) (fault : ScriptFault) (bytes : List ℕ) (before after : Desk)
+  pub record IsFrontAt (number : ℕ) (fault : ScriptStop) (bytes : List ℕ) (before after : Desk)
       (old new : Option (List ℕ)) : Type 0 where
     pub lines : List LineText
     pub rest : List ℕ

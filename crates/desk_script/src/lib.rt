@@ -12,22 +12,26 @@
 //! After a fault, the lines up to some line were answered in this way: what was accepted stays
 //! applied, and only the last reply can be missing or cut short.
 //!
-//! A `Watch` sees each line. If it says so, the script ends with the first line that isn't done:
-//! the last line that was answered was refused, is no request or failed, and none before it.
+//! `watched_script` does the same with a `Watch`, which sees each line. If it says so, the script
+//! ends with the first line that isn't done: the last line that was answered was refused, is no
+//! request or failed, and none before it.
 //!
 //! - `line` gathers the bytes of a line as they come.
 //! - `answer` answers the request of a line.
 //! - `serving` writes the reply and counts it.
 //! - `stream` cuts what is read into lines.
+//! - `unwatched` is a script that nothing watches.
 #![tactic(auto)]
 
 mod answer;
 mod line;
 mod serving;
 mod stream;
+mod unwatched;
 mod watch;
 
 pub use answer::{Reply, command_outcome, question_outcome};
-pub use serving::{ScriptEnd, ScriptFault, write_bytes};
-pub use stream::script;
+pub use serving::{ScriptEnd, ScriptStop, write_bytes};
+pub use stream::watched_script;
+pub use unwatched::{ScriptFault, script};
 pub use watch::Watch;

@@ -33,7 +33,7 @@ pub struct ScriptEnd {
 
 /// Why a script stopped before its end.
 #[derive(Clone, Copy, Debug, Drop, PartialEq, Eq, Error)]
-pub enum ScriptFault {
+pub enum ScriptStop {
     #[error("cannot read a line")]
     Read,
     #[error("cannot write a reply")]
@@ -50,13 +50,13 @@ pub enum ScriptFault {
     Failed,
 }
 
-impl From<AllocError> for ScriptFault {
-    ghost use Rattle.desk_script.specs.declared.serving.ScriptFault.TheVariants.{Memory};
+impl From<AllocError> for ScriptStop {
+    ghost use Rattle.desk_script.specs.declared.serving.ScriptStop.TheVariants.{Memory};
 
     ghost from_gives = { λ _ fault. fault ≡ Memory };
 
-    fn from(_error: AllocError) -> ScriptFault {
-        ScriptFault::Memory
+    fn from(_error: AllocError) -> ScriptStop {
+        ScriptStop::Memory
     }
 }
 
@@ -80,23 +80,23 @@ impl ScriptEnd {
 }
 
 /// Writes some prefix of the bytes, which is empty if the writer was interrupted.
-fn write_some<W: Write>(writer: &mut W, bytes: &[u8]) -> Result<usize, ScriptFault>
+fn write_some<W: Write>(writer: &mut W, bytes: &[u8]) -> Result<usize, ScriptStop>
     ensures ok { IfOk result (λ taken. (taken ≤ length bytes.now)
         × Appends (W.contents writer.old) (W.contents writer.new) (take taken bytes.now)) }
     ensures err { OnErr result (Keeps (W.contents writer.old) (W.contents writer.new)) }
     ensures fault { IfErr result IsOfWriter }
 {
     match writer.write(bytes) {
-        Ok(0) => Err(ScriptFault::Write),
+        Ok(0) => Err(ScriptStop::Write),
         Ok(taken) => Ok(taken),
         Err(error) if error.kind() == ErrorKind::Interrupted => Ok(0),
-        Err(_) => Err(ScriptFault::Write),
+        Err(_) => Err(ScriptStop::Write),
     }
 }
 
 /// Writes bytes as `write_all` does. But after a fault of `write_all` nothing is known, and here a
 /// prefix of the bytes was written.
-pub fn write_bytes<W: Write>(writer: &mut W, bytes: &[u8]) -> Result<(), ScriptFault>
+pub fn write_bytes<W: Write>(writer: &mut W, bytes: &[u8]) -> Result<(), ScriptStop>
     ensures ok { OnOk result (Appends (W.contents writer.old) (W.contents writer.new) bytes.now) }
     ensures err { OnErr result
         (AppendsFront (W.contents writer.old) (W.contents writer.new) bytes.now) }
@@ -110,11 +110,11 @@ pub fn write_bytes<W: Write>(writer: &mut W, bytes: &[u8]) -> Result<(), ScriptF
         let taken = write_some(writer, rest)?;
         rest = &rest[taken..];
     }
-    Err(ScriptFault::Write)
+    Err(ScriptStop::Write)
 }
 
 /// Writes a text as a line.
-fn write_line<W: Write>(writer: &mut W, text: &str) -> Result<(), ScriptFault>
+fn write_line<W: Write>(writer: &mut W, text: &str) -> Result<(), ScriptStop>
     ensures ok { OnOk result
         (Appends (W.contents writer.old) (W.contents writer.new) (text.now ++ 10 ∷ [])) }
     ensures err { OnErr result (AppendsFront (W.contents writer.old) (W.contents writer.new)
@@ -125,13 +125,13 @@ fn write_line<W: Write>(writer: &mut W, text: &str) -> Result<(), ScriptFault>
     write_bytes(writer, b"\n")?;
     match writer.flush() {
         Ok(()) => Ok(()),
-        Err(_) => Err(ScriptFault::Write),
+        Err(_) => Err(ScriptStop::Write),
     }
 }
 
 /// Writes a reply as a line. No memory is needed to write that no memory was left, or that there
 /// was no request.
-fn write_reply<W: Write>(alloc: Global, writer: &mut W, reply: &Reply) -> Result<(), ScriptFault>
+fn write_reply<W: Write>(alloc: Global, writer: &mut W, reply: &Reply) -> Result<(), ScriptStop>
     ensures ok { OnOk result
         (Appends (W.contents writer.old) (W.contents writer.new) (line_of reply.now)) }
     ensures err { IfErr result (λ fault. Loses fault reply.now (W.contents writer.old)
@@ -170,7 +170,7 @@ fn answer_kept<D: Desk, V: Watch>(
 
 /// Goes on after a reply, or ends the script with it if its line isn't done and the script is to
 /// end there.
-fn go_on(stops: bool, reply: &Reply) -> Result<(), ScriptFault>
+fn go_on(stops: bool, reply: &Reply) -> Result<(), ScriptStop>
     ensures goes { OnOk result
         (stops ≡ true → (count_refused reply.now ≡ 0) × (count_failed reply.now ≡ 0)) }
     ensures ends { IfErr result (IsStopAt reply.now) }
@@ -182,9 +182,9 @@ fn go_on(stops: bool, reply: &Reply) -> Result<(), ScriptFault>
     }
     match reply {
         Reply::NoRequest | Reply::Became(Outcome::Answered(Answer::Refused(_))) => {
-            Err(ScriptFault::Refused)
+            Err(ScriptStop::Refused)
         }
-        Reply::Became(Outcome::Failed(_)) => Err(ScriptFault::Failed),
+        Reply::Became(Outcome::Failed(_)) => Err(ScriptStop::Failed),
         Reply::Became(Outcome::Answered(_)) => Ok(()),
     }
 }
@@ -195,7 +195,7 @@ fn tell_reply<W: Write, V: Watch>(
     writer: &mut W,
     watch: &mut V,
     reply: &Reply,
-) -> Result<(), ScriptFault>
+) -> Result<(), ScriptStop>
     ensures ok { OnOk result
         (Appends (W.contents writer.old) (W.contents writer.new) (line_of reply.now)) }
     ensures goes { OnOk result
@@ -219,7 +219,7 @@ pub fn serve<D: Desk, W: Write, V: Watch>(
     watch: &mut V,
     end: &mut ScriptEnd,
     line: &mut Line,
-) -> Result<(), ScriptFault>
+) -> Result<(), ScriptStop>
     requires room { (end.old.refused + 1 < 2 ^ 64) × (end.old.failed + 1 < 2 ^ 64) }
     ensures ok { (text : List ℕ) → HasCome line.old text
         → OnOk result (Serves D.are_right D.tells D.stands D.seen (request_at text)

@@ -9,7 +9,7 @@ ghost use Rattle.desk_script.specs.Script.{AreLeft, HasServed, IsCutOff, IsFront
 ghost use Rattle.desk_script.specs.Gathered.{Shows};
 
 use crate::line::Line;
-use crate::serving::{ScriptEnd, ScriptFault, serve};
+use crate::serving::{ScriptEnd, ScriptStop, serve};
 use crate::watch::Watch;
 use desk_base::limits::SCRIPT_READS;
 use desk_core::desk::Desk;
@@ -37,7 +37,7 @@ fn end_line<D: Desk, W: Write, V: Watch>(
     watch: &mut V,
     end: &mut ScriptEnd,
     line: &mut Line,
-) -> Result<(), ScriptFault>
+) -> Result<(), ScriptStop>
     requires room { (end.old.refused + 1 < 2 ^ 64) × (end.old.failed + 1 < 2 ^ 64) }
     ensures ok { (number : ℕ) (came : List ℕ) → Shows line.old came → All (λ b. b ≢ 10) came
         → OnOk result (HasServed D.are_right D.tells D.stands D.seen number (came ++ 10 ∷ [])
@@ -66,7 +66,7 @@ fn feed<D: Desk, W: Write, V: Watch>(
     end: &mut ScriptEnd,
     line: &mut Line,
     piece: &[u8],
-) -> Result<(), ScriptFault>
+) -> Result<(), ScriptStop>
     requires room { (end.old.refused + length piece.now < 2 ^ 64)
         × (end.old.failed + length piece.now < 2 ^ 64) }
     ensures ok { (number : ℕ) (came : List ℕ) → Shows line.old came → All (λ b. b ≢ 10) came
@@ -102,7 +102,7 @@ fn finish<D: Desk, W: Write, V: Watch>(
     watch: &mut V,
     end: &mut ScriptEnd,
     line: &mut Line,
-) -> Result<(), ScriptFault>
+) -> Result<(), ScriptStop>
     requires room { (end.old.refused + 1 < 2 ^ 64) × (end.old.failed + 1 < 2 ^ 64) }
     ensures ok { (number : ℕ) (came : List ℕ) → Shows line.old came → All (λ b. b ≢ 10) came
         → OnOk result (IsPart D.are_right D.tells D.stands D.seen number came desk.old desk.new
@@ -133,13 +133,13 @@ fn finish<D: Desk, W: Write, V: Watch>(
 ///
 /// If the watch says so, the script ends with the first line that isn't done, whose reply is
 /// written.
-pub fn script<D: Desk, R: Read, W: Write, V: Watch>(
+pub fn watched_script<D: Desk, R: Read, W: Write, V: Watch>(
     alloc: Global,
     desk: &mut D,
     reader: &mut R,
     writer: &mut W,
     watch: &mut V,
-) -> Result<ScriptEnd, ScriptFault>
+) -> Result<ScriptEnd, ScriptStop>
     ensures ok { IfOk result (λ end. (bytes : List ℕ) × AreLeft (R.remaining reader.old) bytes
         × IsScript D.are_right D.tells D.stands D.seen bytes desk.old desk.new
         (W.contents writer.old) (W.contents writer.new) end) }
@@ -166,7 +166,7 @@ pub fn script<D: Desk, R: Read, W: Write, V: Watch>(
     let mut piece = [0u8; PIECE_BYTES];
     for turn in 0..SCRIPT_READS {
         let Ok(taken) = reader.read(&mut piece) else {
-            return Err(ScriptFault::Read);
+            return Err(ScriptStop::Read);
         };
         if taken == 0 {
             finish(alloc, desk, writer, watch, &mut end, &mut line)?;
@@ -182,5 +182,5 @@ pub fn script<D: Desk, R: Read, W: Write, V: Watch>(
             &piece[..taken],
         )?;
     }
-    Err(ScriptFault::Turns)
+    Err(ScriptStop::Turns)
 }

@@ -5,12 +5,12 @@ ghost use Rattle.std.specs.Io.KnownBytes.{Consumes};
 ghost use Rattle.desk_script.specs.Faults.{IsOfReader, IsOfReply};
 ghost use Rattle.desk_script.specs.Script.{AreLeft, IsCutOff, IsFront, IsScript};
 ghost use Rattle.desk_script.specs.declared.serving.ScriptEnd.{ScriptEnd};
-ghost use Rattle.desk_script.specs.declared.serving.ScriptFault.TheVariants as stop;
+ghost use Rattle.desk_script.specs.declared.serving.ScriptStop.TheVariants as stop;
 ghost use Rattle.desk_subcommands.specs.Failures.{OfScript};
 
 use crate::failure::Failure;
 use desk_core::desk::Desk;
-use desk_script::{ScriptFault, Watch};
+use desk_script::{ScriptStop, Watch};
 use std::alloc::Global;
 use std::io::{Read, Write};
 
@@ -49,10 +49,10 @@ pub fn script<D: Desk, R: Read, W: Write, V: Watch>(
         × IsFront D.are_right D.tells D.stands D.seen stop.Failed bytes desk.old desk.new
         (W.contents writer.old) (W.contents writer.new)))) }
 {
-    let end = match desk_script::script(alloc, desk, reader, writer, watch) {
+    let end = match desk_script::watched_script(alloc, desk, reader, writer, watch) {
         Ok(end) => end,
-        Err(ScriptFault::Refused) => return Ok(1),
-        Err(ScriptFault::Failed) => return Err(Failure::Failed(1)),
+        Err(ScriptStop::Refused) => return Ok(1),
+        Err(ScriptStop::Failed) => return Err(Failure::Failed(1)),
         Err(fault) => return Err(Failure::Script(fault)),
     };
     if end.failed > 0 {

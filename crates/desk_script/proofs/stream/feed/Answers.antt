@@ -3,7 +3,7 @@ use Rattle.std.proofs.Common.{arith, append_assoc, append-nil, length-append}
 use Rattle.std.specs.Prelude.{true}
 use Rattle.desk_script.specs.Losses.{IfStop}
 use Rattle.desk_script.specs.Script.{HasServed, IsFrontAt}
-use Rattle.desk_script.specs.declared.serving.ScriptFault.TheVariants.{Memory}
+use Rattle.desk_script.specs.declared.serving.ScriptStop.TheVariants.{Memory}
 use Rattle.desk_script.proofs.Progress.{HasServed-came, HasServed-run, HasServed-then}
 use Rattle.desk_script.proofs.Progress.{IsFrontAt-piece, IsFrontAt-then, piece_cut, piece_line}
 use Rattle.desk_script.proofs.Progress.{front_line}

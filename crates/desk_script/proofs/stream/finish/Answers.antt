@@ -1,7 +1,7 @@
 use Rattle.std.proofs.lemmas.Result.{IfErr-weaker, on_ok_weaker}
 use Rattle.desk_script.specs.Lines.{request_at}
 use Rattle.desk_script.specs.Script.{IsFrontAt, ServesUntil}
-use Rattle.desk_script.specs.declared.serving.ScriptFault.TheVariants.{Memory}
+use Rattle.desk_script.specs.declared.serving.ScriptStop.TheVariants.{Memory}
 use Rattle.desk_script.proofs.Progress.{IsFrontAt-last, IsFrontAt-none, IsPart-last}
 use Rattle.desk_script.proofs.Results.{handed_on}
 use Rattle.desk_script.proofs.stream.finish.Goals as goal

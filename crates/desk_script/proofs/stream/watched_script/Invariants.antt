@@ -2,7 +2,7 @@ use Rattle.std.proofs.Common.{◌≡◌, ◌≤◌, ◌*◌, ℕ, List, length}
 use Rattle.std.specs.Prelude.{true}
 use Rattle.std.specs.Io.KnownBytes.{Consumes}
 use Rattle.desk_script.specs.Script.{HasServed, IsUncounted}
-use Rattle.desk_script.proofs.stream.script.Given as goal
+use Rattle.desk_script.proofs.stream.watched_script.Given as goal
 
 abbrev pub invariant-loop-turn : goal.invariant-loop-turn
 invariant-loop-turn g l = record {

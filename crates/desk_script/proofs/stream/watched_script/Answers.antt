@@ -6,13 +6,13 @@ use Rattle.std.proofs.lemmas.List.Elements.{All-nil}
 use Rattle.std.specs.Prelude.{true}
 use Rattle.desk_script.specs.Losses.{IfStop}
 use Rattle.desk_script.specs.Script.{AreLeft, IsFront, IsFrontAt}
-use Rattle.desk_script.specs.declared.serving.ScriptFault.TheVariants.{Read, Turns}
+use Rattle.desk_script.specs.declared.serving.ScriptStop.TheVariants.{Read, Turns}
 use Rattle.desk_script.proofs.Progress.{AreLeft-all, AreLeft-front, HasServed-came, HasServed-then}
 use Rattle.desk_script.proofs.Progress.{IsCutOff-of, IsFront-at, IsFrontAt-of, IsFrontAt-then}
 use Rattle.desk_script.proofs.Progress.{IsScript-of}
 use Rattle.desk_script.proofs.Chains.{stop_then}
 use Rattle.desk_script.proofs.Results.{handed_on}
-use Rattle.desk_script.proofs.stream.script.Goals as goal
+use Rattle.desk_script.proofs.stream.watched_script.Goals as goal
 
 pub loop-turn-init : goal.loop-turn-init
 loop-turn-init g c = record {
