@@ -4,3 +4,4 @@ pub mod LineEnds
 pub mod Settled
 pub mod Short
 pub mod FromElsewhere
+pub mod Accepted

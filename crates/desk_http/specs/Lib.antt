@@ -7,3 +7,4 @@ pub mod Routes
 pub mod Requests
 pub mod OutcomeStatuses
 pub mod Replies
+pub mod Accepting

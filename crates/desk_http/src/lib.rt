@@ -21,12 +21,15 @@
 //! - `serve_at` does the same for one of many connections to a port, which share the table of
 //!   routes. A request that a browser made for a page of elsewhere gets a reply of its own, 403, and
 //!   reaches nothing of the desk.
+//! - `serve` serves so many connections one after another, which an `Accept` accepts and gets back
+//!   (`specs/Accepting.antt`), and counts those that fail.
 //!
 //! `Expect` is ignored.
 //!
 //! `read_command`, `reply_line` and `script` handle the same requests and replies as lines.
 #![tactic(auto)]
 
+mod accepting;
 mod answering;
 mod asking;
 mod connections;
@@ -40,6 +43,7 @@ mod serving;
 mod statuses;
 mod table;
 
+pub use accepting::{Accept, serve};
 pub use asking::{Reading, Reply, Request, Shape};
 pub use connections::connections_are_lines;
 pub use desk_http_head::{

@@ -2,7 +2,7 @@
 //! doesn't keep the next one waiting for ever.
 
 use desk_core::Desk;
-use desk_http::{RouteTable, ServeFault, serve_at};
+use desk_http::{Accept, ServeFault, Served};
 use desk_subcommands::{Failure, PortTrouble};
 use std::alloc::Global;
 use std::io::{self, Read, Write};
@@ -16,12 +16,12 @@ const PATIENCE: u64 = 10;
 #[derive(Drop)]
 struct Timed<'a> {
     rt: &'a HostRuntime,
-    stream: &'a TcpStream,
+    stream: TcpStream,
     since: Option<Instant>,
 }
 
 impl<'a> Timed<'a> {
-    fn over(rt: &'a HostRuntime, stream: &'a TcpStream) -> Timed<'a> {
+    fn over(rt: &'a HostRuntime, stream: TcpStream) -> Timed<'a> {
         Timed {
             rt,
             stream,
@@ -47,8 +47,7 @@ impl Read for Timed<'_> {
         let left = self.time_left()?;
         // (a time of zero is refused)
         self.stream.set_read_timeout(Some(left))?;
-        let mut stream = self.stream;
-        stream.read(buf)
+        self.stream.read(buf)
     }
 }
 
@@ -56,8 +55,7 @@ impl Write for Timed<'_> {
     fn write(&mut self, buf: &[u8]) -> io::Result<usize> {
         let left = self.time_left()?;
         self.stream.set_write_timeout(Some(left))?;
-        let mut stream = self.stream;
-        stream.write(buf)
+        self.stream.write(buf)
     }
 
     fn flush(&mut self) -> io::Result<()> {
@@ -75,7 +73,7 @@ fn port_trouble(error: &io::Error) -> PortTrouble {
 }
 
 // Listens on a port of 127.0.0.1, or on a free one if it is 0, and says on which.
-fn listening(rt: &HostRuntime, port: u16) -> Result<(TcpListener, u16), Failure> {
+fn listen_on(rt: &HostRuntime, port: u16) -> Result<(TcpListener, u16), Failure> {
     let listener = match TcpListener::bind(rt, (Ipv4Addr::LOCALHOST, port)) {
         Ok(listener) => listener,
         Err(error) => return Err(Failure::Listen(port, port_trouble(&error))),
@@ -86,18 +84,54 @@ fn listening(rt: &HostRuntime, port: u16) -> Result<(TcpListener, u16), Failure>
     Ok((listener, bound))
 }
 
-// Serves the request of one connection, and returns whether that was done.
-fn serve_stream<D: Desk>(
-    rt: &HostRuntime,
-    alloc: Global,
-    routes: &mut RouteTable,
-    port: u16,
-    desk: &mut D,
-    stream: &TcpStream,
-) -> Result<(), ServeFault> {
-    let (mut reader, mut writer) = (Timed::over(rt, stream), Timed::over(rt, stream));
-    serve_at(alloc, routes, port, desk, &mut reader, &mut writer)?;
-    Ok(())
+// Reports that a connection failed. If writing to standard error fails, the count at the end still
+// says it.
+fn tell_failure(rt: &HostRuntime, fault: ServeFault) {
+    let _told = eprintln!(rt; "a connection failed: {fault}");
+}
+
+/// What listens on a port, and accepts connections there.
+#[derive(Drop)]
+struct Listening<'a> {
+    rt: &'a HostRuntime,
+    listener: TcpListener,
+}
+
+impl<'a> Listening<'a> {
+    fn next(&self) -> io::Result<(Timed<'a>, Timed<'a>)> {
+        let (stream, _) = self.listener.accept()?;
+        let reader = Timed::over(self.rt, stream.try_clone()?);
+        Ok((reader, Timed::over(self.rt, stream)))
+    }
+}
+
+impl<'a> Accept for Listening<'a> {
+    type Reader = Timed<'a>;
+
+    type Writer = Timed<'a>;
+
+    ghost accepts = { λ old result new. Unit {0} };
+
+    ghost ends = { λ old connection ending new. Unit {0} };
+
+    fn accept(&mut self) -> Option<(Timed<'a>, Timed<'a>)> {
+        match self.next() {
+            Ok(connection) => Some(connection),
+            Err(_) => {
+                tell_failure(self.rt, ServeFault::Read);
+                None
+            }
+        }
+    }
+
+    fn ended(&mut self, connection: (Timed<'a>, Timed<'a>), ending: Result<Served, ServeFault>)
+        ensures { Unit {0} }
+    {
+        drop(connection);
+        if let Err(fault) = ending {
+            tell_failure(self.rt, fault);
+        }
+    }
 }
 
 /// Serves this many connections, going on after those that fail, and returns the program's status.
@@ -108,22 +142,10 @@ pub fn serve<D: Desk>(
     port: u16,
     limit: u32,
 ) -> Result<u8, Failure> {
-    let (listener, port) = listening(rt, port)?;
-    let mut routes = RouteTable::new();
-    let mut failed = 0u64;
-    for _ in 0..limit {
-        let done = match listener.accept() {
-            Ok((stream, _)) => serve_stream(rt, alloc, &mut routes, port, desk, &stream),
-            Err(_) => Err(ServeFault::Read),
-        };
-        if let Err(fault) = done {
-            // If writing to standard error fails, the count at the end still says it.
-            let _told = eprintln!(rt; "a connection failed: {fault}");
-            failed = failed.saturating_add(1);
-        }
-    }
-    match failed {
-        0 => Ok(0),
-        _ => Err(Failure::Connections(failed)),
+    let (listener, port) = listen_on(rt, port)?;
+    let mut connections = Listening { rt, listener };
+    match desk_http::serve(alloc, desk, port, limit, &mut connections) {
+        Ok(()) => Ok(0),
+        Err(failed) => Err(Failure::Connections(u64::from(failed))),
     }
 }
