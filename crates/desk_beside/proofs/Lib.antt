@@ -1,1 +1,7 @@
 mod Stored
+pub mod Natural
+mod Waivers
+mod Named
+pub mod Taken
+mod Steps
+mod Whole

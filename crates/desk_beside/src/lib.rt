@@ -3,11 +3,13 @@
 //!
 //! `beside_if_sound` takes it from a snapshot that an audit finds sound; `specs/Beside.antt` says
 //! what it is. No desk's tables have a number below 0, but the ten conditions of an audit admit one
-//! in a few columns: such rows are a fault.
+//! in a few columns: such rows are a fault. All other sound rows are those of some tables: that is the
+//! law of `laws`.
 #![tactic(auto)]
 
 mod beside;
 mod counts;
+pub mod laws;
 mod numbers;
 mod rows;
 

@@ -8,3 +8,7 @@ mod Missed
 mod Failing
 mod Recorded
 mod Adopting
+mod Ascending
+mod OwnSteps
+mod Orderly
+mod Showing

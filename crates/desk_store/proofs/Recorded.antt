@@ -7,7 +7,6 @@ use Rattle.std.specs.List.{AllByRecursion, list_all, range_with_len}
 use Rattle.std.specs.Option.{option_map}
 use Rattle.std.specs.Result.{result_ok}
 use Rattle.std.proofs.lemmas.Bool.{and_parts}
-use Rattle.std.proofs.lemmas.Bool.Decides.{nat_tests}
 use Rattle.std.proofs.lemmas.List.{length-map}
 use Rattle.std.proofs.lemmas.List.Sorted.{IsPermutation-sym}
 use Rattle.sqlite_trees.proofs.ListLemmas.{all-permutation}
@@ -25,7 +24,8 @@ use Rattle.desk_snapshot.specs.declared.fault.AuditFault.TheVariants.{BadRevisio
 use Rattle.desk_sql_layout.specs.Cells.{catalogue_cells, document_cells, release_cells, duty_cells}
 use Rattle.desk_sql_layout.specs.Held.{AreNumbered, Holds}
 use Rattle.desk_sql_layout.specs.Causes.{AreWritten, IsRow}
-use Rattle.desk_beside.specs.Beside.{AreFew, CanKeep, HasNumbers, IsSmallDuty, IsSmallRelease, body_of, is_natural}
+use Rattle.desk_beside.specs.Beside.{AreFew, CanKeep, HasNumbers, IsSmallDuty, IsSmallRelease, body_of}
+use Rattle.desk_beside.proofs.Natural.{is_counted}
 use Rattle.desk_model.specs.Keys.{is_revision}
 use Rattle.desk_model.specs.declared.row.DutyRow.{DutyRow}
 use Rattle.desk_snapshot.specs.declared.snapshot.Snapshot.{Snapshot}
@@ -118,18 +118,15 @@ all_mapped : {X Y : Type 0} (f : X → Y) (p : Y → Bool) → ((x : X) → p (f
 all_mapped f p each [] = refl
 all_mapped f p each (x ∷ xs) = rw (each x) (all_mapped f p each xs)
 
-natural : (n : ℕ) → is_natural (pos n) ≡ true
-natural n = grind (arith, nat_tests)
-
 pub has_numbers : (s : Snapshot) (t : Tables) → AreRowsOf s t → HasNumbers s
 has_numbers s t it =
     subst HasNumbers (sym it.rows)
     (record {
-      conclusions = all_mapped _ _ (λ x. natural x.document) t.conclusion;
-      adoptions = all_mapped _ _ (λ x. natural x.document) t.adoption;
-      revisions = all_mapped _ _ (λ x. natural x.revision) t.releases;
-      attached = all_mapped _ _ (λ x. natural x.document) t.attached;
-      frozen = all_mapped _ _ (λ x. natural x.document) t.frozen;
+      conclusions = all_mapped _ _ (λ x. is_counted x.document) t.conclusion;
+      adoptions = all_mapped _ _ (λ x. is_counted x.document) t.adoption;
+      revisions = all_mapped _ _ (λ x. is_counted x.revision) t.releases;
+      attached = all_mapped _ _ (λ x. is_counted x.document) t.attached;
+      frozen = all_mapped _ _ (λ x. is_counted x.document) t.frozen;
     })
 
 -- a list of a snapshot is as long as that of the tables

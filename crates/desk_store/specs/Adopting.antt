@@ -8,7 +8,7 @@ use Rattle.desk_model.specs.declared.command.Fault.{Fault as CallFault}
 use Rattle.desk_model.specs.declared.command.Fault.TheVariants.{Store}
 use Rattle.desk_model.specs.declared.command.StoreFault.TheVariants.{Rows}
 use Rattle.desk_access.specs.Seen.{Seen}
-use Rattle.desk_sql_layout.specs.Held.{Stands}
+use Rattle.desk_sql_layout.specs.Held.{Showing, Stands}
 use Rattle.desk_sql_adopt.specs.Reading.{IsSpared, HasStayed}
 use Rattle.desk_sql_adopt.specs.declared.version.Content.{Content}
 use Rattle.desk_sql_adopt.specs.declared.version.Content.TheVariants as content
@@ -18,6 +18,7 @@ use Rattle.desk_beside.specs.Beside.{IsBeside, forms_by}
 use Rattle.desk_beside.specs.declared.beside.Audited.{Audited}
 use Rattle.desk_beside.specs.declared.beside.Audited.TheVariants as audited
 use Rattle.desk_beside.specs.declared.beside.Beside.{Beside}
+use Rattle.desk_texts.specs.Right.{AreRight}
 use Rattle.desk_sql_write.specs.declared.create.Refused.{Refused}
 use Rattle.desk_sql_write.specs.declared.create.Refused.TheVariants as refused
 use Rattle.desk_store.specs.Auditing.{IsSoundDesk, Reports}
@@ -51,6 +52,10 @@ abbrev pub IsOfAudit : AdoptFault → Type 0
 IsOfAudit (Unsound fault) = Unit {0}
 IsOfAudit (Fault fault) = Unit {0}
 IsOfAudit _ = ⊥
+
+-- by each right reading there are tables that a connection shows and that a desk holds
+abbrev pub HoldsSome : State → Seen Trees → Type 0
+HoldsSome s desk = (w : Readings) → AreRight w → (t : Tables) × Showing s t × desk.holds t
 
 -- what it finds is the report on the rows
 abbrev pub IsFinding : State → AdoptFault → Type 0

@@ -9,7 +9,7 @@ ghost use Rattle.desk_model.specs.Tables.{Tables, tables};
 ghost use Rattle.desk_access.specs.Seen.{Looked, OfRows, Same};
 ghost use Rattle.desk_core.specs.Desks.{InHistory};
 ghost use Rattle.desk_sql_layout.specs.Held.{Holds, Stands, known_of, seen_of};
-ghost use Rattle.desk_sql_layout.specs.Layout.{no_schema};
+ghost use Rattle.desk_sql_layout.specs.Layout.{desk_schema, no_schema};
 ghost use Rattle.desk_tally.specs.Kept.{AreKept};
 ghost use Rattle.desk_texts.specs.Right.{AreRight};
 ghost use Rattle.desk_sql_write.specs.Creating.{has_meta};
@@ -20,8 +20,9 @@ ghost use Rattle.desk_sql_adopt.specs.Reading.{HasStayed};
 ghost use Rattle.desk_sql_adopt.specs.Older.{IsOlderContent};
 ghost use Rattle.desk_sql_adopt.specs.Version.{IsContent};
 ghost use Rattle.desk_sql_adopt.specs.declared.older.OlderVersion.{OlderVersion as Version};
+ghost use Rattle.desk_sql_scan.specs.Scans.{AreTables};
 ghost use Rattle.desk_sql_migrate.specs.Migrating.{InOlderHistory, IsFault as IsMigrateFault, IsLeft as IsMigrateLeft, IsReason as IsMigrateReason, LeavesSome, Migrated};
-ghost use Rattle.desk_store.specs.Adopting.{HasForms, IsEmpty, IsFault, IsLeft, IsReason, StandsEmpty, creation_of};
+ghost use Rattle.desk_store.specs.Adopting.{HasForms, HoldsSome, IsEmpty, IsFault, IsLeft, IsReason, StandsEmpty, creation_of};
 ghost use Rattle.desk_store.specs.Auditing.{IsAudit, IsSoundDesk};
 ghost use Rattle.desk_store.specs.Causes.{AdoptFailsFor, MissesIf};
 ghost use Rattle.desk_store.specs.Counting.{known_by};
@@ -147,6 +148,8 @@ impl<S: Alter> SqlDesk<S> {
     ///
     /// The tables of a recorded history are sound, so for them the only error is a fault. Whatever
     /// sound rows the connection shows are the desk's rows, so a refusal or a fault leaves them.
+    /// There are tables with these rows, even if no command made them, provided that the rows of
+    /// each table are in the order of their rowids, in which the library keeps them.
     pub fn adopt_connection(
         alloc: Global,
         conn: Connection<S>,
@@ -166,6 +169,10 @@ impl<S: Alter> SqlDesk<S> {
             → IsContent (state S.Store conn) Content.Desk) }
         ensures passed { IfOk result (λ desk. HasCleanDisk (state S.Store desk.desk.store.conn)
             → IsTrue (state S.Store conn).is_open → IsSoundDesk (state S.Store conn)) }
+        ensures some { IfOk result (λ desk. HasCleanDisk (state S.Store desk.desk.store.conn)
+            → IsTrue (state S.Store conn).is_open
+            → AreTables desk_schema (state S.Store conn).now.trees
+            → HoldsSome (state S.Store conn) (⟦<SqlDesk<S> as Desk>⟧.seen desk)) }
         ensures reason { IfErr result (λ e. HasCleanDisk (state S.Store e.1)
             → IsReason (state S.Store conn) e.0) }
         ensures stayed { IfOk result (λ desk. HasStayed (state S.Store conn)
@@ -175,7 +182,12 @@ impl<S: Alter> SqlDesk<S> {
             AdoptFailsFor (state S.Store conn) (state S.Store e.1) e.0) }
         ensures idle { IfErr result (λ e. e.1.in_transaction ≡ false) }
     {
+        desk_beside::laws::sound_rows_are_tables();
+        desk_history_laws::right_readings_list_ids();
         let mut conn = conn;
+        // The contracts of these two say that a sound database is shown, and that it is committed.
+        let _settled = conn.is_autocommit();
+        let _schema = conn.schema();
         match examine_desk(alloc, &mut conn) {
             Ok(kept) => Ok(SqlDesk::over(alloc, conn, kept)),
             Err(fault) => Err((fault, conn)),
