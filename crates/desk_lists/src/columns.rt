@@ -16,13 +16,19 @@ fn widths_of(alloc: Global, cells: &[Text]) -> Result<Vec<usize>, AllocError>
 {
     let mut widths = Vec::new(alloc);
     for cell in cells {
-        widths.push(width(cell.as_str()))?;
+        let wide = width(alloc, cell.as_str())?;
+        widths.push(wide)?;
     }
     Ok(widths)
 }
 
 // Adds the widths of columns, widened for these cells.
-fn add_widened(found: &mut Vec<usize>, widths: &[usize], cells: &[Text]) -> Result<(), AllocError>
+fn add_widened(
+    alloc: Global,
+    found: &mut Vec<usize>,
+    widths: &[usize],
+    cells: &[Text],
+) -> Result<(), AllocError>
     ensures { OnOk result (found.new.items ≡ found.old.items ++ widened widths.now cells.now) }
 {
     match widths {
@@ -30,8 +36,9 @@ fn add_widened(found: &mut Vec<usize>, widths: &[usize], cells: &[Text]) -> Resu
         [known, widths @ ..] => match cells {
             [] => Ok(()),
             [cell, cells @ ..] => {
-                found.push((*known).max(width(cell.as_str())))?;
-                add_widened(found, widths, cells)
+                let wide = width(alloc, cell.as_str())?;
+                found.push((*known).max(wide))?;
+                add_widened(alloc, found, widths, cells)
             }
         },
     }
@@ -42,7 +49,7 @@ fn widen(alloc: Global, widths: &[usize], cells: &[Text]) -> Result<Vec<usize>, 
     ensures { IfOk result (λ found. found.items ≡ widened widths.now cells.now) }
 {
     let mut found = Vec::new(alloc);
-    add_widened(&mut found, widths, cells)?;
+    add_widened(alloc, &mut found, widths, cells)?;
     Ok(found)
 }
 
@@ -90,7 +97,12 @@ fn add_end(text: &mut Vec<u8>, cells: &[Text]) -> Result<(), AllocError>
 }
 
 // Adds a row.
-fn add_row(text: &mut Vec<u8>, widths: &[usize], cells: &[Text]) -> Result<(), AllocError>
+fn add_row(
+    alloc: Global,
+    text: &mut Vec<u8>,
+    widths: &[usize],
+    cells: &[Text],
+) -> Result<(), AllocError>
     ensures { OnOk result (text.new.items ≡ text.old.items ++ row_line widths.now cells.now) }
 {
     match widths {
@@ -98,8 +110,8 @@ fn add_row(text: &mut Vec<u8>, widths: &[usize], cells: &[Text]) -> Result<(), A
         [wide, widths @ ..] => match cells {
             [] => text.extend_from_slice(b"\n"),
             [cell, cells @ ..] => {
-                add_filled(text, *wide, cell.as_str())?;
-                add_row(text, widths, cells)
+                add_filled(alloc, text, *wide, cell.as_str())?;
+                add_row(alloc, text, widths, cells)
             }
         },
     }
@@ -114,7 +126,7 @@ pub(crate) fn columns_text(alloc: Global, rows: &[Items<Text>]) -> Result<Vec<u8
     let widths = widths(alloc, rows)?;
     let mut text = Vec::new(alloc);
     for row in rows {
-        add_row(&mut text, widths.as_slice(), row.as_slice())?;
+        add_row(alloc, &mut text, widths.as_slice(), row.as_slice())?;
     }
     Ok(text)
 }

@@ -7,9 +7,9 @@ use Rattle.unicode_width.specs.Width.{str_width}
 use Rattle.desk_model.specs.Names.{duty_state_name}
 use Rattle.desk_model.specs.declared.command.DutyLine.{DutyLine}
 
--- how many columns of a terminal a text takes
+-- how many columns a text takes as a terminal shows it
 abbrev pub width : List ℕ → ℕ
-width text = str_width false (chars text)
+width text = str_width false (chars (shown text))
 
 -- the names of the columns before the last
 abbrev pub front_names : List (List ℕ)

@@ -2,3 +2,4 @@ pub mod Columns
 pub mod CsvTable
 pub mod Lines
 pub mod Notices
+pub mod Terminal

@@ -1,10 +1,13 @@
 //! The table of a release's duties in columns.
 
 ghost use Rattle.std.specs.Prelude.{◌≡◌, ◌++◌, ◌∷◌, decimal, map, replicate, IfOk, OnOk};
+ghost use Rattle.std.specs.Char.{encode_utf8};
+ghost use Rattle.std.specs.String.{string_bytes};
+ghost use Rattle.desk_base.specs.Terminal.{shown, shown_char};
 ghost use Rattle.desk_report.specs.Columns.{width, front_names, front_cells, widened, widths, filled, front_text, row_line, duty_row, columns_text};
 
 use crate::table::day_cell;
-use desk_base::add_shown;
+use desk_base::{add_shown, is_bidirectional};
 use desk_model::DutyLine;
 use std::alloc::{AllocError, Global};
 use unicode_width::UnicodeWidthStr;
@@ -17,11 +20,34 @@ const FRONT_NAMES: [&str; 7] = [
     "number", "document", "package", "term", "rule", "code", "state",
 ];
 
-/// How many columns of a terminal a text takes.
-pub fn width(text: &str) -> usize
-    ensures { result ≡ width text.now }
+// A question mark for a character that isn't shown on a terminal.
+fn shown_char(ch: char) -> char
+    ensures { encode_utf8 result ≡ shown_char ch }
 {
-    text.width()
+    if ch.is_control() || is_bidirectional(ch) {
+        '?'
+    } else {
+        ch
+    }
+}
+
+// A text as a terminal shows it.
+fn shown_text(alloc: Global, text: &str) -> Result<String, AllocError>
+    ensures { IfOk result (λ found. string_bytes found ≡ shown text.now) }
+{
+    let mut found = String::new(alloc);
+    for ch in text.chars() {
+        found.push(shown_char(ch))?;
+    }
+    Ok(found)
+}
+
+/// How many columns a text takes as a terminal shows it.
+pub fn width(alloc: Global, text: &str) -> Result<usize, AllocError>
+    ensures { IfOk result (λ wide. wide ≡ width text.now) }
+{
+    let shown = shown_text(alloc, text)?;
+    Ok(shown.as_str().width())
 }
 
 // The cells of a duty before the last column; its numbers are written already.
@@ -47,13 +73,19 @@ fn widths_of(alloc: Global, texts: &[&str]) -> Result<Vec<usize>, AllocError>
 {
     let mut widths = Vec::new(alloc);
     for text in texts {
-        widths.push(width(*text))?;
+        let wide = width(alloc, *text)?;
+        widths.push(wide)?;
     }
     Ok(widths)
 }
 
 // Adds the widths of columns, widened for these cells.
-fn add_widened(found: &mut Vec<usize>, widths: &[usize], cells: &[&str]) -> Result<(), AllocError>
+fn add_widened(
+    alloc: Global,
+    found: &mut Vec<usize>,
+    widths: &[usize],
+    cells: &[&str],
+) -> Result<(), AllocError>
     ensures { OnOk result (found.new.items
         ≡ found.old.items ++ widened widths.now (map (λ cell. cell.now) cells.now)) }
 {
@@ -62,8 +94,9 @@ fn add_widened(found: &mut Vec<usize>, widths: &[usize], cells: &[&str]) -> Resu
         [known, widths @ ..] => match cells {
             [] => Ok(()),
             [cell, cells @ ..] => {
-                found.push((*known).max(width(*cell)))?;
-                add_widened(found, widths, cells)
+                let wide = width(alloc, *cell)?;
+                found.push((*known).max(wide))?;
+                add_widened(alloc, found, widths, cells)
             }
         },
     }
@@ -79,7 +112,7 @@ fn widen(alloc: Global, widths: &[usize], line: &DutyLine) -> Result<Vec<usize>,
     let document = format!(in alloc; "{document}")?;
     let cells = front_cells(number.as_str(), document.as_str(), line);
     let mut found = Vec::new(alloc);
-    add_widened(&mut found, widths, &cells)?;
+    add_widened(alloc, &mut found, widths, &cells)?;
     Ok(found)
 }
 
@@ -105,16 +138,27 @@ fn add_blanks(text: &mut Vec<u8>, count: usize) -> Result<(), AllocError>
 }
 
 /// Adds a cell padded to the width of its column, and two blanks.
-pub fn add_filled(text: &mut Vec<u8>, wide: usize, cell: &str) -> Result<(), AllocError>
+pub fn add_filled(
+    alloc: Global,
+    text: &mut Vec<u8>,
+    wide: usize,
+    cell: &str,
+) -> Result<(), AllocError>
     ensures { OnOk result (text.new.items ≡ text.old.items ++ filled wide cell.now) }
 {
+    let taken = width(alloc, cell)?;
     add_shown(text, cell)?;
-    add_blanks(text, wide.saturating_sub(width(cell)))?;
+    add_blanks(text, wide.saturating_sub(taken))?;
     add_blanks(text, GAP)
 }
 
 // Adds cells, each padded to the width of its column.
-fn add_front(text: &mut Vec<u8>, widths: &[usize], cells: &[&str]) -> Result<(), AllocError>
+fn add_front(
+    alloc: Global,
+    text: &mut Vec<u8>,
+    widths: &[usize],
+    cells: &[&str],
+) -> Result<(), AllocError>
     ensures { OnOk result (text.new.items
         ≡ text.old.items ++ front_text widths.now (map (λ cell. cell.now) cells.now)) }
 {
@@ -123,8 +167,8 @@ fn add_front(text: &mut Vec<u8>, widths: &[usize], cells: &[&str]) -> Result<(),
         [wide, widths @ ..] => match cells {
             [] => Ok(()),
             [cell, cells @ ..] => {
-                add_filled(text, *wide, *cell)?;
-                add_front(text, widths, cells)
+                add_filled(alloc, text, *wide, *cell)?;
+                add_front(alloc, text, widths, cells)
             }
         },
     }
@@ -132,6 +176,7 @@ fn add_front(text: &mut Vec<u8>, widths: &[usize], cells: &[&str]) -> Result<(),
 
 // Adds a row.
 fn add_row(
+    alloc: Global,
     text: &mut Vec<u8>,
     widths: &[usize],
     cells: &[&str],
@@ -140,7 +185,7 @@ fn add_row(
     ensures { OnOk result (text.new.items
         ≡ text.old.items ++ row_line widths.now (map (λ cell. cell.now) cells.now) last.now) }
 {
-    add_front(text, widths, cells)?;
+    add_front(alloc, text, widths, cells)?;
     text.extend_from_slice(last)?;
     text.extend_from_slice(b"\n")
 }
@@ -159,7 +204,7 @@ fn add_duty(
     let document = line.document;
     let document = format!(in alloc; "{document}")?;
     let cells = front_cells(number.as_str(), document.as_str(), line);
-    add_row(text, widths, &cells, day_cell(&line.day))
+    add_row(alloc, text, widths, &cells, day_cell(&line.day))
 }
 
 /// The table of duties as a terminal shows it: the names of the columns, as in `duties_csv`, and a
@@ -171,7 +216,7 @@ pub fn duties_columns(alloc: Global, lines: &[DutyLine]) -> Result<Vec<u8>, Allo
 {
     let widths = widths(alloc, lines)?;
     let mut text = Vec::new(alloc);
-    add_row(&mut text, widths.as_slice(), &FRONT_NAMES, b"since")?;
+    add_row(alloc, &mut text, widths.as_slice(), &FRONT_NAMES, b"since")?;
     for line in lines {
         add_duty(alloc, &mut text, widths.as_slice(), line)?;
     }

@@ -8,6 +8,8 @@
 //! - `add_filled` and `add_record` add cells and records to tables of other rows.
 //! - `totals_text` counts the duties in each state, in one line, and `changes_text` has a line for
 //!   each change of a duty (`specs/Lines.antt`).
+//! - `lines_shown` is a text of several lines as a terminal shows it, and `notices_shown` are the
+//!   notices so (`specs/Terminal.antt`).
 //!
 //! The only error is that no memory is left.
 #![tactic(auto)]
@@ -16,10 +18,12 @@ mod changes;
 mod columns;
 mod notice;
 mod table;
+mod terminal;
 mod totals;
 
 pub use changes::changes_text;
 pub use columns::{add_filled, duties_columns, width};
-pub use notice::notices;
+pub use notice::{notices, notices_shown};
 pub use table::{add_record, duties_csv};
+pub use terminal::lines_shown;
 pub use totals::totals_text;

@@ -2,84 +2,82 @@
 
 ghost use Rattle.std.specs.Prelude.{◌≡◌, ◌++◌, [], IfOk, OnOk};
 ghost use Rattle.std.specs.List.{flat_map};
+ghost use Rattle.std.specs.String.{string_bytes};
+ghost use Rattle.desk_report.specs.Terminal.{lines_shown};
 ghost use Rattle.desk_report.specs.Notices.{framed, heading, name_line, rule_line, copyright_line, package_notice, ended, body_text, text_notice, notices_text};
 
+use crate::terminal::lines_shown;
 use desk_base::Text;
 use desk_model::{Bill, BillLine, BillText};
 use std::alloc::{AllocError, Global};
 
 // Adds a value between words.
 #[tactic(auto, unfolding(crate::specs::Notices::framed))]
-fn add_framed(
-    text: &mut Vec<u8>,
-    before: &[u8],
-    value: &Text,
-    after: &[u8],
-) -> Result<(), AllocError>
-    ensures { OnOk result (text.new.items
-        ≡ text.old.items ++ framed before.now value.now after.now) }
+fn add_framed(text: &mut String, before: &str, value: &Text, after: &str) -> Result<(), AllocError>
+    ensures { OnOk result (string_bytes text.new
+        ≡ string_bytes text.old ++ framed before.now value.now after.now) }
 {
-    text.extend_from_slice(before)?;
-    text.extend_from_slice(value.as_str().as_bytes())?;
-    text.extend_from_slice(after)
+    text.push_str(before)?;
+    text.push_str(value.as_str())?;
+    text.push_str(after)
 }
 
 // Adds the line of the release and the form in which it ships.
-fn add_heading(text: &mut Vec<u8>, bill: &Bill) -> Result<(), AllocError>
-    ensures { OnOk result (text.new.items ≡ text.old.items ++ heading bill.now) }
+fn add_heading(text: &mut String, bill: &Bill) -> Result<(), AllocError>
+    ensures { OnOk result (string_bytes text.new ≡ string_bytes text.old ++ heading bill.now) }
 {
-    add_framed(text, b"Notices for ", &bill.release, b" ")?;
-    add_framed(text, b"(", &bill.form, b")\n")
+    add_framed(text, "Notices for ", &bill.release, " ")?;
+    add_framed(text, "(", &bill.form, ")\n")
 }
 
 // Adds the line of a package's name and version.
 #[tactic(auto, unfolding(crate::specs::Notices::name_line))]
-fn add_name(text: &mut Vec<u8>, line: &BillLine) -> Result<(), AllocError>
-    ensures { OnOk result (text.new.items ≡ text.old.items ++ name_line line.now) }
+fn add_name(text: &mut String, line: &BillLine) -> Result<(), AllocError>
+    ensures { OnOk result (string_bytes text.new ≡ string_bytes text.old ++ name_line line.now) }
 {
-    text.extend_from_slice(line.name.as_str().as_bytes())?;
+    text.push_str(line.name.as_str())?;
     if let Some(version) = &line.version {
-        text.push(b' ')?;
-        text.extend_from_slice(version.as_str().as_bytes())?;
+        text.push_str(" ")?;
+        text.push_str(version.as_str())?;
     }
-    text.extend_from_slice(b"\n")
+    text.push_str("\n")
 }
 
 // Adds a line for each rule.
-fn add_rules(text: &mut Vec<u8>, rules: &[Text]) -> Result<(), AllocError>
-    ensures { OnOk result (text.new.items ≡ text.old.items ++ flat_map rule_line rules.now) }
+fn add_rules(text: &mut String, rules: &[Text]) -> Result<(), AllocError>
+    ensures { OnOk result (string_bytes text.new ≡ string_bytes text.old ++ flat_map rule_line rules.now) }
 {
     for rule in rules {
-        add_framed(text, b"Licence: ", rule, b"\n")?;
+        add_framed(text, "Licence: ", rule, "\n")?;
     }
     Ok(())
 }
 
 // Adds the line of a package's copyright.
 #[tactic(auto, unfolding(crate::specs::Notices::copyright_line, crate::specs::Notices::framed))]
-fn add_copyright(text: &mut Vec<u8>, copyright: &Option<Text>) -> Result<(), AllocError>
-    ensures { OnOk result (text.new.items ≡ text.old.items ++ copyright_line copyright.now) }
+fn add_copyright(text: &mut String, copyright: &Option<Text>) -> Result<(), AllocError>
+    ensures { OnOk result (string_bytes text.new ≡ string_bytes text.old ++ copyright_line copyright.now) }
 {
     match copyright {
-        Some(given) => add_framed(text, b"Copyright: ", given, b"\n"),
-        None => text.extend_from_slice(b"Copyright: none given\n"),
+        Some(given) => add_framed(text, "Copyright: ", given, "\n"),
+        None => text.push_str("Copyright: none given\n"),
     }
 }
 
 // Adds the notice of a package.
 #[tactic(auto, unfolding(crate::specs::Notices::package_notice))]
-fn add_package(text: &mut Vec<u8>, line: &BillLine) -> Result<(), AllocError>
-    ensures { OnOk result (text.new.items ≡ text.old.items ++ package_notice line.now) }
+fn add_package(text: &mut String, line: &BillLine) -> Result<(), AllocError>
+    ensures { OnOk result (string_bytes text.new ≡ string_bytes text.old ++ package_notice line.now) }
 {
-    text.push(b'\n')?;
+    text.push_str("\n")?;
     add_name(text, line)?;
     add_rules(text, line.rules.as_slice())?;
     add_copyright(text, &line.copyright)
 }
 
 // Adds the notice of each package.
-fn add_packages(text: &mut Vec<u8>, lines: &[BillLine]) -> Result<(), AllocError>
-    ensures { OnOk result (text.new.items ≡ text.old.items ++ flat_map package_notice lines.now) }
+fn add_packages(text: &mut String, lines: &[BillLine]) -> Result<(), AllocError>
+    ensures { OnOk result (string_bytes text.new ≡ string_bytes text.old ++ flat_map package_notice lines.now) }
 {
     for line in lines {
         add_package(text, line)?;
@@ -88,38 +86,38 @@ fn add_packages(text: &mut Vec<u8>, lines: &[BillLine]) -> Result<(), AllocError
 }
 
 // Adds a body, and a line feed if it does not end with one.
-fn add_ended(text: &mut Vec<u8>, body: &[u8]) -> Result<(), AllocError>
-    ensures { OnOk result (text.new.items ≡ text.old.items ++ ended body.now) }
+fn add_ended(text: &mut String, body: &str) -> Result<(), AllocError>
+    ensures { OnOk result (string_bytes text.new ≡ string_bytes text.old ++ ended body.now) }
 {
-    text.extend_from_slice(body)?;
-    if body.ends_with(b"\n") {
+    text.push_str(body)?;
+    if body.as_bytes().ends_with(b"\n") {
         Ok(())
     } else {
-        text.extend_from_slice(b"\n")
+        text.push_str("\n")
     }
 }
 
 // Adds the body of a text, if one is recorded.
-fn add_body(text: &mut Vec<u8>, body: &Option<Text>) -> Result<(), AllocError>
-    ensures { OnOk result (text.new.items ≡ text.old.items ++ body_text body.now) }
+fn add_body(text: &mut String, body: &Option<Text>) -> Result<(), AllocError>
+    ensures { OnOk result (string_bytes text.new ≡ string_bytes text.old ++ body_text body.now) }
 {
     match body {
-        Some(body) => add_ended(text, body.as_str().as_bytes()),
-        None => text.extend_from_slice(b"No text recorded.\n"),
+        Some(body) => add_ended(text, body.as_str()),
+        None => text.push_str("No text recorded.\n"),
     }
 }
 
 // Adds a text after its title.
-fn add_text(text: &mut Vec<u8>, given: &BillText) -> Result<(), AllocError>
-    ensures { OnOk result (text.new.items ≡ text.old.items ++ text_notice given.now) }
+fn add_text(text: &mut String, given: &BillText) -> Result<(), AllocError>
+    ensures { OnOk result (string_bytes text.new ≡ string_bytes text.old ++ text_notice given.now) }
 {
-    add_framed(text, b"\n---- ", &given.title, b" ----\n")?;
+    add_framed(text, "\n---- ", &given.title, " ----\n")?;
     add_body(text, &given.body)
 }
 
 // Adds each text.
-fn add_texts(text: &mut Vec<u8>, texts: &[BillText]) -> Result<(), AllocError>
-    ensures { OnOk result (text.new.items ≡ text.old.items ++ flat_map text_notice texts.now) }
+fn add_texts(text: &mut String, texts: &[BillText]) -> Result<(), AllocError>
+    ensures { OnOk result (string_bytes text.new ≡ string_bytes text.old ++ flat_map text_notice texts.now) }
 {
     for given in texts {
         add_text(text, given)?;
@@ -166,12 +164,22 @@ fn texts_room(texts: &[BillText]) -> usize {
 }
 
 // An empty text with room for about all that a bill needs, so that it is seldom moved as it grows.
-fn with_room(alloc: Global, bill: &Bill) -> Result<Vec<u8>, AllocError>
-    ensures { IfOk result (λ text. text.items ≡ []) }
+fn with_room(alloc: Global, bill: &Bill) -> Result<String, AllocError>
+    ensures { IfOk result (λ text. string_bytes text ≡ []) }
 {
     let packages = packages_room(bill.lines.as_slice());
     let texts = texts_room(bill.texts.as_slice());
-    Vec::with_capacity(alloc, packages.saturating_add(texts))
+    String::with_capacity(alloc, packages.saturating_add(texts))
+}
+
+fn notices_of(alloc: Global, bill: &Bill) -> Result<String, AllocError>
+    ensures { IfOk result (λ text. string_bytes text ≡ notices_text bill.now) }
+{
+    let mut text = with_room(alloc, bill)?;
+    add_heading(&mut text, bill)?;
+    add_packages(&mut text, bill.lines.as_slice())?;
+    add_texts(&mut text, bill.texts.as_slice())?;
+    Ok(text)
 }
 
 /// The notices of a frozen release. `Notices for RELEASE (FORM)`; then for each package, after an
@@ -182,9 +190,13 @@ fn with_room(alloc: Global, bill: &Bill) -> Result<Vec<u8>, AllocError>
 pub fn notices(alloc: Global, bill: &Bill) -> Result<Vec<u8>, AllocError>
     ensures { IfOk result (λ text. text.items ≡ notices_text bill.now) }
 {
-    let mut text = with_room(alloc, bill)?;
-    add_heading(&mut text, bill)?;
-    add_packages(&mut text, bill.lines.as_slice())?;
-    add_texts(&mut text, bill.texts.as_slice())?;
-    Ok(text)
+    Ok(notices_of(alloc, bill)?.into_bytes())
+}
+
+/// The same as a terminal shows it, line by line.
+pub fn notices_shown(alloc: Global, bill: &Bill) -> Result<Vec<u8>, AllocError>
+    ensures { IfOk result (λ text. text.items ≡ lines_shown (notices_text bill.now)) }
+{
+    let text = notices_of(alloc, bill)?;
+    lines_shown(alloc, text.as_str())
 }
