@@ -2,17 +2,24 @@
 """Edits that turn a meaning, each of which the prover must refuse: those that the gate tries (`crates/NAME/must-fail`) and the others
 (`tests/edits/NAME`).
 
-    tests/edits.py [CRATE ..]   tries all edits of the crates and writes the record of each whose edits were all refused
+    tests/edits.py [CRATE ..]   tries the edits that no record has as refused yet, of these crates or of all, the lowest first, of as many crates
+                                at a time as RT_JOBS says
     tests/edits.py --texts      sees that each edit still has its place: each text that it replaces is there just once
-    tests/edits.py --records    sees that each recorded crate is, word by word, what its edits were tried on
+    tests/edits.py --records    sees that each crate has a record of its edits, or is still owed one
 
-A record (a line of `tests/edits/records`) has the crate, the number of its edits, a sum over its own files and its edits, and one over the
-files of the crates below it. It says: all these edits were refused by the prover for a contract's sake. Where the crate's own sum is
-another one, that says nothing any more, and the edits are to be tried again. Where only the crates below changed, the crate is listed: a
-contract there may have become weaker.
+A record, `tests/edits/NAME/record`, has a sum over the crate's own files, one over those of the crates below it, and a line for each edit: its
+name, a sum over it, and what the prover said. It is written as the edits are tried, so a run that was stopped is taken up where it was. Where
+the crate's own files have another sum, its lines say nothing any more. Where only the crates below changed, the crate is listed: a contract
+there may have become weaker. Its edits are tried again if it is named.
 
-An edit counts as tried only where the prover refused a goal. One that the types or the borrow checker stopped, or that only took away a
-name which a proof cites, says nothing of a contract, and is told as such."""
+`tests/edits/owed` lists the crates that no record has yet as tried whole. It only shrinks: a crate that isn't on it must have a record that is
+whole and of its files as they are, and one on it must not.
+
+An edit counts as tried only where the prover refused a goal. One that the types or the borrow checker stopped, that a limit of the prover
+stopped, or that only took away a name which a proof cites, says nothing of a contract, and is told as such.
+
+Edits that each change the body of one function are first tried many in one check (`together.py` says why that comes to the same). What such a
+check doesn't settle is tried alone, by `rt must-fail`."""
 import hashlib
 import os
 import re
@@ -20,10 +27,27 @@ import shutil
 import subprocess
 import sys
 import tempfile
+import threading
+from concurrent.futures import ThreadPoolExecutor
+
+sys.dont_write_bytecode = True
+
+import together
 
 TOP = os.path.dirname(os.path.dirname(os.path.abspath(__file__)))
-RECORDS = os.path.join(TOP, "tests/edits/records")
+EDITS = os.path.join(TOP, "tests/edits")
+OWED = os.path.join(EDITS, "owed")
 PARTS = ("src", "specs", "proofs")
+# So many edits are tried alone by a run of `rt must-fail`, which tells of them at its end.
+BATCH = 12
+SAID = 140
+# So many crates are tried at a time.
+JOBS = max(1, int(os.environ.get("RT_JOBS") or 1))
+# What `rt must-fail` takes for refused too, and says nothing of a contract.
+UNTRIED = {
+    "refused, as it must be (only because a proof file names": "it only takes away a name that a proof cites",
+    "refused, as it must be (only by a limit of the prover": "only a limit of the prover stopped it",
+}
 
 
 def crates():
@@ -45,9 +69,14 @@ def below(stands, name):
 
 
 def edits(name):
-    folders = [os.path.join(TOP, "crates", name, "must-fail"), os.path.join(TOP, "tests/edits", name)]
+    """The edits of a crate, by name."""
+    folders = [os.path.join(TOP, "crates", name, "must-fail"), os.path.join(EDITS, name)]
     paths = [os.path.join(folder, it) for folder in folders if os.path.isdir(folder) for it in os.listdir(folder)]
     return sorted((it for it in paths if it.endswith(".edit")), key=os.path.basename)
+
+
+def label(path):
+    return os.path.basename(path).removesuffix(".edit")
 
 
 def files(name, parts=PARTS):
@@ -67,22 +96,73 @@ def sum_of(paths):
     return total.hexdigest()[:16]
 
 
-def record(stands, name):
-    own = sum_of(files(name) + edits(name))
+def sums(stands, name):
+    """The sum over a crate's own files, and that over what it may know of the crates below."""
     lower = sum_of([path for it in below(stands, name) for path in files(it, ("src", "specs"))])
-    return [name, str(len(edits(name))), own, lower]
+    return sum_of(files(name)), lower
 
 
-def records():
-    if not os.path.exists(RECORDS):
-        return {}
-    return {line.split()[0]: line.split() for line in open(RECORDS) if line.strip() and not line.startswith("#")}
+def sum_of_edit(path):
+    with open(path, "rb") as it:
+        return hashlib.sha256(it.read()).hexdigest()[:8]
 
 
-def write_records(kept):
-    with open(RECORDS, "w") as out:
-        out.write("# Crates whose edits were all refused: the crate, its edits, the sum over its files and edits, that over the crates below.\n")
-        out.writelines(" ".join(kept[name]) + "\n" for name in sorted(kept))
+class Record:
+    """What the prover said of a crate's edits: by their names, each with the sum over it."""
+
+    def __init__(self, name, own="", lower="", told=()):
+        self.name, self.own, self.lower, self.told = name, own, lower, dict(told)
+
+    @classmethod
+    def of(cls, name):
+        """The record of a crate, which is empty if there is none."""
+        try:
+            with open(cls(name).path()) as it:
+                lines = [line.rstrip("\n") for line in it if not line.startswith("#")]
+        except FileNotFoundError:
+            return cls(name)
+        (_, own), (_, lower), *told = (line.split(" ", 2) for line in lines)
+        return cls(name, own, lower, ((edit, (mark, words)) for edit, mark, words in told))
+
+    def path(self):
+        return os.path.join(EDITS, self.name, "record")
+
+    def write(self):
+        os.makedirs(os.path.dirname(self.path()), exist_ok=True)
+        with open(self.path(), "w") as out:
+            out.write(f"# What the prover said of each edit of {self.name}.\nfiles {self.own}\nbelow {self.lower}\n")
+            out.writelines(f"{edit} {mark} {words}\n" for edit, (mark, words) in sorted(self.told.items()))
+
+    def is_refused(self, path):
+        """Whether this edit, as it is, was refused."""
+        mark, words = self.told.get(label(path), ("", ""))
+        return mark == sum_of_edit(path) and words.startswith("refused: ")
+
+    def lacks(self):
+        """What the record lacks of all edits of the crate as it is, or nothing."""
+        if not self.own:
+            return "has no record of its edits"
+        if self.own != sum_of(files(self.name)):
+            return "is no longer what its edits were tried on"
+        strays = set(self.told) - set(map(label, edits(self.name)))
+        if strays:
+            return f"has a record of edits that are not there: {' '.join(sorted(strays))}"
+        left = [label(it) for it in edits(self.name) if not self.is_refused(it)]
+        return f"has edits that are not recorded as refused: {' '.join(left)}" if left else None
+
+
+def owed():
+    with open(OWED) as it:
+        return [line.strip() for line in it if line.strip() and not line.startswith("#")]
+
+
+def pay(name, turn=threading.Lock()):
+    """Takes a crate off the list of those that are owed a record."""
+    with turn:
+        with open(OWED) as it:
+            lines = it.readlines()
+        with open(OWED, "w") as out:
+            out.writelines(line for line in lines if line.strip() != name)
 
 
 def edited(name, edit):
@@ -94,111 +174,146 @@ def edited(name, edit):
         elif line.startswith("old: "):
             old = line[5:]
         elif line.startswith("new:"):
-            if path not in texts:
-                texts[path] = open(os.path.join(TOP, "crates", name, path)).read()
-            if texts[path].count(old) != 1:
-                return None, f"{path} has a text {texts[path].count(old)} times, not once: {old.strip()}"
-            texts[path] = texts[path].replace(old, line[4:].removeprefix(" "))
+            try:
+                text = texts.get(path) or open(os.path.join(TOP, "crates", name, path)).read()
+            except OSError as error:
+                return None, str(error)
+            if text.count(old) != 1:
+                return None, f"{path} has a text {text.count(old)} times, not once: {old.strip()}"
+            texts[path] = text.replace(old, line[4:].removeprefix(" "))
     return (texts, None) if texts else (None, "it changes nothing")
 
 
+def misplaced(name):
+    """The edits of a crate that have no place, each with why."""
+    names = [label(it) for it in edits(name)]
+    for edit in edits(name):
+        why = "another edit has its name" if names.count(label(edit)) > 1 else edited(name, edit)[1]
+        if why:
+            yield edit, why
+
+
 def see_texts():
-    bad = 0
-    tried = 0
-    for name in sorted(crates()):
-        for edit in edits(name):
-            tried += 1
-            try:
-                _, why = edited(name, edit)
-            except OSError as error:
-                why = str(error)
-            if why:
-                bad += 1
-                print(f"{os.path.relpath(edit, TOP)}: {why}")
-    strays = set(os.listdir(os.path.join(TOP, "tests/edits"))) - set(crates()) - {"records"}
-    for stray in sorted(strays):
-        bad += 1
-        print(f"tests/edits/{stray}: there is no such crate")
-    print(f"{tried - bad} edits have their place, {bad} have not.")
-    return bad
+    stands = crates()
+    bad = [(os.path.relpath(edit, TOP), why) for name in sorted(stands) for edit, why in misplaced(name)]
+    placed = sum(len(edits(name)) for name in stands) - len(bad)
+    bad += [(f"tests/edits/{stray}", "there is no such crate") for stray in sorted(set(os.listdir(EDITS)) - set(stands) - {"owed"})]
+    for what, why in bad:
+        print(f"{what}: {why}")
+    print(f"{placed} edits have their place, {len(bad)} have not.")
+    return len(bad)
 
 
 def see_records():
-    stands, kept = crates(), records()
-    stale = [name for name in sorted(kept) if name not in stands or record(stands, name)[:3] != kept[name][:3]]
-    lower = [name for name in sorted(kept) if name not in stale and record(stands, name) != kept[name]]
-    bare = [name for name in sorted(stands) if name not in kept and edits(name)]
-    print(f"The edits of {len(kept) - len(stale)} crates are recorded as refused: {sum(int(kept[it][1]) for it in kept if it not in stale)} edits.")
+    stands, still = crates(), owed()
+    kept = {name: Record.of(name) for name in sorted(stands) if edits(name)}
+    lacking = {name: kept[name].lacks() for name in kept}
+    whole = [name for name in kept if not lacking[name]]
+    bad = [f"{name} {lacking[name]}: make edits CRATES={name}" for name in kept if name not in still and lacking[name]]
+    bad += [f"{name} has its record: take it off tests/edits/owed" for name in still if name in whole]
+    bad += [f"{name} has no edits: take it off tests/edits/owed" for name in still if name not in kept]
+    print(f"The edits of {len(whole)} crates are recorded as refused, {sum(len(edits(name)) for name in whole)} edits; records of {len(set(still))} are owed.")
+    lower = [name for name in whole if kept[name].lower != sums(stands, name)[1]]
     if lower:
         print(f"What they stand on has changed since for: {' '.join(lower)}")
-    if bare:
-        print(f"Not recorded yet (make edits CRATES=..): {' '.join(bare)}")
-    for name in stale:
-        print(f"{name} is no longer what its edits were tried on: make edits CRATES={name}")
-    return len(stale)
+    proved = [f"{name}/{edit}" for name in kept for edit, (_, words) in sorted(kept[name].told.items()) if words == "PROVED"]
+    for line in [f"The crate is still proved with {edit}." for edit in proved] + bad:
+        print(line)
+    return len(bad)
 
 
-def judged(told, status, texts):
-    """What a check said of an edit: refused by a goal, proved, or not tried for some reason."""
-    lines = told.rstrip("\n").split("\n")
-    if status == 0:
+def judged(words):
+    """What `rt must-fail` tells of an edit, as a record has it."""
+    if words.startswith("NOT REFUSED"):
         return "PROVED"
-    if not any(it.startswith("logic=not-proved") for it in lines):
-        first = next((it for it in lines if ": error" in it), lines[-1])
-        return f"not tried, it was stopped before the prover: {first[:160]}"
-    errors = [it for it in lines if re.match(r"(\./)?\S+:\d+:\d+: error", it)]
-    unread = r"(\./)?(src|specs)/.*(is not in scope|has no field|is no name|operand is missing|expected the end|cannot continue)"
-    names = r"(\./)?proofs/.*(has no field|is not in scope|has no `|was not admitted)"
-    if any(re.match(unread, it) for it in errors):
-        return f"not tried, it cannot be read: {next(it for it in errors if re.match(unread, it))[:160]}"
-    if errors and all(re.match(names, it) for it in errors):
-        return f"not tried, it only takes away a name that a proof cites: {errors[0][:160]}"
-    return "refused"
+    for start, why in UNTRIED.items():
+        if words.startswith(start):
+            return f"not tried: {why}"
+    refused = re.match(r"refused, as it must be: (?:note: )?(?:\./)?(\S+?):\d+:\d+: (?:error: )?(.*)", words)
+    kind, text = ("refused", f"{refused[1]}: {refused[2]}") if refused else ("not tried", words)
+    text = re.sub(r"; `search` gave up.*", "", text)
+    return f"{kind}: {text if len(text) <= SAID else text[:SAID].rpartition(' ')[0] + ' ..'}"
+
+
+def run(room, *words):
+    how = {"stdin": subprocess.DEVNULL, "stdout": subprocess.PIPE, "stderr": subprocess.STDOUT, "text": True, "errors": "replace"}
+    done = subprocess.run(["rt", *words], cwd=room, env={**os.environ, "RT_JOBS": "1"}, **how)
+    return done.stdout, done.returncode
 
 
 def copied(stands, name, room):
-    """The crate in a copy of the repository: with those below it, and with what was proved of them all."""
-    wanted = below(stands, name) + [name]
+    """The crate in a copy of the repository, with those below it. `rt` finds what was proved of them here."""
+    wanted = [*below(stands, name), name]
     shutil.copy(os.path.join(TOP, "HANDLES"), room)
     with open(os.path.join(TOP, "crates.txt")) as listed, open(os.path.join(room, "crates.txt"), "w") as out:
         out.writelines(line for line in listed if line.partition(":")[0].strip() in wanted)
     for it in wanted:
-        to = os.path.join(room, "crates", it)
-        os.makedirs(to)
-        for part in (*PARTS, "out"):
+        for part in PARTS:
             at = os.path.join(TOP, "crates", it, part)
             if os.path.isdir(at):
-                subprocess.check_call(["cp", "-a", at, to])
+                shutil.copytree(at, os.path.join(room, "crates", it, part))
     return os.path.join(room, "crates", name)
 
 
-def check(folder):
-    ran = subprocess.run(["rt", "check"], cwd=folder, stdin=subprocess.DEVNULL, stdout=subprocess.PIPE, stderr=subprocess.STDOUT, text=True)
-    return ran.stdout, ran.returncode
+def tried(room, name, batch):
+    """What the prover says of each of these edits, by their paths."""
+    folder = os.path.join(room, "crates", name, "must-fail")
+    shutil.rmtree(folder, ignore_errors=True)
+    os.makedirs(folder)
+    for edit in batch:
+        shutil.copy(edit, folder)
+    told, _ = run(room, "must-fail", name)
+    words = dict(re.findall(rf"^rt: must-fail {name}/(\S+)\.edit: (.*)$", told, flags=re.M))
+    return {edit: judged(words.get(label(edit), told.rstrip().rpartition("\n")[2])) for edit in batch}
 
 
-def tried(stands, name, room):
-    """Tries the edits of a crate, and tells whether each was refused."""
-    folder = copied(stands, name, room)
-    told, status = check(folder)
-    if status:
-        print(f"{name} itself is not proved:\n{told}")
-        return False
-    well = True
-    for edit in edits(name):
-        texts, why = edited(name, edit)
-        if why:
-            said = f"not tried: {why}"
-        else:
-            for path, text in texts.items():
-                with open(os.path.join(folder, path), "w") as out:
-                    out.write(text)
-            said = judged(*check(folder), texts)
-            for path in texts:
-                shutil.copy(os.path.join(TOP, "crates", name, path), os.path.join(folder, path))
-        well = well and said == "refused"
-        print(f"{name}/{os.path.basename(edit)}: {said}", flush=True)
-    return well
+def outcomes(room, crate, name, left):
+    """What the prover says of these edits of a crate that is proved, as it comes to be known."""
+    texts = {edit: it for edit in left for it in [edited(name, edit)[0]] if it}
+    alone = [edit for edit in left if edit not in texts]
+    for told in together.together(crate, name, texts):
+        alone += [edit for edit, line in told.items() if not line]
+        yield {edit: judged(f"refused, as it must be: {line[:160]}") for edit, line in told.items() if line}
+        texts = {edit: it for edit, it in texts.items() if edit not in told}
+    alone = sorted([*alone, *texts])
+    for at in range(0, len(alone), BATCH):
+        yield tried(room, name, alone[at : at + BATCH])
+
+
+def try_edits(stands, kept, left):
+    """Tries these edits of a crate, and writes its record as it goes."""
+    with tempfile.TemporaryDirectory() as room:
+        crate = copied(stands, kept.name, room)
+        told, status = run(crate, "check", "--jobs", "1")
+        if status:
+            print(f"{kept.name} itself is not proved:\n{told}")
+            return
+        for found in outcomes(room, crate, kept.name, left):
+            for edit, words in found.items():
+                kept.told[label(edit)] = sum_of_edit(edit), words
+                print(f"{kept.name}/{label(edit)}: {words}", flush=True)
+            if sum_of(files(kept.name)) != kept.own:
+                print(f"{kept.name} has changed meanwhile")
+                return
+            kept.write()
+
+
+def record(stands, name, is_named):
+    """Tries what the record of a crate lacks, and tells whether it is whole then."""
+    kept, (own, lower) = Record.of(name), sums(stands, name)
+    if kept.own != own or is_named and kept.lower != lower:
+        kept = Record(name, own, lower)
+    names = set(map(label, edits(name)))
+    kept.told = {edit: said for edit, said in kept.told.items() if edit in names}
+    left = [it for it in edits(name) if not kept.is_refused(it)]
+    if left:
+        try_edits(stands, kept, left)
+    elif edits(name):
+        kept.write()
+    is_whole = not Record.of(name).lacks()
+    if is_whole:
+        pay(name)
+    return is_whole
 
 
 def main(words):
@@ -206,18 +321,14 @@ def main(words):
         return 1 if see_texts() else 0
     if words == ["--records"]:
         return 1 if see_records() else 0
-    stands, bad = crates(), []
-    for name in words or [it for it in sorted(stands) if edits(it)]:
-        before = record(stands, name)
-        kept = records()
-        with tempfile.TemporaryDirectory() as room:
-            well = tried(stands, name, room)
-        if well and record(stands, name) == before:
-            kept[name] = before
-        else:
-            kept.pop(name, None)
-            bad.append(name)
-        write_records(kept)
+    stands = crates()
+    if set(words) - set(stands):
+        sys.exit(f"there is no such crate: {' '.join(sorted(set(words) - set(stands)))}")
+    names = words or sorted((it for it in stands if edits(it)), key=lambda it: (len(below(stands, it)), it))
+    names = [name for name in names if edits(name)]
+    with ThreadPoolExecutor(JOBS) as pool:
+        whole = pool.map(lambda name: record(stands, name, bool(words)), names)
+        bad = [name for name, is_whole in zip(names, whole) if not is_whole]
     if bad:
         print(f"Not all edits were refused of: {' '.join(bad)}")
     return 1 if bad else 0
