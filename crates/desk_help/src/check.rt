@@ -4,9 +4,9 @@ use crate::Help;
 
 /// The help of `check`.
 pub const CHECK: Help = Help {
-    about: "Tells whether a choice of licences is enough, and no more than that",
+    about: "Checks that a choice of licences satisfies an expression with no term to spare",
     long_about: "\
-Tells whether a choice of licences is enough, and no more than that
+Checks that a choice of licences satisfies an expression with no term to spare
 
 Reads a licence expression (SPDX 2.3, Annex D) and the terms that were chosen to satisfy it, and
 prints one line:

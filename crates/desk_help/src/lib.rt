@@ -18,6 +18,7 @@ mod propose;
 mod reports;
 mod script;
 mod serve;
+mod words;
 
 pub use alternatives::ALTERNATIVES;
 pub use audit::AUDIT;
@@ -35,6 +36,7 @@ pub use propose::PROPOSE;
 pub use reports::{CHANGES, DUTIES, NOTICES, PAGE, TOTALS};
 pub use script::SCRIPT;
 pub use serve::SERVE;
+pub use words::{ASK, DO};
 
 /// The help of a subcommand.
 #[derive(Clone, Copy)]

@@ -29,7 +29,7 @@ BadPath, TwicePath, BadToml, BadAnnotation, BadExpression, BlankAtEnd, Missing, 
 
 A tree that is clean here may still lack what `reuse lint` asks for, such as ids that the SPDX licence list
 has; docs/LINT.md has the differences. Links are not followed, and the folder .git at the root is not
-entered. Whatever else version control ignores has to be taken away before.
+entered. Remove anything else that version control ignores first.
 
 Examples:
   desk lint .

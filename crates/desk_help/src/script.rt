@@ -16,8 +16,8 @@ With --db FILE the desk is kept in the file, and the next script goes on with it
 not there, is empty, or is a database with no tables becomes an empty desk first. Without
 --db the desk is in memory, empty at first and gone at the end.
 
-With --explain, and wherever standard error is a terminal, each line that is not done is told there
-with its number and the reason in words, and at the end how many lines were done and how many not:
+With --explain, and wherever standard error is a terminal, each line that is not carried out is reported
+there, with its number and the reason, and at the end how many lines were carried out and how many not:
 
   line 3: no request: the key \"relase\" is not known here
   line 7: BadDocument: TooLarge, more than 4 MiB
@@ -31,7 +31,7 @@ Requests, with an example of each and its reply:
   load a catalogue of duties, as TOML
     > {\"do\":\"catalogue\",\"text\":\"forms = [\\\"binary\\\"]\"}
     < {\"revision\":1}
-  import an SPDX 2.3 document, as tag-value
+  import an SPDX document, as tag-value
     > {\"do\":\"import\",\"text\":\"SPDXVersion: SPDX-2.3\\n..\"}
     < {\"document\":1,\"new\":true}
   the same, of a document whose expressions may have and, or, with in small letters

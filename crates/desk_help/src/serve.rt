@@ -22,8 +22,8 @@ Any other that keeps no desk of this version is left as it is, and one line says
   fault: BadVersion  it keeps a desk of another version
   fault: Bad..       its tables aren't sound: desk audit --help has the names
 
-One program at a time has FILE open. While one does, and after it was stopped, the last changes stand in
-FILE-wal beside it: keep and copy both files together.
+One program at a time has FILE open. While it is open, or after it was killed, recent changes are in
+FILE-wal: keep and copy both files together.
 
 Examples:
   desk serve --db desk.db --port 8080 --limit 1000

@@ -60,6 +60,15 @@ abbrev pub script_in : List Row → Call
 script_in rows = Script (first_of (codes "FILE") rows) (is_true (first_of (codes "EXPLAIN") rows))
     (is_true (first_of (codes "STOP") rows))
 
+-- the calls of `do` and `ask` with these values
+abbrev pub do_in : List Row → Option Call
+do_in rows = option_and_then (λ database. option_map (λ words. File database (file.Do words))
+    (all_of (codes "WORD") rows)) (first_of (codes "FILE") rows)
+
+abbrev pub ask_in : List Row → Option Call
+ask_in rows = option_and_then (λ database. option_map (λ words. File database (file.Ask words))
+    (all_of (codes "WORD") rows)) (first_of (codes "FILE") rows)
+
 -- the call of `import` with these values
 abbrev pub import_in : List Row → Option Call
 import_in rows = option_and_then
@@ -231,6 +240,8 @@ kind_at name =
     if bytes_eq name (codes "check") then Some kind.Check
     else if bytes_eq name (codes "alternatives") then Some kind.Alternatives
     else if bytes_eq name (codes "script") then Some kind.Script
+    else if bytes_eq name (codes "do") then Some kind.Do
+    else if bytes_eq name (codes "ask") then Some kind.Ask
     else if bytes_eq name (codes "import") then Some kind.Import
     else if bytes_eq name (codes "catalogue") then Some kind.Catalogue
     else if bytes_eq name (codes "notices") then Some kind.Notices
@@ -256,6 +267,8 @@ abbrev pub call_by : Kind → List Row → Option Call
 call_by kind.Check rows = check_in rows
 call_by kind.Alternatives rows = alternatives_in rows
 call_by kind.Script rows = Some (script_in rows)
+call_by kind.Do rows = do_in rows
+call_by kind.Ask rows = ask_in rows
 call_by kind.Import rows = import_in rows
 call_by kind.Catalogue rows = catalogue_in rows
 call_by kind.Notices rows = notices_in rows

@@ -58,6 +58,10 @@ wanted name long = record (new_rule name) { long = Some long; required = true }
 abbrev pub database_option : Rule
 database_option = wanted (codes "FILE") (codes "db")
 
+-- `NAME --db FILE WORD..`, a request in words
+abbrev pub request_app : Text → App
+request_app name = with_rule (with_rule (new_app name) database_option) (words (codes "WORD"))
+
 -- `import --db FILE [--profile PROFILE] DOC`
 abbrev pub import_app : App
 import_app = with_rule (with_rule (with_rule (new_app (codes "import")) database_option)
@@ -128,9 +132,12 @@ abbrev pub judging_app : App
 judging_app = with_subcommand (with_subcommand desk_alone check_app.top) alternatives_app.top
 
 -- and with those that make requests of a desk
+abbrev pub scripting_app : App
+scripting_app = with_subcommand (with_subcommand (with_subcommand judging_app script_app.top)
+    (request_app (codes "do")).top) (request_app (codes "ask")).top
+
 abbrev pub requesting_app : App
-requesting_app = with_subcommand
-    (with_subcommand (with_subcommand judging_app script_app.top) import_app.top) catalogue_app.top
+requesting_app = with_subcommand (with_subcommand scripting_app import_app.top) catalogue_app.top
 
 -- and with those that write texts
 abbrev pub counting_app : App

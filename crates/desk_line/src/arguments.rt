@@ -95,12 +95,22 @@ pub(crate) const SCRIPT: [Argument; 3] = [
     argument!(
         "EXPLAIN",
         Form::Flag("explain"),
-        "Tells each line that is not done on standard error"
+        "Reports each line that is not carried out on standard error"
     ),
     argument!(
         "STOP",
         Form::Flag("stop"),
         "Ends with the first line that is not done"
+    ),
+];
+
+// For `do` and `ask`.
+pub(crate) const REQUEST: [Argument; 2] = [
+    DATABASE,
+    argument!(
+        "WORD",
+        Form::Words,
+        "The word of the request, then KEY=VALUE for each of its keys"
     ),
 ];
 
@@ -200,11 +210,7 @@ pub(crate) const LIST: [Argument; 6] = [
         Form::Optional("code"),
         "The code of the duties that are listed"
     ),
-    argument!(
-        "OPEN",
-        Form::Flag("open"),
-        "Lists the duties that are open alone"
-    ),
+    argument!("OPEN", Form::Flag("open"), "Lists only open duties"),
     argument!(
         "DAY",
         Form::Optional("past"),

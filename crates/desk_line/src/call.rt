@@ -69,6 +69,10 @@ pub enum FileCall {
     /// The import of the document at this path. The operators of its licence expressions are
     /// written by the profile.
     Import { document: Text, profile: Profile },
+    /// The command that words spell: its word, and an assignment for each of its keys.
+    Do { words: Items<Text> },
+    /// The question that words spell.
+    Ask { words: Items<Text> },
     /// The loading of the catalogue at this path.
     Catalogue { catalogue: Text },
     /// The notices of a release.

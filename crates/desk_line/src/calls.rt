@@ -6,7 +6,9 @@ ghost use Rattle.desk_line.specs.Calls.{call_in};
 ghost use Rattle.desk_line.specs.Unfound.{IsFound};
 
 use crate::call::Call;
-use crate::files::{audit_from, catalogue_from, import_from, migrate_from, serve_from};
+use crate::files::{
+    ask_from, audit_from, catalogue_from, do_from, import_from, migrate_from, serve_from,
+};
 use crate::lists::list_from;
 use crate::propose::propose_from;
 use crate::reports::{
@@ -32,6 +34,8 @@ pub(crate) fn call_from(
         Kind::Check => check_from(alloc, matches),
         Kind::Alternatives => alternatives_from(alloc, matches),
         Kind::Script => script_from(alloc, matches),
+        Kind::Do => do_from(alloc, matches),
+        Kind::Ask => ask_from(alloc, matches),
         Kind::Import => import_from(alloc, matches),
         Kind::Catalogue => catalogue_from(alloc, matches),
         Kind::Notices => notices_from(alloc, matches),

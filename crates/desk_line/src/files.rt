@@ -2,13 +2,33 @@
 
 ghost use Rattle.std.specs.Prelude.{◌≡◌, codes};
 ghost use Rattle.clap.specs.Words.{found_of, rows_of};
-ghost use Rattle.desk_line.specs.Calls.{audit_in, catalogue_in, import_in, migrate_in, number_in, serve_in};
+ghost use Rattle.desk_line.specs.Calls.{ask_in, audit_in, do_in, catalogue_in, import_in, migrate_in, number_in, serve_in};
 ghost use Rattle.desk_line.specs.Unfound.{IsFound};
 
 use crate::call::{Call, FileCall};
-use crate::values::{Unfound, number_in, profile_in, require, wanted_text};
+use crate::values::{Unfound, number_in, profile_in, require, wanted_text, wanted_texts};
 use clap::ArgMatches;
 use std::alloc::Global;
+
+/// The call of `do`.
+pub(crate) fn do_from(alloc: Global, matches: &ArgMatches<'_>) -> Result<Call, Unfound>
+    ensures { IsFound (do_in (rows_of (found_of matches.now))) result }
+{
+    let database = wanted_text(alloc, matches, "FILE")?;
+    let words = wanted_texts(alloc, matches, "WORD")?;
+    let call = FileCall::Do { words };
+    Ok(Call::File { database, call })
+}
+
+/// The call of `ask`.
+pub(crate) fn ask_from(alloc: Global, matches: &ArgMatches<'_>) -> Result<Call, Unfound>
+    ensures { IsFound (ask_in (rows_of (found_of matches.now))) result }
+{
+    let database = wanted_text(alloc, matches, "FILE")?;
+    let words = wanted_texts(alloc, matches, "WORD")?;
+    let call = FileCall::Ask { words };
+    Ok(Call::File { database, call })
+}
 
 /// The call of `import`.
 pub(crate) fn import_from(alloc: Global, matches: &ArgMatches<'_>) -> Result<Call, Unfound>

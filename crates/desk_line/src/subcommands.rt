@@ -13,7 +13,7 @@ use clap::Command;
 use desk_help::Help;
 use std::alloc::{AllocError, Global};
 
-const VERSION: &str = "0.1.0";
+const VERSION: &str = "1.0.0 (tables 3)";
 
 const ABOUT: &str = "Tells what a firm owes when it ships open-source software";
 
@@ -30,6 +30,8 @@ pub(crate) enum Kind {
     Check,
     Alternatives,
     Script,
+    Do,
+    Ask,
     Import,
     Catalogue,
     Notices,
@@ -69,10 +71,12 @@ macro_rules! subcommand {
 }
 
 /// The subcommands.
-const SUBCOMMANDS: [Subcommand; 21] = [
+const SUBCOMMANDS: [Subcommand; 23] = [
     subcommand!(Kind::Check, "check", arguments::CHECK),
     subcommand!(Kind::Alternatives, "alternatives", arguments::ALTERNATIVES),
     subcommand!(Kind::Script, "script", arguments::SCRIPT),
+    subcommand!(Kind::Do, "do", arguments::REQUEST),
+    subcommand!(Kind::Ask, "ask", arguments::REQUEST),
     subcommand!(Kind::Import, "import", arguments::IMPORT),
     subcommand!(Kind::Catalogue, "catalogue", arguments::CATALOGUE),
     subcommand!(Kind::Notices, "notices", arguments::RELEASE),
@@ -98,6 +102,8 @@ fn help_of(kind: Kind) -> &'static Help {
         Kind::Check => &desk_help::CHECK,
         Kind::Alternatives => &desk_help::ALTERNATIVES,
         Kind::Script => &desk_help::SCRIPT,
+        Kind::Do => &desk_help::DO,
+        Kind::Ask => &desk_help::ASK,
         Kind::Import => &desk_help::IMPORT,
         Kind::Catalogue => &desk_help::CATALOGUE,
         Kind::Notices => &desk_help::NOTICES,

@@ -4,11 +4,14 @@
 //!   `BadDocument: TooLarge, more than 4 MiB`.
 //! - `request_trouble` finds why a line is no request, and `RequestTrouble` puts it into words
 //!   (`specs/Troubles.antt`).
+//! - `request_usage` says which keys a request may have.
 #![tactic(auto)]
 
 mod forms;
 mod refusals;
 mod requests;
+mod usage;
 
 pub use refusals::RefusalWords;
 pub use requests::{RequestTrouble, Wanted, request_trouble};
+pub use usage::request_usage;

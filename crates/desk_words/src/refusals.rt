@@ -178,7 +178,7 @@ fn plain_words(refusal: &Refusal) -> &'static str {
         Refusal::NotEnough => "the conclusion is not satisfied by these terms",
         Refusal::EmptyRelease => "no document is attached",
         Refusal::UnknownDuty => "no duty has this number",
-        Refusal::BadText => "a text is not empty, not too long, and has no control byte",
+        Refusal::BadText => "the text must be 1 to 1,024 bytes without control bytes",
         Refusal::BadDay => "a day is YYYY-MM-DD, and in the calendar",
         Refusal::TooMany => "there are too many minimal sets to list",
         Refusal::TooManyTerms => "there are too many distinct terms to list the sets",
@@ -244,7 +244,9 @@ impl fmt::Display for RefusalWords<'_> {
                 let release = release.as_str();
                 write!(f, "release {release} holds a choice for the package")
             }
-            Refusal::BadTerm(place) => { write!(f, "no term at {place}, counted from 0") }
+            Refusal::BadTerm(place) => {
+                write!(f, "item {place} (counting from 0) is not a licence term")
+            }
             Refusal::ReleaseState(state) => {
                 let state = state.name();
                 write!(f, "the release is {state}")
