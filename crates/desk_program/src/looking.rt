@@ -1,29 +1,21 @@
-//! What is looked at in the desk of a file: lists of what it holds, what keeps a release from being
-//! frozen, what is proposed for a document, and the choices for packages that have only one.
+//! What is looked at in the desk of a file: lists of what it holds, and what is proposed for a
+//! document.
 
 use desk_base::Text;
 use desk_line::Listed;
 use desk_lists::DutyFilter;
-use desk_model::{Answer, Fault, Outcome, Refusal};
+use desk_model::Refusal;
 use desk_snapshot::Snapshot;
 use desk_store::SqlDesk;
-use desk_subcommands::{Failure, Teller, tell};
+use desk_subcommands::{Failure, Teller};
 use desk_texts::Standard;
 use desk_views::{
-    document_row, open_releases, propose_held, tell_wanting, write_choices, write_choices_for,
+    document_row, open_releases, propose_held, tell_fault, tell_refusal, write_choices_for,
     write_documents, write_duties, write_releases,
 };
 use sqlite::Alter;
 use std::alloc::Global;
 use std::io::{IsTerminal, Write};
-
-// Replies that the desk failed.
-fn reply_fault<W: Write>(alloc: Global, fault: Fault, writer: &mut W) -> Result<u8, Failure> {
-    let outcome = Outcome::Failed(fault);
-    let told = tell(alloc, &outcome, writer);
-    drop(outcome);
-    told
-}
 
 // Writes a list of these rows.
 fn write_list<W: Write>(
@@ -67,37 +59,7 @@ pub fn list<S: Alter, W: Write>(
             drop(snapshot);
             told
         }
-        Err(fault) => reply_fault(rt.alloc(), fault, writer),
-    }
-}
-
-// Replies that the request is refused, and reports why.
-fn reply_refusal<W: Write, E: Write>(
-    alloc: Global,
-    refusal: Refusal,
-    writer: &mut W,
-    teller: &mut Teller<E>,
-) -> Result<u8, Failure> {
-    let outcome = Outcome::Answered(Answer::Refused(refusal));
-    let told = tell(alloc, &outcome, writer);
-    teller.explain(&outcome);
-    drop(outcome);
-    told
-}
-
-/// Writes the choices of a release for packages that have only one.
-pub fn choices<S: Alter, W: Write, E: Write>(
-    rt: &HostRuntime,
-    desk: &mut SqlDesk<S>,
-    release: &Text,
-    writer: &mut W,
-    teller: &mut Teller<E>,
-) -> Result<u8, Failure> {
-    let alloc = rt.alloc();
-    match desk.sole_choices(alloc, release) {
-        Ok(Ok(choices)) => write_choices(alloc, release, choices.as_slice(), writer),
-        Ok(Err(refusal)) => reply_refusal(alloc, refusal, writer, teller),
-        Err(fault) => reply_fault(alloc, fault, writer),
+        Err(fault) => tell_fault(rt.alloc(), fault, writer),
     }
 }
 
@@ -115,8 +77,8 @@ fn choices_for<S: Alter, W: Write, E: Write>(
             Ok(Ok(choices)) => {
                 write_choices_for(alloc, release, document, choices, writer)?;
             }
-            Ok(Err(refusal)) => return reply_refusal(alloc, refusal, writer, teller),
-            Err(fault) => return reply_fault(alloc, fault, writer),
+            Ok(Err(refusal)) => return tell_refusal(alloc, refusal, writer, teller),
+            Err(fault) => return tell_fault(alloc, fault, writer),
         }
     }
     Ok(0)
@@ -133,7 +95,7 @@ fn propose_conclusions<W: Write, E: Write>(
 ) -> Result<Result<Vec<Text>, u8>, Failure> {
     let alloc = rt.alloc();
     let Some(row) = document_row(snapshot, document) else {
-        let status = reply_refusal(alloc, Refusal::UnknownDocument, writer, teller)?;
+        let status = tell_refusal(alloc, Refusal::UnknownDocument, writer, teller)?;
         return Ok(Err(status));
     };
     let status = propose_held(
@@ -163,7 +125,7 @@ pub fn proposals<S: Alter, W: Write, E: Write>(
     let alloc = rt.alloc();
     let snapshot = match desk.snapshot() {
         Ok(snapshot) => snapshot,
-        Err(fault) => return reply_fault(alloc, fault, writer),
+        Err(fault) => return tell_fault(alloc, fault, writer),
     };
     let written = propose_conclusions(rt, &snapshot, document, writer, teller);
     drop(snapshot);
@@ -171,35 +133,4 @@ pub fn proposals<S: Alter, W: Write, E: Write>(
         Ok(releases) => choices_for(alloc, desk, releases.as_slice(), document, writer, teller),
         Err(status) => Ok(status),
     }
-}
-
-// Reports which documents ship no package.
-fn tell_idle(rt: &HostRuntime, numbers: &[u32]) {
-    for number in numbers {
-        // If writing to standard error fails, the refusals are still written.
-        let _told = eprintln!(rt; "document {number} ships no package, and raises no duty");
-    }
-}
-
-/// Writes everything that keeps a release from being frozen, and reports on standard error which of
-/// its documents ship no package.
-pub fn wanting<S: Alter, W: Write, E: Write>(
-    rt: &HostRuntime,
-    desk: &mut SqlDesk<S>,
-    release: &Text,
-    writer: &mut W,
-    teller: &mut Teller<E>,
-) -> Result<u8, Failure> {
-    let alloc = rt.alloc();
-    let refusals = match desk.wanting(alloc, release) {
-        Ok(refusals) => refusals,
-        Err(fault) => return reply_fault(alloc, fault, writer),
-    };
-    let idle = match desk.idle_documents(alloc, release) {
-        Ok(numbers) => numbers,
-        Err(fault) => return reply_fault(alloc, fault, writer),
-    };
-    let status = tell_wanting(alloc, refusals, writer, teller)?;
-    tell_idle(rt, idle.as_slice());
-    Ok(status)
 }

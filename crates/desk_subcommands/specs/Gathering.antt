@@ -1,21 +1,31 @@
 -- What `gather` writes, and the status that it returns.
-use Rattle.std.specs.Prelude.{◌≡◌, ◌++◌, ◌&&◌, ◌==◌, ℕ, List, [], Option, Some, None, codes, decimal, if◌then◌else◌}
+use Rattle.std.specs.Prelude.{◌≡◌, ◌++◌, ◌&&◌, ◌==◌, ℕ, Bool, List, [], Option, Some, None, codes, decimal, if◌then◌else◌}
+use Rattle.desk_report.specs.Terminal.{text_on}
 use Rattle.desk_tree_gather.specs.declared.files.SourceFile.{SourceFile}
 use Rattle.desk_tree_infos.specs.Readers.{Reader}
 use Rattle.desk_tree_document.specs.Drafts.{Named}
 use Rattle.desk_tree_document.specs.declared.document.Gathering.{Gathering}
 use Rattle.desk_tree_document.specs.declared.gaps.Gaps.{Gaps}
 use Rattle.desk_tree_document.specs.Gathering.{IsGathering, gathering_text, is_document}
+use Rattle.desk_subcommands.specs.declared.gathering.Title.{Title}
+
+-- what a document says of itself
+abbrev pub named : Title → Named
+named title = record {
+  name = title.name.now;
+  namespace = title.namespace.now;
+  created = title.created.now;
+}
 
 -- the program's status: done if there is a document, and else refused
 abbrev pub gathering_status : Gathering → ℕ
 gathering_status answer = if is_document answer then 0 else 1
 
--- the text and the status for the document of a tree
-abbrev pub Gathers : Reader → List SourceFile → Named → List ℕ → ℕ → Type 0
-Gathers r files title text status =
-    (answer : Gathering) × IsGathering r files title answer × (text ≡ gathering_text answer)
-    × (status ≡ gathering_status answer)
+-- the text and the status for the document of a tree; a terminal gets the text as it shows it
+abbrev pub Gathers : Reader → List SourceFile → Title → Bool → List ℕ → ℕ → Type 0
+Gathers r files title is_terminal text status =
+    (answer : Gathering) × IsGathering r files (named title) answer
+    × (text ≡ text_on is_terminal (gathering_text answer)) × (status ≡ gathering_status answer)
 
 -- the line on the files of which the document says no licence or no notice, if there are any
 abbrev pub gaps_line : Gaps → List ℕ

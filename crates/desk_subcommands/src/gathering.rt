@@ -3,16 +3,29 @@
 ghost use Rattle.std.specs.Prelude.{◌≡◌, ℕ, List, IfOk, IfErr, OnOk};
 ghost use Rattle.std.specs.String.{string_bytes};
 ghost use Rattle.std.specs.Io.KnownBytes.{Appends, Keeps};
+ghost use Rattle.desk_report.specs.Terminal.{text_on};
 ghost use Rattle.desk_tree_infos.specs.Readers.{Reader, IsRightReader};
 ghost use Rattle.desk_tree_document.specs.Gathering.{IsGathering, IsUnwritable};
-ghost use Rattle.desk_subcommands.specs.Failures.{IfBadValue, IfUntold, IsOfDocument};
-ghost use Rattle.desk_subcommands.specs.Gathering.{gaps_line, gathering_status, Gathers, report};
+ghost use Rattle.desk_subcommands.specs.Failures.{IfBadValue, IfUntold, IsOfDocument, IsOfOutput};
+ghost use Rattle.desk_subcommands.specs.Gathering.{gaps_line, gathering_status, Gathers, named, report};
 
 use crate::failure::Failure;
+use desk_report::lines_shown;
 use desk_tree_document::{Gaps, Gathering, TextFault, document_of};
 use desk_tree_gather::SourceFile;
 use std::alloc::{AllocError, Global};
 use std::io::Write;
+
+/// What a document says of itself.
+#[derive(Clone, Copy)]
+pub struct Title<'a> {
+    /// Its name.
+    pub name: &'a str,
+    /// Its namespace.
+    pub namespace: &'a str,
+    /// When it was made.
+    pub created: &'a str,
+}
 
 fn status_of(answer: &Gathering) -> u8
     ensures { result ≡ gathering_status answer.now }
@@ -23,19 +36,15 @@ fn status_of(answer: &Gathering) -> u8
 fn gathering_of(
     alloc: Global,
     files: Vec<SourceFile>,
-    name: &str,
-    namespace: &str,
-    created: &str,
+    title: &Title<'_>,
 ) -> Result<Gathering, Failure>
     ensures ok { (r : Reader) → IsRightReader r
-        → IfOk result (IsGathering r files.items
-        (record { name = name.now; namespace = namespace.now; created = created.now })) }
+        → IfOk result (IsGathering r files.items (named title.now)) }
     ensures fails { IfErr result IsOfDocument }
     ensures err { (r : Reader) → IsRightReader r
-        → IfErr result (IfBadValue (IsUnwritable r files.items
-        (record { name = name.now; namespace = namespace.now; created = created.now }))) }
+        → IfErr result (IfBadValue (IsUnwritable r files.items (named title.now))) }
 {
-    match document_of(alloc, files, name, namespace, created) {
+    match document_of(alloc, files, title.name, title.namespace, title.created) {
         Ok(answer) => Ok(answer),
         Err(TextFault::Memory(error)) => Err(Failure::Memory(error)),
         Err(TextFault::BadValue) => Err(Failure::BadValue),
@@ -76,33 +85,53 @@ fn tell<T: Write>(
     Ok(())
 }
 
+// Writes a text; a terminal gets it as it shows it.
+fn write_on<W: Write>(
+    alloc: Global,
+    text: &str,
+    is_terminal: bool,
+    writer: &mut W,
+) -> Result<(), Failure>
+    ensures ok { OnOk result (Appends (W.contents writer.old) (W.contents writer.new)
+        (text_on is_terminal text.now)) }
+    ensures fails { IfErr result IsOfOutput }
+    ensures untold { IfErr result
+        (IfUntold (Keeps (W.contents writer.old) (W.contents writer.new))) }
+{
+    if is_terminal {
+        let shown = lines_shown(alloc, text)?;
+        writer.write_all(shown.as_slice())?;
+    } else {
+        writer.write_all(text.as_bytes())?;
+    }
+    Ok(())
+}
+
 /// Writes the document of a tree of files, or one line with the fault for which there is none, and
-/// returns the program's status. If no memory is left, or some value can't be written in its field,
-/// nothing is written. A fault is also reported to another writer, as is of how many files the
-/// document says no licence or no notice.
+/// returns the program's status. A terminal gets the text as it shows it. If no memory is left, or
+/// some value can't be written in its field, nothing is written. A fault is also reported to another
+/// writer, as is of how many files the document says no licence or no notice.
 pub fn gather<W: Write, T: Write>(
     alloc: Global,
     files: Vec<SourceFile>,
-    name: &str,
-    namespace: &str,
-    created: &str,
+    title: &Title<'_>,
+    is_terminal: bool,
     writer: &mut W,
     teller: &mut T,
 ) -> Result<u8, Failure>
     ensures told { (r : Reader) → IsRightReader r → IfOk result (λ status. (text : List ℕ)
-        × Gathers r files.items (record { name = name.now; namespace = namespace.now; created = created.now }) text status
+        × Gathers r files.items title.now is_terminal text status
         × Appends (W.contents writer.old) (W.contents writer.new) text) }
     ensures bad_value { (r : Reader) → IsRightReader r → IfErr result
-        (IfBadValue (IsUnwritable r files.items
-        (record { name = name.now; namespace = namespace.now; created = created.now }))) }
+        (IfBadValue (IsUnwritable r files.items (named title.now))) }
     ensures fails { IfErr result IsOfDocument }
     ensures untold { IfErr result
         (IfUntold (Keeps (W.contents writer.old) (W.contents writer.new))) }
 {
-    let answer = gathering_of(alloc, files, name, namespace, created)?;
+    let answer = gathering_of(alloc, files, title)?;
     let (status, gaps) = (status_of(&answer), answer.gaps());
     let text = answer.text(alloc)?;
-    writer.write_all(text.as_bytes())?;
+    write_on(alloc, text.as_str(), is_terminal, writer)?;
     writer.flush()?;
     // If that can't be reported, what is written still says it.
     let _told = tell(alloc, gaps, text.as_str(), teller);

@@ -1,2 +1,3 @@
 pub mod ShowingLemmas
 pub mod PageLemmas
+pub mod RefusalLemmas

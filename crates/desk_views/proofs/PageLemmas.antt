@@ -8,7 +8,6 @@ use Rattle.std.specs.Result.{IsErr, IsErrAnd}
 use Rattle.std.specs.Io.KnownBytes.{Appends}
 use Rattle.desk_model.specs.Queries.{queried}
 use Rattle.desk_model.specs.Readings.{Readings}
-use Rattle.desk_model.specs.Faults.{outcome_of}
 use Rattle.desk_model.specs.Tables.{tables}
 use Rattle.desk_model.specs.declared.command.Answer.{Answer}
 use Rattle.desk_model.specs.declared.command.Answer.TheVariants as answered
@@ -27,7 +26,7 @@ use Rattle.desk_subcommands.specs.Filing.{answer_status, outcome_line}
 use Rattle.desk_subcommands.specs.declared.failure.Failure.{Failure}
 use Rattle.desk_subcommands.specs.declared.failure.Failure.TheVariants as failure
 use Rattle.desk_views.specs.Paging.{AreChanges, AreContents, Gathers, IsOther, IsOtherChange}
-use Rattle.desk_views.specs.Paging.{IsPaged, LookedUp, contents_text, rows_in}
+use Rattle.desk_views.specs.Paging.{IsPaged, IsToldBy, LookedUp, contents_text, rows_in}
 use Rattle.desk_views.specs.declared.paging.Contents.{Contents}
 
 module _ {Left : Type 0} (a b : Seen Left) where
@@ -50,19 +49,21 @@ module _ {Left : Type 0} (is_right : Readings → Type 0) (a b : Seen Left) wher
   found_after Is c same found w right honest h ok held = found w right honest h ok
       (same.kept.spared.holds (tables w h) held)
 
-  -- a question got this answer, or came to this outcome
-  pub asked_other : (q : Query) (Is : Readings → List Command → Outcome → Type 0)
+  -- a question got another kind of answer, or came to a fault
+  pub asked_other : {T : Type 0} (kind : T → Answer) (q : Query)
+      (Is : Readings → List Command → Outcome → Type 0)
       (asked : Result Answer Fault) (outcome : Outcome)
       → IfOk asked (λ answer. InHistory is_right (λ w h. answer ≡ queried w h q) a b)
-      → outcome ≡ outcome_of asked
+      → IsToldBy kind asked (Err outcome)
       → ((w : Readings) (h : List Command) (other : Answer) → queried w h q ≡ other
-      → Is w h (outcome_is.Answered other))
+      → ((told : T) → other ≡ kind told → ⊥) → Is w h (outcome_is.Answered other))
       → ((w : Readings) (h : List Command) (fault : Fault) → Is w h (outcome_is.Failed fault))
       → InHistory is_right (λ w h. Is w h outcome) a b
-  asked_other q Is (Ok answer) outcome told is other failed w right honest h ok held =
-      subst (Is w h) (sym is) (other w h answer (sym (told w right honest h ok held)))
-  asked_other q Is (Err fault) outcome told is other failed w right honest h ok held = subst (Is w
-      h) (sym is) (failed w h fault)
+  asked_other kind q Is (Ok answer) outcome told is other failed w right honest h ok held =
+      subst (Is w h) (sym is.0) (other w h answer (sym (told w right honest h ok held))
+      (λ it same. is.1 it (ap Ok same)))
+  asked_other kind q Is (Err fault) outcome told is other failed w right honest h ok held =
+      subst (Is w h) (sym is.0) (failed w h fault)
 
   -- and this outcome is returned as it is
   pub gathers_other : (r : List ℕ) (gathered : Result Contents Outcome) (outcome : Outcome)
@@ -89,7 +90,7 @@ module _ {Left : Type 0} (is_right : Readings → Type 0) (a b : Seen Left) wher
       → InHistory is_right (λ w h. IsOther w h r outcome) a b
   gathers_change r (outcome_is.Answered other) found w right honest h ok held =
       let it = found w right honest h ok held in
-      (query.Changes it.0, inr (inr (inr (it.0, refl))), it.1)
+      (query.Changes it.0, it.1, inr (inr (inr (it.0, refl))), it.2, it.3)
   gathers_change r (outcome_is.Failed fault) found w right honest h ok held = tt
 
 -- the changes of one more duty
@@ -121,9 +122,10 @@ other_told is_right r a b old new (Ok status) (answer, comes, written, same) = (
       inr (
         it.0,
         it.1,
-        ap (λ x. outcome_line (outcome_is.Answered x)) (sym it.2),
-        same
-            ∙ ap answer_status (sym it.2),
+        it.2,
+        it.3,
+        ap (λ x. outcome_line (outcome_is.Answered x)) it.4,
+        same ∙ ap answer_status it.4,
       )),
   written,
 )

@@ -13,7 +13,7 @@ use Rattle.desk_views.specs.Showing.{answer_text, outcome_text, shown}
 use Rattle.desk_subcommands.specs.declared.failure.Failure.{Failure}
 
 -- only a refusal has a status other than 0, and it has no text
-done : (in_columns : Bool) (a : Answer) (text : List ℕ) → answer_text in_columns a ≡ Some text
+done : (is_terminal : Bool) (a : Answer) (text : List ℕ) → answer_text is_terminal a ≡ Some text
     → 0 ≡ answer_status a
 done b (answer.Refused refusal) text e = absurd (none-some text e)
 done b (answer.Revision n) text e = refl
@@ -36,9 +36,9 @@ done b (answer.OpenDuties lines) text e = refl
 done b (answer.Wanting refusals) text e = refl
 
 -- an outcome that has a text is an answer, and is written as this text
-pub has_text : (in_columns : Bool) (o : Outcome) (text : List ℕ) (old new : Option (List ℕ))
-    → outcome_text in_columns o ≡ Some text → Appends old new text
-    → (a : Answer) × (o ≡ outcome_is.Answered a) × Appends old new (shown in_columns a)
+pub has_text : (is_terminal : Bool) (o : Outcome) (text : List ℕ) (old new : Option (List ℕ))
+    → outcome_text is_terminal o ≡ Some text → Appends old new text
+    → (a : Answer) × (o ≡ outcome_is.Answered a) × Appends old new (shown is_terminal a)
     × (0 ≡ answer_status a)
 has_text b (outcome_is.Failed fault) text old new e written = absurd (none-some text e)
 has_text b (outcome_is.Answered a) text old new e written = (
@@ -49,12 +49,12 @@ has_text b (outcome_is.Answered a) text old new e written = (
 )
 
 -- any other outcome is written as its line
-pub has_line : (in_columns : Bool) (o : Outcome) (old new : Option (List ℕ))
-    (result : Result ℕ Failure) → outcome_text in_columns o ≡ None
+pub has_line : (is_terminal : Bool) (o : Outcome) (old new : Option (List ℕ))
+    (result : Result ℕ Failure) → outcome_text is_terminal o ≡ None
     → IfOk result (λ status. (a : Answer) × (o ≡ outcome_is.Answered a)
     × Appends old new (outcome_line (outcome_is.Answered a)) × (status ≡ answer_status a))
     → IfOk result (λ status. (a : Answer) × (o ≡ outcome_is.Answered a)
-    × Appends old new (shown in_columns a) × (status ≡ answer_status a))
+    × Appends old new (shown is_terminal a) × (status ≡ answer_status a))
 has_line b o old new (Err why) e told = told
 has_line b o old new (Ok status) e (a, is, written, same) = (
   a,

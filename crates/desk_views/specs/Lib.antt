@@ -4,3 +4,5 @@ pub mod Wanting
 pub mod Paging
 pub mod Proposals
 pub mod Proposing
+pub mod Asking
+pub mod Choosing

@@ -14,23 +14,26 @@ use Rattle.desk_model.specs.declared.command.Outcome.{Outcome}
 use Rattle.desk_model.specs.declared.command.Outcome.TheVariants.{Answered, Failed}
 use Rattle.desk_model.specs.declared.command.Query.{Query}
 use Rattle.desk_model.specs.declared.command.Query.TheVariants as query
+use Rattle.desk_model.specs.declared.refusal.Refusal.{Refusal}
 use Rattle.desk_model.specs.declared.row.ChangeRow.{ChangeRow}
 use Rattle.desk_page.specs.Page.{page_text}
-use Rattle.desk_subcommands.specs.Filing.{answer_status, outcome_line}
+use Rattle.desk_subcommands.specs.Filing.{outcome_line}
 use Rattle.desk_views.specs.declared.paging.Contents.{Contents}
 
--- a question gets this kind of answer, or its outcome is returned as it is
+-- a question gets this kind of answer; or it gets another, and its outcome is returned as it is
 abbrev pub IsToldBy : {T : Type 0} → (T → Answer) → Result Answer Fault → Result T Outcome → Type 0
 IsToldBy kind asked (Ok told) = asked ≡ Ok (kind told)
-IsToldBy kind asked (Err outcome) = outcome ≡ outcome_of asked
+IsToldBy {T} kind asked (Err outcome) = (outcome ≡ outcome_of asked)
+    × ((told : T) → asked ≡ Ok (kind told) → ⊥)
 
--- the outcome of a question for the changes of some duty, reported instead of these; nothing is
+-- the refusal of a question for the changes of some duty, reported instead of these; nothing is
 -- said of a fault
 abbrev pub IsOtherChange : Readings → List Command → Outcome → Type 0
-IsOtherChange w h (Answered other) = (number : ℕ) × (queried w h (query.Changes number) ≡ other)
+IsOtherChange w h (Answered other) = (number : ℕ) × (why : Refusal)
+    × (queried w h (query.Changes number) ≡ answered.Refused why) × (other ≡ answered.Refused why)
 IsOtherChange w h (Failed fault) = Unit {0}
 
--- the changes of each duty, or the outcome of a question for those of some duty
+-- the changes of each duty, or the refusal of a question for those of some duty
 abbrev pub AreChanges : Readings → List Command → List DutyLine
     → Result (List (List ChangeRow)) Outcome → Type 0
 AreChanges w h lines (Ok changes) = map (λ line. queried w h (query.Changes line.number)) lines
@@ -64,13 +67,13 @@ IsFor release q = (q ≡ query.Bill release)
     ⊎ ((q ≡ query.Totals release)
     ⊎ ((q ≡ query.Duties release) ⊎ ((number : ℕ) × (q ≡ query.Changes number))))
 
--- the outcome of such a question, such as a refusal, reported instead of a page; nothing is said of
--- a fault
+-- the refusal of such a question, reported instead of a page; nothing is said of a fault
 abbrev pub IsOther : Readings → List Command → List ℕ → Outcome → Type 0
-IsOther w h release (Answered other) = (q : Query) × IsFor release q × (queried w h q ≡ other)
+IsOther w h release (Answered other) = (q : Query) × (why : Refusal) × IsFor release q
+    × (queried w h q ≡ answered.Refused why) × (other ≡ answered.Refused why)
 IsOther w h release (Failed fault) = Unit {0}
 
--- what a page is written from, or the outcome of a question instead
+-- what a page is written from, or the refusal of a question instead
 abbrev pub Gathers : Readings → List Command → List ℕ → Result Contents Outcome → Type 0
 Gathers w h release (Ok c) = AreContents w h release c
 Gathers w h release (Err outcome) = IsOther w h release outcome
@@ -78,9 +81,9 @@ Gathers w h release (Err outcome) = IsOther w h release outcome
 abbrev pub contents_text : Contents → List ℕ
 contents_text c = page_text c.bill c.totals c.duties c.changes.items
 
--- the page, or the line of the other answer, and the program's status
+-- the page or, if a question for it is refused, the line of this reply, and the program's status
 abbrev pub IsPaged : Readings → List Command → List ℕ → List ℕ → ℕ → Type 0
 IsPaged w h release text status =
     ((c : Contents) × AreContents w h release c × (text ≡ contents_text c) × (status ≡ 0))
-    ⊎ ((q : Query) × IsFor release q × (text ≡ outcome_line (Answered (queried w h q)))
-    × (status ≡ answer_status (queried w h q)))
+    ⊎ ((q : Query) × (why : Refusal) × IsFor release q × (queried w h q ≡ answered.Refused why)
+    × (text ≡ outcome_line (Answered (answered.Refused why))) × (status ≡ 1))

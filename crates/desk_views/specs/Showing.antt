@@ -17,27 +17,28 @@ use Rattle.desk_report.specs.Columns.{columns_text}
 use Rattle.desk_report.specs.CsvTable.{table_text}
 use Rattle.desk_report.specs.Lines.{change_text, totals_line}
 use Rattle.desk_report.specs.Notices.{notices_text}
+use Rattle.desk_report.specs.Terminal.{text_on}
 use Rattle.desk_script.specs.Replies.{Replies}
 use Rattle.desk_script.specs.declared.answer.Reply.TheVariants.{Became}
 use Rattle.desk_subcommands.specs.Filing.{answer_status, outcome_line}
 
--- the text of an answer, if it has one; duties are a table of comma-separated values, or one in
--- columns
+-- the text of an answer, if it has one; on a terminal notices are as it shows them, and duties, else
+-- comma-separated values, are in columns
 abbrev pub answer_text : Bool → Answer → Option (List ℕ)
-answer_text in_columns (Bill bill) = Some (notices_text bill)
-answer_text in_columns (Duties lines) = Some (if in_columns then columns_text lines
+answer_text is_terminal (Bill bill) = Some (text_on is_terminal (notices_text bill))
+answer_text is_terminal (Duties lines) = Some (if is_terminal then columns_text lines
     else table_text lines)
-answer_text in_columns (Totals totals) = Some (totals_line totals)
-answer_text in_columns (Changes rows) = Some (flat_map change_text rows)
-answer_text in_columns _ = None
+answer_text is_terminal (Totals totals) = Some (totals_line totals)
+answer_text is_terminal (Changes rows) = Some (flat_map change_text rows)
+answer_text is_terminal _ = None
 
 abbrev pub outcome_text : Bool → Outcome → Option (List ℕ)
-outcome_text in_columns (Answered answer) = answer_text in_columns answer
-outcome_text in_columns (Failed fault) = None
+outcome_text is_terminal (Answered answer) = answer_text is_terminal answer
+outcome_text is_terminal (Failed fault) = None
 
 -- an answer is written as its text or, if it has none, as the line of its reply
 abbrev pub shown : Bool → Answer → List ℕ
-shown in_columns answer = unwrap_or (answer_text in_columns answer) (outcome_line (Answered answer))
+shown is_terminal answer = unwrap_or (answer_text is_terminal answer) (outcome_line (Answered answer))
 
 module _ (is_right : Readings → Type 0) (tells : StoreFault → Type 0) {Left : Type 0}
     (stands : Left → Tables → Type 0) (query : Query) (before after : Seen Left) where
@@ -47,8 +48,8 @@ module _ (is_right : Readings → Type 0) (tells : StoreFault → Type 0) {Left 
 
   -- the desk answers the question, the answer is written, and the status is the answer's
   abbrev pub IsShown : Bool → Option (List ℕ) → Option (List ℕ) → ℕ → Type 0
-  IsShown in_columns old new status =
-      (answer : Answer) × Asks (Answered answer) × Appends old new (shown in_columns answer)
+  IsShown is_terminal old new status =
+      (answer : Answer) × Asks (Answered answer) × Appends old new (shown is_terminal answer)
       × (status ≡ answer_status answer)
 
   -- the desk fails by a fault, and the reply says so

@@ -4,13 +4,16 @@
 //! Each function is given what it writes about and a writer, and returns the program's status, as
 //! those of `desk_subcommands` do.
 //!
+//! - `answer_request` answers a request as a script does (`specs/Asking.antt`).
 //! - `show` writes the text of an answer: notices, the table of duties, totals, changes
 //!   (`specs/Showing.antt`).
 //! - `write_releases`, `write_documents` and `write_duties` write lists of `desk_lists` as
 //!   comma-separated values or in columns (`specs/Listing.antt`).
 //! - `page` writes a page on a release (`specs/Paging.antt`).
 //! - `write_choices` writes choices as the requests that make them, and `write_choices_for` those
-//!   for a document.
+//!   for a document; `tell_choices` writes them or why there are none (`specs/Choosing.antt`).
+//! - `tell_refusal` and `tell_fault` write the reply that a request is refused, or that the desk
+//!   failed.
 //! - `propose` writes the conclusions that are proposed for a document (`specs/Proposals.antt`),
 //!   `write_proposals` those for one that was read already, and `propose_held` those for one that a
 //!   desk holds (`specs/Proposing.antt`); `document_row` finds it, and `open_releases` the releases
@@ -19,18 +22,22 @@
 //!   (`specs/Wanting.antt`).
 #![tactic(auto)]
 
+mod asking;
 mod choosing;
 mod listing;
 mod paging;
 mod proposals;
 mod proposing;
+mod replying;
 mod showing;
 mod wanting;
 
-pub use choosing::{write_choices, write_choices_for};
+pub use asking::answer_request;
+pub use choosing::{tell_choices, write_choices, write_choices_for};
 pub use listing::{write_documents, write_duties, write_releases};
 pub use paging::page;
 pub use proposals::{propose, refuse_document, write_proposals};
 pub use proposing::{document_row, open_releases, propose_held};
+pub use replying::{tell_fault, tell_refusal};
 pub use showing::show;
 pub use wanting::tell_wanting;

@@ -247,9 +247,9 @@ fn tell_instead<W: Write, E: Write>(
 }
 
 /// Writes a page on a frozen release of a desk, as HTML: what it ships, its duties with their
-/// changes, and the notices. If the desk answers one of the questions for it in another way, such
-/// as by a refusal, the line of that reply is written. Returns the program's status. If the desk
-/// fails, both the reply and the failure say so. The desk is as it was.
+/// changes, and the notices. If the desk refuses one of the questions for it, the line of that reply
+/// is written. Returns the program's status. If the desk fails, both the reply and the failure say
+/// so. The desk is as it was.
 pub fn page<D: Desk, W: Write, E: Write>(
     alloc: Global,
     desk: &mut D,

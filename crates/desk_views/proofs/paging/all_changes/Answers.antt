@@ -4,12 +4,14 @@ use Rattle.desk_model.specs.Queries.{queried}
 use Rattle.desk_model.specs.Tables.{tables}
 use Rattle.desk_model.specs.declared.command.DutyLine.{DutyLine}
 use Rattle.desk_model.specs.declared.command.Outcome.{Outcome}
+use Rattle.desk_model.specs.declared.command.Answer.TheVariants as answered
 use Rattle.desk_model.specs.declared.command.Query.TheVariants as query
 use Rattle.desk_access.proofs.Chains.{same_then_kept, same_then_same}
 use Rattle.desk_core.specs.Desks.{InHistory}
 use Rattle.desk_views.specs.Paging.{IsOtherChange}
 use Rattle.desk_views.proofs.PageLemmas.{asked_kept, asked_other, asked_same, changes_more}
 use Rattle.desk_views.proofs.PageLemmas.{changes_other, found_after, looked_up_err}
+use Rattle.desk_views.proofs.RefusalLemmas.{changes_refused}
 use Rattle.desk_views.proofs.paging.all_changes.Goals as goal
 
 pub loop-duty-preserved : goal.loop-duty-preserved
@@ -64,9 +66,13 @@ returns-in_err-rows-clause-found g c =
     c.from_residual.ensures.1
     (found_after g.D.Desk.are_right old asked (λ w h. IsOtherChange w h outcome) new
     c.loop-duty.invariant.same
-    (asked_other g.D.Desk.are_right asked new (query.Changes number) (λ w h. IsOtherChange w h)
-    c.changes_of.result outcome c.changes_of.ensures.told
-    c.in_err-rows.ensures (λ w h other is. (number, is)) (λ w h fault. tt)))
+    (asked_other g.D.Desk.are_right asked new answered.Changes (query.Changes number)
+    (λ w h. IsOtherChange w h) c.changes_of.result outcome c.changes_of.ensures.told
+    c.in_err-rows.ensures
+    (λ w h other is none.
+    let it = changes_refused w h number other is none in
+    (number, it.0, it.1, it.2))
+    (λ w h fault. tt)))
 
 pub returns-in_err-add_rows-clause-found : goal.returns-in_err-add_rows-clause-found
 returns-in_err-add_rows-clause-found g c =

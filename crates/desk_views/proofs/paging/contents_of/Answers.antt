@@ -1,9 +1,11 @@
 use Rattle.std.proofs.Common.{inl, inr, refl}
+use Rattle.desk_model.specs.declared.command.Answer.TheVariants as answered
 use Rattle.desk_model.specs.declared.command.Query.TheVariants as query
 use Rattle.desk_access.proofs.Chains.{same_then_kept, same_then_same}
 use Rattle.desk_views.specs.Paging.{IsOther}
 use Rattle.desk_views.proofs.PageLemmas.{asked_kept, asked_other, asked_same, found_after}
 use Rattle.desk_views.proofs.PageLemmas.{gathers_change, gathers_other}
+use Rattle.desk_views.proofs.RefusalLemmas.{bill_refused, duties_refused, totals_refused}
 use Rattle.desk_views.proofs.paging.contents_of.Goals as goal
 
 pub returns-in_err-bill-clause-found : goal.returns-in_err-bill-clause-found
@@ -13,9 +15,12 @@ returns-in_err-bill-clause-found g c =
     let new = g.D.Desk.seen c.bill_of.new.desk in
     gathers_other g.D.Desk.are_right old new r c.from_residual.result c.in_err-bill.field-0.0
     c.from_residual.ensures.1
-    (asked_other g.D.Desk.are_right old new (query.Bill r) (λ w h. IsOther w h r) c.bill_of.result
-    c.in_err-bill.field-0.0 c.bill_of.ensures.told
-    c.in_err-bill.ensures (λ w h other is. (query.Bill r, inl refl, is)) (λ w h fault. tt))
+    (asked_other g.D.Desk.are_right old new answered.Bill (query.Bill r) (λ w h. IsOther w h r)
+    c.bill_of.result c.in_err-bill.field-0.0 c.bill_of.ensures.told c.in_err-bill.ensures
+    (λ w h other is none.
+    let it = bill_refused w h r other is none in
+    (query.Bill r, it.0, inl refl, it.1, it.2))
+    (λ w h fault. tt))
 
 pub returns-in-Err-clause-found : goal.returns-in-Err-clause-found
 returns-in-Err-clause-found g c =
@@ -25,9 +30,12 @@ returns-in-Err-clause-found g c =
     let new = g.D.Desk.seen c.totals_of.new.desk in
     found_after g.D.Desk.are_right old asked (λ w h. IsOther w h r c.in-Err.outcome) new
     (asked_same old asked _ c.bill_of.result c.bill_of.ensures.kept c.in_ok-bill.ensures)
-    (asked_other g.D.Desk.are_right asked new (query.Totals r) (λ w h. IsOther w h r)
-    c.totals_of.result c.in-Err.outcome
-    c.totals_of.ensures.told c.in-Err.ensures (λ w h other is. (query.Totals r, inr (inl refl), is))
+    (asked_other g.D.Desk.are_right asked new answered.Totals (query.Totals r)
+    (λ w h. IsOther w h r) c.totals_of.result c.in-Err.outcome c.totals_of.ensures.told
+    c.in-Err.ensures
+    (λ w h other is none.
+    let it = totals_refused w h r other is none in
+    (query.Totals r, it.0, inr (inl refl), it.1, it.2))
     (λ w h fault. tt))
 
 pub returns-in-Err-duties_in-clause-found : goal.returns-in-Err-duties_in-clause-found
@@ -41,10 +49,13 @@ returns-in-Err-duties_in-clause-found g c =
     (same_then_same old asked asked'
     (asked_same old asked _ c.bill_of.result c.bill_of.ensures.kept c.in_ok-bill.ensures)
     (asked_same asked asked' _ c.totals_of.result c.totals_of.ensures.kept c.in-Ok.ensures))
-    (asked_other g.D.Desk.are_right asked' new (query.Duties r) (λ w h. IsOther w h r)
-    c.duties_of.result c.in-Err-duties_in.outcome
-    c.duties_of.ensures.told c.in-Err-duties_in.ensures
-    (λ w h other is. (query.Duties r, inr (inr (inl refl)), is)) (λ w h fault. tt))
+    (asked_other g.D.Desk.are_right asked' new answered.Duties (query.Duties r)
+    (λ w h. IsOther w h r) c.duties_of.result c.in-Err-duties_in.outcome c.duties_of.ensures.told
+    c.in-Err-duties_in.ensures
+    (λ w h other is none.
+    let it = duties_refused w h r other is none in
+    (query.Duties r, it.0, inr (inr (inl refl)), it.1, it.2))
+    (λ w h fault. tt))
 
 pub returns-in-Err-all_changes-clause-found : goal.returns-in-Err-all_changes-clause-found
 returns-in-Err-all_changes-clause-found g c =

@@ -1,0 +1,37 @@
+-- What is looked up in a desk and written, and the program's status, for each recorded history whose
+-- tables are the desk's rows.
+use Rattle.std.specs.Prelude.{◌≡◌, ℕ, List, Option, Result}
+use Rattle.std.specs.Io.KnownBytes.{Appends}
+use Rattle.desk_model.specs.Readings.{Readings}
+use Rattle.desk_model.specs.Tables.{tables}
+use Rattle.desk_model.specs.declared.command.Fault.{Fault}
+use Rattle.desk_model.specs.declared.command.Outcome.TheVariants.{Failed}
+use Rattle.desk_model.specs.declared.refusal.Refusal.{Refusal}
+use Rattle.desk_access.specs.Seen.{Seen}
+use Rattle.desk_core.specs.Desks.{InHistory}
+use Rattle.desk_subcommands.specs.Filing.{outcome_line}
+use Rattle.desk_views.specs.Choosing.{choices_status, choices_text}
+use Rattle.desk_views.specs.Wanting.{refusal_lines, wanting_status}
+use Rattle.desk_wanting.specs.Obstacles.{wanting_found}
+use Rattle.desk_wanting.specs.Sole.{sole_choices_found}
+use Rattle.desk_wanting.specs.declared.sole_choice.SoleChoice.{SoleChoice}
+
+module _ {Left : Type 0} (is_right : Readings → Type 0) (release : List ℕ) (before after : Seen Left)
+    (old new : Option (List ℕ)) where
+  -- everything that keeps the release from being frozen, one on each line
+  abbrev pub TellsWanting : ℕ → Type 0
+  TellsWanting status =
+      (refusals : List Refusal)
+      × InHistory is_right (λ w h. refusals ≡ wanting_found w (tables w h) release) before after
+      × Appends old new (refusal_lines refusals) × (status ≡ wanting_status refusals)
+
+  -- the sole choices of the release as requests, or the reply to a request that is refused
+  abbrev pub TellsChoices : ℕ → Type 0
+  TellsChoices status =
+      (found : Result (List SoleChoice) Refusal)
+      × InHistory is_right (λ w h. found ≡ sole_choices_found w (tables w h) release) before after
+      × Appends old new (choices_text release found) × (status ≡ choices_status found)
+
+-- the reply that the desk failed by a fault
+abbrev pub TellsFault : Option (List ℕ) → Option (List ℕ) → Fault → Type 0
+TellsFault old new fault = Appends old new (outcome_line (Failed fault))

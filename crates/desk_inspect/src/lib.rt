@@ -1,0 +1,17 @@
+//! What an office looks up in the desk of a file besides its answers, written out.
+//!
+//! Each function looks it up in the desk, which stays as it was, writes it, and returns the
+//! program's status, as those of `desk_views` do. If the desk fails, both the reply and the failure
+//! say so.
+//!
+//! - `wanting` writes the refusals that keep a release from being frozen, one on each line, and
+//!   `choices` the requests for choices that leave nothing to choose (`specs/Inspecting.antt`).
+//!   Notes of `wanting` say which documents of a release ship no package (`specs/Idle.antt`).
+#![tactic(auto)]
+
+mod choosing;
+mod freezing;
+mod idle;
+
+pub use choosing::choices;
+pub use freezing::wanting;
