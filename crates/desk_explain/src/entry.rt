@@ -11,7 +11,7 @@ pub enum Kind {
     ExpressionFault { number: u8 },
     /// A fault of a file or a tree, with what prints it.
     OtherFault { place: &'static str },
-    /// A finding, which says what in a document isn't as the standard has it, with the clauses of
+    /// A finding, which says where a document departs from the standard, with the clauses of
     /// the standard.
     Finding { number: u8, clauses: &'static str },
     CatalogueFault { number: u8 },

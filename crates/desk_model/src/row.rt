@@ -90,7 +90,7 @@ pub struct ConclusionRow {
     pub document: u32,
     /// The SPDXID of a package of it.
     pub package_id: Text,
-    /// The expression, which the reader of texts could read by the document's profile.
+    /// The expression as it was written. Its operators are in capitals, whatever the document's profile.
     pub expression: Text,
 }
 

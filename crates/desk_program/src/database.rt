@@ -7,9 +7,12 @@ use crate::input::{bytes_at, require_file, text_at};
 use crate::progress::Step;
 use crate::scripts::{self, Course};
 use crate::trouble::{trouble_at, trouble_of};
-use crate::{blocks, looking, progress, serving, summaries};
+use crate::{USAGE, blocks, looking, progress, serving, summaries};
+use desk_assignments::{Source, Verb, WordsTrouble, read_words, source_of};
 use desk_base::{Items, Profile, Text};
 use desk_import::{Intake, Origin, intake_of};
+use desk_inspect::{choices, wanting};
+use desk_json::Request;
 use desk_line::{FileCall, Listed};
 use desk_model::Query;
 use desk_store::{AdoptFault, CreateFault, MigrateFault, SqlDesk, audit_connection};
@@ -17,11 +20,11 @@ use desk_subcommands::{
     Failure, NoDesk, Teller, Trouble, catalogue, refuse_catalogue, refuse_database, tell_migration,
     tell_report, text_of,
 };
-use desk_views::{page, show};
+use desk_views::{answer_request, page, show};
 use sqlite::{Alter, Connection};
 use sqlite_disk::{Disk, Unknown};
 use sqlite_store::FileStore;
-use std::alloc::Global;
+use std::alloc::{AllocError, Global};
 use std::io::{self, BufWriter, IsTerminal, Write};
 use std::rt::Stderr;
 
@@ -31,6 +34,10 @@ enum Task<'a> {
     /// It replies to the requests of standard input.
     Script {
         course: Course,
+    },
+    /// It answers a request.
+    Answer {
+        request: Request,
     },
     /// It imports a document.
     Import {
@@ -211,6 +218,9 @@ fn do_task<S: Alter + Drop, W: Write>(
     let alloc = rt.alloc();
     match task {
         Task::Script { course } => scripts::script(rt, desk, writer, course),
+        Task::Answer { request } => {
+            answer_request(alloc, desk, request, writer, &mut teller(rt))
+        }
         Task::Import {
             bytes,
             profile,
@@ -221,22 +231,27 @@ fn do_task<S: Alter + Drop, W: Write>(
         }
         Task::Load { text } => catalogue(alloc, desk, text, writer, &mut teller(rt)),
         Task::Show { query } => {
-            // (a pipe and a file get comma-separated values)
-            let in_columns = rt.stdout().is_terminal();
-            let told = show(alloc, desk, &query, in_columns, writer, &mut teller(rt));
+            // (a pipe and a file get comma-separated values, and notices as they are)
+            let is_terminal = rt.stdout().is_terminal();
+            let told = show(alloc, desk, &query, is_terminal, writer, &mut teller(rt));
             drop(query);
             told
         }
         Task::List { list } => looking::list(rt, desk, list, writer),
         Task::Page { release } => page(alloc, desk, release, writer, &mut teller(rt)),
-        Task::Choices { release } => {
-            looking::choices(rt, desk, release, writer, &mut teller(rt))
-        }
+        Task::Choices { release } => choices(alloc, desk, release, writer, &mut teller(rt)),
         Task::Proposals { document } => {
             looking::proposals(rt, desk, document, writer, &mut teller(rt))
         }
         Task::Wanting { release } => {
-            looking::wanting(rt, desk, release, writer, &mut teller(rt))
+            wanting(
+                alloc,
+                desk,
+                release,
+                writer,
+                &mut teller(rt),
+                &mut rt.stderr(),
+            )
         }
         Task::Serve { port, limit } => serving::serve(rt, alloc, desk, port, limit),
     }
@@ -441,6 +456,30 @@ fn load(rt: &HostRuntime, path: &str, catalogue: &str) -> Result<u8, Failure> {
     }
 }
 
+/// Lets the desk that a file keeps answer a request. The text of an import or of a catalogue may be
+/// in a file.
+fn request(rt: &HostRuntime, path: &str, request: Request) -> Result<u8, Failure> {
+    let told = match source_of(&request) {
+        Some(Source::Document(document, profile)) => import(rt, path, document, profile),
+        Some(Source::Catalogue(catalogue)) => load(rt, path, catalogue),
+        None => return do_in(rt, path, Task::Answer { request }),
+    };
+    drop(request);
+    told
+}
+
+/// Lets the desk that a file keeps answer the request that words spell.
+fn spoken(rt: &HostRuntime, path: &str, verb: Verb, words: &[Text]) -> Result<u8, Failure> {
+    match read_words(rt.alloc(), verb, words) {
+        Ok(asked) => request(rt, path, asked),
+        Err(WordsTrouble::Memory) => Err(Failure::from(AllocError)),
+        Err(trouble) => {
+            eprintln!(rt; "error: {trouble}")?;
+            Ok(USAGE)
+        }
+    }
+}
+
 /// Does what is asked of the desk that a file keeps, or of the file.
 pub fn answer(rt: &HostRuntime, path: &str, call: &FileCall) -> Result<u8, Failure> {
     let task = match call {
@@ -448,6 +487,8 @@ pub fn answer(rt: &HostRuntime, path: &str, call: &FileCall) -> Result<u8, Failu
             return import(rt, path, document.as_str(), *profile);
         }
         FileCall::Catalogue { catalogue } => return load(rt, path, catalogue.as_str()),
+        FileCall::Do { words } => return spoken(rt, path, Verb::Do, words.as_slice()),
+        FileCall::Ask { words } => return spoken(rt, path, Verb::Ask, words.as_slice()),
         FileCall::Audit => return work_in(rt, path, Work::Audit),
         FileCall::Migrate => return migrate(rt, path),
         FileCall::Notices { release } => Task::from(Query::Bill {

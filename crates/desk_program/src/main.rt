@@ -22,7 +22,7 @@ use desk_base::{Profile, Text};
 use desk_core::desk::MemDesk;
 use desk_explain::TABLES;
 use desk_line::{Call, LineFault, line};
-use desk_subcommands::{Failure, alternatives, tell_blanks};
+use desk_subcommands::{Failure, Title, alternatives, tell_blanks};
 use desk_texts::Standard;
 use desk_tree_files::files_of;
 use std::alloc::{AllocError, Global};
@@ -31,7 +31,8 @@ use std::mem::ManuallyDrop;
 use std::process::ExitCode;
 use std::{env, io};
 
-const USAGE: u8 = 2;
+/// The status of words that are no command line.
+pub(crate) const USAGE: u8 = 2;
 
 /// Does what the words ask for, and returns the status. If standard error is a terminal, progress
 /// is reported there.
@@ -125,12 +126,16 @@ fn gather(
     is_watched: bool,
 ) -> Result<u8, Failure> {
     let files = files_of(rt, folder.as_str(), is_watched)?;
+    let title = Title {
+        name: name.as_str(),
+        namespace: namespace.as_str(),
+        created: created.as_str(),
+    };
     let gathered = desk_subcommands::gather(
         rt.alloc(),
         files,
-        name.as_str(),
-        namespace.as_str(),
-        created.as_str(),
+        &title,
+        rt.stdout().is_terminal(),
         &mut io::writer(rt),
         &mut rt.stderr(),
     );

@@ -255,7 +255,7 @@ pub(crate) fn withdraw<S: Alter>(
     clear(alloc, tx, release, changes)
 }
 
-/// Writes a change, once what it replaces has been dropped.
+/// Writes a change. What it replaces is dropped first.
 pub(crate) fn make<S: Alter>(
     alloc: Global,
     tx: &mut Transaction<'_, S>,

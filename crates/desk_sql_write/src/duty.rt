@@ -75,6 +75,7 @@ impl AddedInEights for DutyRow {
     }
 }
 
+/// The values of a change, in the order of its columns.
 fn change_values<'a>(row: &'a ChangeRow) -> [ValueRef<'a>; 5]
     ensures { bound result ≡ change_cells row.now }
 {

@@ -4,3 +4,4 @@ pub mod OneAnswer
 pub mod ListingLemmas
 pub mod FilingLemmas
 pub mod ConvertingLemmas
+pub mod OutputLemmas

@@ -2,7 +2,7 @@
 use Rattle.std.specs.Prelude.{◌≡◌, ℕ, List}
 use Rattle.std.specs.String.{string_bytes}
 use Rattle.desk_model.specs.declared.command.Fault.{Fault}
-use Rattle.desk_script.specs.declared.serving.ScriptFault.{ScriptFault}
+use Rattle.desk_script.specs.declared.serving.ScriptStop.{ScriptStop}
 use Rattle.desk_subcommands.specs.declared.failure.Failure.{Failure}
 use Rattle.desk_subcommands.specs.declared.failure.Failure.TheVariants.{Memory, Write, Script}
 use Rattle.desk_subcommands.specs.declared.failure.Failure.TheVariants.{Failed, Request, BadValue}
@@ -34,7 +34,7 @@ failure_status _ = 3
 
 -- what holds if a script stopped by a fault, which the failure reports, and what if this many of
 -- its requests failed; it has no other failure
-abbrev pub OfScript : (ScriptFault → Type 0) → (ℕ → Type 0) → Failure → Type 0
+abbrev pub OfScript : (ScriptStop → Type 0) → (ℕ → Type 0) → Failure → Type 0
 OfScript stopped failed (Script fault) = stopped fault
 OfScript stopped failed (Failed count) = failed count
 OfScript stopped failed _ = ⊥

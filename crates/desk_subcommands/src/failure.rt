@@ -2,7 +2,7 @@
 
 use crate::trouble::{PortTrouble, Trouble};
 use desk_model::Fault;
-use desk_script::ScriptFault;
+use desk_script::ScriptStop;
 use desk_tree_files::TreeFault;
 use std::alloc::AllocError;
 use std::io;
@@ -17,13 +17,13 @@ pub enum Failure {
     Write(io::Error),
     /// A script stopped before its end.
     #[error("the script stopped: {0}")]
-    Script(ScriptFault),
+    Script(ScriptStop),
     /// This many requests of a script failed.
     #[error("requests that failed: {0}")]
     Failed(u64),
     /// A desk failed at a command. During the run its rows are as they were; the file may have the
     /// rows after the command.
-    #[error("the request failed: {0}; it was done whole or not at all, so look before you send it again")]
+    #[error("the request failed: {0}; it was applied fully or not at all: check before you send it again")]
     Request(Fault),
     /// A file can't be read: its path, and why.
     #[error("cannot read {0:?}: {1}")]

@@ -52,7 +52,8 @@ fn status_of(answer: &Answer) -> u8
     }
 }
 
-pub(crate) fn write_line<W: Write>(writer: &mut W, text: &str) -> Result<(), Failure>
+/// Writes a text as a line.
+pub fn write_line<W: Write>(writer: &mut W, text: &str) -> Result<(), Failure>
     ensures ok { OnOk result
         (Appends (W.contents writer.old) (W.contents writer.new) (text.now ++ 10 ∷ [])) }
     ensures err { IfErr result IsOfOutput }

@@ -43,9 +43,10 @@ pub use converting::convert;
 pub use explaining::Explainer;
 pub use failure::Failure;
 pub use filing::{
-    NoDesk, catalogue, import, refuse_catalogue, refuse_database, tell, text_of, write_text,
+    NoDesk, catalogue, import, refuse_catalogue, refuse_database, tell, text_of, write_line,
+    write_text,
 };
-pub use gathering::gather;
+pub use gathering::{Title, gather};
 pub use linting::{lint, tell_blanks};
 pub use listing::alternatives;
 pub use meaning::explain;

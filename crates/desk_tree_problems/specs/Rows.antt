@@ -113,7 +113,7 @@ path_words path =
 -- the row of a flaw, if the text of a tag stops with this fault
 abbrev pub flaw_row : Flaw → Option ParseFault → Row
 flaw_row TooManyFiles stop = plain_row kind.TooManyFiles (codes ".")
-    (codes "more than 10,000 files: take away what isn't of the source")
+    (codes "more than 10,000 files: remove files that are not part of the source")
 flaw_row (BadPath path) stop = plain_row kind.BadPath path (path_words path)
 flaw_row (TwicePath path) stop = plain_row kind.TwicePath path
     (codes "a path that stands twice: keep one of the files")

@@ -145,7 +145,7 @@ pub fn flaw_row(alloc: Global, flaw: &Flaw) -> Result<Row, AllocError>
             alloc,
             Kind::TooManyFiles,
             ".",
-            "more than 10,000 files: take away what isn't of the source",
+            "more than 10,000 files: remove files that are not part of the source",
         ),
         Flaw::BadPath(path) => {
             let path = path.as_str();

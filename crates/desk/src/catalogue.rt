@@ -1,0 +1,3 @@
+//! Catalogues of duties (TOML).
+
+pub use desk_catalogue::{CatFault, Catalogue, LicenceText};

@@ -1,0 +1,3 @@
+//! Answers as texts: notices, the table of duties, totals and changes.
+
+pub use desk_report::{changes_text, duties_csv, notices, totals_text};
