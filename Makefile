@@ -7,6 +7,8 @@ PREFIX = /usr/local
 DESTDIR =
 ARGS = check MIT mit
 CRATES =
+JOBS =
+MAINTAINER =
 MINUTES = 10
 SEED = 1
 TIMES = 1000
@@ -15,8 +17,13 @@ program = crates/desk_program
 
 all: build
 
+# Says if the toolchain isn't the one that README.md names: another kit may refuse what that one proved.
+kit:
+	@kit=$$(rt version 2>/dev/null) && grep -qF "$$kit" README.md \
+	    || echo "Note: README.md names the kit that proved this state; here is $${kit:-none, since there is no rt}."
+
 # Only a proved program is built. With no change since the last build this takes seconds.
-build:
+build: kit
 	@echo 'Building build/desk: each crate is proved first. Minutes the first time, then seconds.'
 	@mkdir -p build
 	@rm -f build/is-built
@@ -42,7 +49,7 @@ needs:
 
 # The merge gate: quick checks of texts, every proof, and then the cases, stops, large inputs, refused allocations and hostile inputs on the
 # built program.
-test: needs
+test: needs kit
 	@python3 tests/gate.py
 
 # The acceptance cases alone.
@@ -52,6 +59,10 @@ acceptance: needs build
 # The scripts among them over files, in one run each and in three.
 database: needs build
 	@python3 tests/database.py build/desk
+
+# The requests of dialogues, given in words.
+words: needs build
+	@python3 tests/words.py build/desk
 
 # What an audit says of files of desks, and of files that others wrote.
 auditing: needs build
@@ -109,10 +120,11 @@ soak: needs build
 cost: needs build
 	@python3 tests/hostile/cost.py build/desk
 
-# Edits that the prover must refuse, all of some crates: make edits CRATES='desk_expr'. Records the crates whose edits were all refused.
+# Edits that the prover must refuse: those that no record has as refused yet, of some crates with CRATES='desk_expr', as many at a time as JOBS
+# says, or as there are processors. It gives way to other work, writes the records as it goes, and takes up where it was.
 edits:
-	@echo 'Trying edits that turn a meaning: minutes for each crate.'
-	@python3 tests/edits.py $(CRATES)
+	@echo 'Trying edits that turn a meaning: minutes for each crate, hours for all.'
+	@RT_JOBS=$(JOBS) nice -n 19 python3 tests/edits.py $(CRATES)
 
 # Runs the program with no proof: make try ARGS='check MIT mit'
 try:
@@ -120,7 +132,7 @@ try:
 	@cd $(program) && rt try -- $(ARGS)
 
 # Times the program, beside another one, its scripts, by the rows that a desk holds, in a file beside the library of SQLite, over HTTP,
-# audits, notices and tables, on trees, the reading of documents, and patterns of paths.
+# audits, notices, tables, lists and pages, on trees, the reading of documents, those in JSON too, and patterns of paths.
 bench: build
 	@echo 'Building the programs that only the benches run.'
 	@sh bench/programs/build.sh documents bom globs texts sqlite toml
@@ -135,6 +147,7 @@ bench: build
 	@python3 bench/trees.py build/desk
 	@python3 bench/documents.py build/bench/documents build/documents
 	@python3 bench/import.py build/desk build/bench/documents build/scripts
+	@python3 bench/convert.py build/desk build/documents
 	@python3 bench/bom.py build/bench/bom build/bom
 	@python3 bench/globs.py build/bench/globs
 	@python3 bench/texts.py build/bench/texts build/texts
@@ -149,7 +162,15 @@ install: build
 	cp build/desk $(DESTDIR)$(PREFIX)/bin/desk
 	sh manual/manual.sh build/desk $(DESTDIR)$(PREFIX)/share
 
+# An archive of the program that `make test` proved and tested, by its record build/proved, with its pages: build/dist/desk-VERSION-linux-x86_64.tar.gz.
+dist:
+	@sh packaging/dist.sh
+
+# The same as a Debian package, which lintian has no error for; its maintainer is MAINTAINER='NAME <ADDRESS>'. It needs dpkg-deb.
+deb:
+	@MAINTAINER="$(MAINTAINER)" sh packaging/deb.sh
+
 clean:
 	rm -rf build
 
-.PHONY: all build demo needs test acceptance database auditing migrating serving browser units refused lint ample allocations hostile kills soak cost edits try bench manual install clean
+.PHONY: all kit build demo needs test acceptance database words auditing migrating serving browser units refused lint ample allocations hostile kills soak cost edits try bench manual install dist deb clean

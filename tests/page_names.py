@@ -10,7 +10,7 @@ import re
 import shlex
 
 TREE = os.path.dirname(os.path.dirname(os.path.abspath(__file__)))
-TOP = ("bench", "build", "crates", "docs", "examples", "manual", "tests")
+TOP = ("bench", "build", "crates", "docs", "examples", "manual", "packaging", "tests")
 SOURCES = ("crates/*/src", "crates/*/specs", "crates/*/proofs", "tests", "bench")
 ENDS = (".rt", ".antt", ".py", ".sh", ".c", ".dialogue")
 DECLARED = r"\b(?:fn|struct|enum|trait|type|mod|const)\s+(\w+)"
@@ -218,7 +218,7 @@ def command_failures(page, known):
 
 def failures():
     tree, known = Tree(), usages()
-    pages = ["README.md", *sorted(os.path.relpath(path, TREE) for path in glob.glob(os.path.join(TREE, "docs/*.md")))]
+    pages = [*sorted(glob.glob("*.md", root_dir=TREE)), *sorted(os.path.relpath(path, TREE) for path in glob.glob(os.path.join(TREE, "docs/*.md")))]
     for page in pages:
         yield from name_failures(tree, page)
         yield from command_failures(page, known)

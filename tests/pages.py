@@ -22,14 +22,18 @@ HELP = "tests/acceptance/help-of-script/stdout"
 
 # The most words of each page: what has a letter or a digit is a word.
 MOST_WORDS = {
+    "CHANGELOG.md": 600,
+    "CONTRIBUTING.md": 1_100,
     "README.md": 700,
+    "SECURITY.md": 450,
     "docs/ARCHITECTURE.md": 2_070,
     "docs/AUDIT.md": 1_412,
     "docs/CATALOGUE.md": 1_000,
-    "docs/DATABASE.md": 1_050,
+    "docs/COUNSEL.md": 600,
+    "docs/DATABASE.md": 1_150,
     "docs/DECISIONS.md": 3_640,
     "docs/DEFINITIONS.md": 4_750,
-    "docs/EXTENDING.md": 1_500,
+    "docs/EXTENDING.md": 1_200,
     "docs/HOSTILE.md": 1_125,
     "docs/HTTP.md": 1_100,
     "docs/LINT.md": 1_020,
@@ -41,6 +45,9 @@ MOST_WORDS = {
     "docs/TABLES.md": 1_000,
     "docs/TRUST.md": 780,
 }
+
+# The most characters of a line of docs/EXTENDING.md.
+STEP_COLUMNS = 120
 
 failures = []
 
@@ -127,7 +134,7 @@ def check_names():
     faults = rows_of(section(text_of("docs/CATALOGUE.md"), "## Faults"))
     compare("docs/CATALOGUE.md", faults, defined("desk_model", "FaultNumbers", "catalogue_fault_number"))
     requests = text_of("docs/REQUESTS.md")
-    findings = section(requests, "### findings: what in a document isn't as the standard has it")
+    findings = section(requests, "### findings: where a document departs from the standard")
     compare("the kinds of findings", rows_of(findings), defined("desk_model", "FindingKinds", "kind_number"))
     words = re.search(r"^\| 27 \| Full \| the limit: (.*?) \|", first, flags=re.M).group(1)
     listed = {word: word for word in re.findall(r"`(\w+)`", words)}
@@ -252,6 +259,29 @@ def check_words():
             failures.append(f"{page} has {words:,} words, and {most:,} at most")
 
 
+def check_version():
+    """The version is that of VERSION wherever it is written, with the version of the tables where the program says it."""
+    version = text_of("VERSION").rstrip("\n")
+    tables = re.search(r"^schema_version = (\d+)$", text_of("crates/desk_sql_layout/specs/Layout.antt"), flags=re.M).group(1)
+    if not re.fullmatch(r"\d+\.\d+\.\d+", version):
+        failures.append(f"VERSION has {version!r}, and not three numbers")
+    printed = f"{version} (tables {tables})"
+    for path, text in (
+        ("crates/desk_line/src/subcommands.rt", f'const VERSION: &str = "{printed}";'),
+        ("tests/acceptance/version/stdout", f"desk {printed}"),
+        ("CHANGELOG.md", f"## {version}"),
+    ):
+        if not re.search(rf"^{re.escape(text)}( .*)?$", text_of(path), flags=re.M):
+            failures.append(f"{path} has no line {text}")
+
+
+def check_lists():
+    """The steps of docs/EXTENDING.md are one line each, and short."""
+    for line in text_of("docs/EXTENDING.md").splitlines():
+        if len(line) > STEP_COLUMNS:
+            failures.append(f"docs/EXTENDING.md has a line of more than {STEP_COLUMNS} characters: {line[:60]}")
+
+
 def check_tables():
     """The names by which a file that is no desk is told apart are those of the tables that a desk declares, in their order."""
     tables = text_of("crates/desk_sql_adopt/src/forms.rt")
@@ -264,6 +294,8 @@ def check_tables():
 
 def main():
     check_names()
+    check_version()
+    check_lists()
     check_tables()
     check_conditions()
     check_examples()
