@@ -253,6 +253,25 @@ RELEASE = [
     ("no request", b"GET / HTTP/3\r\n\r\n", BAD),
 ]
 
+DONE = b'{"done":true}'
+WITHDRAWN = b'{"at":["withdrawn"],"name":"ReleaseState","refused":13}'
+# The same release, without the questions, and then a duty that is waived up to a day, is opened by that day and by hand, and is withdrawn.
+FROZEN = [row for row in RELEASE if row[0] in ("a catalogue", "a document", "an opening", "an attachment", "a choice", "a freeze")]
+MOVED = [
+    ("a waiver", post(b"/commands", b'{"do":"waive","duty":1,"day":"2025-03-04","text":"w","until":"2025-03-31"}'), DONE),
+    ("its last day", post(b"/commands", b'{"do":"close","day":"2025-03-31"}'), b'{"closed":0}'),
+    ("the day after it", post(b"/commands", b'{"do":"close","day":"2025-04-01"}'), b'{"closed":1}'),
+    ("a waiver for good", post(b"/commands", b'{"do":"waive","duty":1,"day":"2025-04-02","text":"w"}'), DONE),
+    ("a waived duty again", post(b"/commands", b'{"do":"reopen","duty":1,"day":"2025-04-03","text":"r"}'), DONE),
+    ("another waiver", post(b"/commands", b'{"do":"waive","duty":1,"day":"2025-04-04","text":"w","until":"2025-05-31"}'), DONE),
+    ("a withdrawal", post(b"/commands", b'{"do":"withdraw","release":"r1","day":"2025-04-05","text":"x"}'), DONE),
+    ("a withdrawn duty", post(b"/commands", b'{"do":"reopen","duty":1,"day":"2025-04-06","text":"r"}'), WITHDRAWN),
+    ("a day after all", post(b"/commands", b'{"do":"close","day":"2025-06-01"}'), b'{"closed":0}'),
+    ("its totals", get(b"/releases/r1/totals"), b'{"rows":[[1,0,0,0,1]]}'),
+    ("notices of a withdrawn release", get(b"/releases/r1/notices"), WITHDRAWN),
+    ("a table of withdrawn duties", get(b"/releases/r1/duties.csv"), NAMES + b"1,1,SPDXRef-p,mit,MIT,include-text,withdrawn,2025-04-05\n", CSV),
+]
+
 
 def padded(size):
     """A request of so many bytes, all of them its head."""
@@ -406,6 +425,17 @@ def routes(program, tally, room):
         desk.stop()
     told = subprocess.run([program, "script", "--db", path], input=b'{"ask":"changes","duty":1}\n', capture_output=True, timeout=SECONDS, check=False)
     tally.same("the file afterwards", told.stdout, CHANGES + b"\n")
+
+
+def moves(program, tally, room):
+    """A release whose duty is waived, opened and withdrawn."""
+    desk = Served(program, os.path.join(room, "moves"), len(FROZEN) + len(MOVED))
+    try:
+        for name, request, body, *kind in FROZEN + MOVED:
+            tally.same(name, desk.raw(request, ends=False), response(body, *kind))
+        tally.same("how it ends after moves", desk.ended(), (0, b""))
+    finally:
+        desk.stop()
 
 
 def refusal(number, name, *at):
@@ -710,6 +740,7 @@ def main():
     tally = Tally()
     with tempfile.TemporaryDirectory(dir=database.ROOM) as room:
         routes(program, tally, room)
+        moves(program, tally, room)
         refusals(program, tally, room)
         page(program, tally, room)
         slow_peers(program, tally, room)

@@ -7,6 +7,8 @@ that memory. A run over a file isn't forked; it is made anew for each N with its
 - a check or a listing tells its answer with its status, or nothing with status 3 and its words;
 - a text of a desk in a file (notices, the table of duties, totals, changes, a page, a list, what is wanting, choices, proposals) is written
   whole, or not at all with status 3 and its words; or the reply is {"fault":"memory"};
+- an import of a document in JSON replies that the document is new, or in those ways; and the same again finds it there where that was
+  replied, and else there or new;
 - an audit and a migration of a file, behind its opening and once in the midst of that, tell their answer, or nothing but their words; the
   file is as it was, or, migrated, has the rows of a migration whole;
 - a script over a file does so too, and may fail to open or to close it, with its words;
@@ -40,7 +42,9 @@ import serving
 
 BYTES = 16_384
 SHARED = "/dev/shm"
-OVER_A_FILE = ("script-first-release.dialogue",)
+# Scripts that run over a file too: the first one from its first allocation on, others from the first one behind those that open the file.
+OVER_A_FILE = ("script-first-release.dialogue", "script-waived-and-withdrawn.dialogue")
+IMPORTED = "github.json"
 FILES = 100
 MANY = 1_000_000
 # (of the allocations that open a file, one in their midst)
@@ -55,7 +59,8 @@ WANTING = b"error: no memory is left\n"
 NOT_BEGUN = (WANTING, b"error: cannot write: out of memory\n")
 STOPPED = b"error: the script stopped: no memory is left for a line or a reply\n"
 ONE_FAILED = b"error: requests that failed: 1\n"
-NOT_SHOWN = b"error: the request failed: out of memory; it was done whole or not at all, so look before you send it again\n"
+NOT_SHOWN = b"error: the request failed: out of memory; it was applied fully or not at all: check before you send it again\n"
+LEFT_OUT = re.compile(rb"\Aleft out: .*\n")
 UNUSED = re.compile(rb'error: cannot use ".*": .*\n')
 UNREAD = re.compile(rb'error: cannot read ".*": (out of memory|Cannot allocate memory.*)\n')
 
@@ -88,6 +93,11 @@ class Program:
         self.clear()
         done = subprocess.run([self.path, *words], input=text, capture_output=True, env=self.env(refused), cwd=self.folder, check=False)
         return done.stdout, done.returncode, done.stderr, os.path.exists(self.told)
+
+    def again(self, words):
+        """Standard output and the status of a run on the files that the last one left."""
+        done = subprocess.run([self.path, *words], capture_output=True, cwd=self.folder, check=False)
+        return done.stdout, done.returncode
 
     def refusals(self, words, text):
         """Standard output and the status of a run; and of each allocation in it the number, with standard output, the status and standard
@@ -182,6 +192,21 @@ class Shown(Check):
         return status == 3 and stdout in (b"", self.whole[0]) and (stderr in NOT_BEGUN or UNUSED.fullmatch(stderr) is not None)
 
 
+class Import(Shown):
+    """A run that imports a document, and what may be told where memory is wanting. The file is asked behind each."""
+
+    def __init__(self, program, words, text):
+        super().__init__(program, words, text)
+        self.program, self.words = program, words
+
+    def is_right(self, stdout, status, stderr):
+        again = self.program.again(self.words)
+        known = self.whole[0].replace(b"true", b"false")
+        is_kept = again == (known, 0) or stdout != self.whole[0] and again == self.whole
+        # (what of the JSON is left out is told besides the reply)
+        return super().is_right(stdout, status, LEFT_OUT.sub(b"", stderr)) and is_kept
+
+
 class Script:
     """A run of `script`, and what may be told where memory is wanting."""
 
@@ -225,8 +250,8 @@ class Script:
 class Serve:
     """A desk that is served to connections, and what may be told where memory is wanting."""
 
-    def __init__(self, program, requests):
-        self.program, self.requests = program, requests
+    def __init__(self, program, requests, first):
+        self.program, self.requests, self.first = program, requests, first
         self.whole = program.serve(requests)[0]
         self.told, self.rests = set(), {}
 
@@ -251,12 +276,12 @@ class Serve:
         return is_closed and is_reply and not is_get and others == self.whole[:place] + self.whole[place + 1 :]
 
     def untold(self):
-        """The connections that were never told want of memory."""
-        return [place for place in range(len(self.requests)) if place not in self.told]
+        """The connections from the first one on that were never told want of memory."""
+        return [place for place in range(self.first, len(self.requests)) if place not in self.told]
 
 
 KINDS = {"script": Script, "check": Check, "alternatives": Check, "propose": Tree, "gather": Tree, "lint": Tree, "convert": Tree}
-# What is shown of the desk in a file, and of what in it.
+# What is shown of the desk in a file, and of what in it; and of one with a waiver that ends.
 TEXTS = [
     ("notices", "r1"),
     ("duties", "r1"),
@@ -270,10 +295,18 @@ TEXTS = [
     ("list", "documents"),
     ("list", "duties"),
 ]
+OF_WAIVERS = [
+    ("page", "r1"),
+    ("changes", "1"),
+    ("list", "duties", "--release", "r1", "--code", "include-text", "--past", "2025-06-01"),
+    ("list", "duties", "--open"),
+]
 
 
 def kind_of(words):
     """What a run with these words may tell."""
+    if words[0] == "import":
+        return Import
     return Shown if "--db" in words and words[0] != "script" else KINDS[words[0]]
 
 
@@ -308,49 +341,74 @@ def sweep_on_file(program, name, words, text, first=1):
     return refused - first
 
 
+def sweep_case(program, name, words, text):
+    """How many allocations of the run of a case were refused."""
+    if "--db" not in words:
+        return sweep(program, name, words, text)
+    return sweep_on_file(program, name, words, text, 1 if name.startswith(OVER_A_FILE[0]) else first_of_texts(program, words))
+
+
+def first_behind(least, is_met):
+    """The first number that doesn't meet this, behind those from the least one on that do."""
+    most = MANY
+    while least < most:
+        middle = (least + most) // 2
+        least, most = (middle + 1, most) if is_met(middle) else (least, middle)
+    return least
+
+
+def is_opening(program, words, number):
+    """Whether the file isn't opened where this allocation is refused."""
+    return UNUSED.fullmatch(program.run(words, b"", number)[2]) is not None
+
+
 def first_of_texts(program, words):
     """The first allocation behind those that open the desk's file. Scripts over a file make the same ones."""
-    least, most = OPENING, MANY
-    while least < most:
-        middle = (least + most) // 2
-        if UNUSED.fullmatch(program.run(words, b"", middle)[2]):
-            least = middle + 1
-        else:
-            most = middle
-    if least == OPENING:
+    first = first_behind(OPENING, lambda number: is_opening(program, words, number))
+    if first == OPENING:
         sys.exit(f"{words[0]}: the file is opened by fewer allocations than {OPENING}")
-    return least
+    return first
 
 
-def first_of_connections(program):
-    """The first allocation behind those that a desk makes until it listens. Scripts over a file make the same ones."""
-    least, most = 1, MANY
-    while least < most:
-        middle = (least + most) // 2
-        if program.serve([], middle)[0] is None:
-            least = middle + 1
-        else:
-            most = middle
-    return least
+def sweep_import(program, words):
+    """How many allocations of an import were refused, but for all but one of those that open the file."""
+    run, number, count = kind_of(words)(program, words, b""), 0, 0
+    while True:
+        number += 1
+        stdout, status, stderr, was_refused = program.run(words, b"", number)
+        if not was_refused:
+            return count
+        if not run.is_right(stdout, status, stderr):
+            sys.exit(f"import: allocation {number}: status {status}, {stdout[-200:]!r}, {stderr[:200]!r}")
+        count += 1
+        if number < OPENING and UNUSED.fullmatch(stderr):
+            number = first_behind(number + OPENING // 2, lambda at: is_opening(program, words, at)) - 1
 
 
-def sweep_connections(program):
-    """How many allocations of a desk that is served were refused, from the first connection on."""
-    requests = [request for _, request, *_ in serving.RELEASE]
-    run = Serve(program, requests)
-    wanted = [serving.response(*reply) for _, _, *reply in serving.RELEASE]
+def is_begun(program, requests, number):
+    """Whether a desk makes this allocation until it listens or, if there are requests, until it ends behind them."""
+    replies, _, _, was_refused = program.serve(requests, number)
+    return was_refused if requests else replies is None
+
+
+def sweep_connections(program, name, before, rows):
+    """How many allocations of a desk that is served were refused, from the first connection behind those before it on."""
+    begun, requests = ([request for _, request, *_ in some] for some in (before, before + rows))
+    run = Serve(program, requests, len(before))
+    wanted = [serving.response(*reply) for _, _, *reply in before + rows]
     if run.whole != wanted:
-        sys.exit("connections: other replies, with memory")
-    refused = first = first_of_connections(program)
+        sys.exit(f"{name}: other replies, with memory")
+    # (the last ones close the file)
+    refused = first = first_behind(1, lambda number: is_begun(program, begun, number)) - (REFUSING if before else 0)
     while True:
         replies, status, stderr, was_refused = program.serve(requests, refused)
         if not was_refused:
             break
         if not run.is_right(replies, status, stderr):
-            sys.exit(f"connections: allocation {refused}: status {status}, {replies!r:.400}, {stderr[:200]!r}")
+            sys.exit(f"{name}: allocation {refused}: status {status}, {replies!r:.400}, {stderr[:200]!r}")
         refused += 1
     if run.untold():
-        sys.exit(f"connections: no want of memory was told for the requests {run.untold()}")
+        sys.exit(f"{name}: no want of memory was told for the requests {run.untold()}")
     return refused - first
 
 
@@ -398,11 +456,7 @@ class OnFile:
 
     def allocations(self):
         """How many allocations the run makes."""
-        least, most = 0, MANY
-        while least < most:
-            middle = (least + most + 1) // 2
-            least, most = (middle, most) if self.run(middle)[3] else (least, middle - 1)
-        return least
+        return first_behind(1, lambda number: self.run(number)[3]) - 1
 
 
 def executed(program, data, text):
@@ -452,11 +506,14 @@ def sweep_files(program):
 
 
 def texts(program):
-    """The words of each text of the first release, which is made in a file."""
+    """The words of each text of the first release, which is made in a file, and of a release with a waiver."""
     with open(os.path.join(HERE, "../../examples/first-release/script.jsonl"), "rb") as file:
         program.run(["script", "--db", "office"], file.read())
-    for word, of in TEXTS:
-        yield [word, "--db", "office", of]
+    requests = dialogue.read(os.path.join(CASES, OVER_A_FILE[1]))[0]
+    program.run(["script", "--db", "waivers"], requests.partition(b'{"do":"withdraw"')[0])
+    for office, asked in (("office", TEXTS), ("waivers", OF_WAIVERS)):
+        for word, *of in asked:
+            yield [word, "--db", office, *of]
 
 
 def words_of(path):
@@ -508,13 +565,16 @@ def main():
             words = program.stand_in(data, script) or words
             if program.files() > FILES:
                 continue
-            swept, runs = swept + 1, runs + (sweep_on_file if "--db" in words else sweep)(program, name, words, text)
+            swept, runs = swept + 1, runs + sweep_case(program, name, words, text)
+        program.stand_in(CONVERTED, None)
+        swept, runs = swept + 1, runs + sweep_import(program, ["import", "--db", "desk.db", IMPORTED])
         program.stand_in(None, None)
         for words in texts(program):
             swept, runs = swept + 1, runs + sweep_on_file(program, words[0], words, b"", first_of_texts(program, words))
         for count in sweep_files(program):
             swept, runs = swept + 1, runs + count
-        swept, runs = swept + 1, runs + sweep_connections(program)
+        for name, before, rows in (("connections", [], serving.RELEASE), ("connections of a withdrawal", serving.FROZEN, serving.MOVED)):
+            swept, runs = swept + 1, runs + sweep_connections(program, name, before, rows)
         if swept == 0 or runs == 0:
             sys.exit("nothing was swept")
         print(f"{swept} runs of the program, each of their {runs} allocations refused in turn: passed")

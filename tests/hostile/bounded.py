@@ -16,9 +16,14 @@ import tempfile
 sys.path.insert(0, os.path.dirname(os.path.abspath(__file__)))
 sys.dont_write_bytecode = True
 
-from slow_inputs import DEEP, NAMING, licensing, line, nested_headers, write
+from slow_inputs import DEEP, HEAD, NAMING, licensing, line, nested_headers, write
 
 BOUND, SECONDS = 400_000_000, 60
+# How near the least bound is found, and how much more than in proportion is allowed.
+NEAR, SLACK = 1 << 17, 1.25
+# What can't be written has ended within these seconds.
+AT_ONCE = 10
+FEWEST, FEW, MANY = 50, 100, 400
 SMALL = 'forms = ["binary"]\n'
 NO_MEMORY = '{"fault":"memory"}'
 
@@ -46,6 +51,28 @@ class Bounded:
         """How many bytes it writes, and how it ends."""
         process = subprocess.Popen([self.program, *words], cwd=self.room, stdout=subprocess.PIPE, preexec_fn=bounded)
         return length_of(process.stdout), process.wait(timeout=SECONDS)
+
+    def is_whole(self, bound, words, whole):
+        """Whether it writes this text where it may take so much."""
+        limit = lambda: resource.setrlimit(resource.RLIMIT_AS, (bound, bound))
+        done = subprocess.run([self.program, *words], cwd=self.room, capture_output=True, preexec_fn=limit, timeout=SECONDS, check=False)
+        return (done.stdout, done.returncode) == (whole, 0)
+
+    def least(self, words, whole):
+        """The least bound, or a little more, under which it writes this text."""
+        least, most = 0, BOUND
+        while most - least > NEAR:
+            middle = (least + most) // 2
+            least, most = (least, middle) if self.is_whole(middle, words, whole) else (middle, most)
+        return most
+
+    def fails_at_once(self, words, out):
+        """Whether it ends with status 3 where its output can't be written, and soon."""
+        try:
+            done = subprocess.run([self.program, *words], cwd=self.room, stdout=out, stderr=subprocess.PIPE, timeout=AT_ONCE, check=False)
+        except subprocess.TimeoutExpired:
+            return False
+        return done.returncode == 3
 
     def serve(self, requests):
         """The statuses and the bodies of requests to a desk that is served, and how it ends."""
@@ -118,11 +145,55 @@ def reports(desk):
     yield "the same as JSON", desk.measure("lint", "deep", "--json") == (items + len('{"covered":1,"problems":[]}\n'), 1)
 
 
+def many_packages(count):
+    """A release of so many packages, each with a text of its own; and its notices."""
+    text = "".join(f"A text of {place}.\n" for place in range(250))
+    document = HEAD + "".join(
+        f"PackageName: p{n}\nSPDXID: SPDXRef-{n:03}\nPackageLicenseConcluded: LicenseRef-{n}\nPackageCopyrightText: <text>(c) {n}</text>\n"
+        f"LicenseID: LicenseRef-{n}\nExtractedText: <text>{n}\n{text}</text>\n" for n in range(count))
+    requests = line(do="catalogue", text=SMALL + '[[rule]]\nterm = "MIT"\nform = "binary"\nduties = []\n') + line(do="import", text=document)
+    requests += line(do="open", release="r1", form="binary") + line(do="attach", release="r1", document=1)
+    for n in range(count):
+        requests += line(do="adopt", document=1, reference=f"LicenseRef-{n}", licence="MIT")
+        requests += line(do="choose", release="r1", document=1, package=f"SPDXRef-{n:03}", terms=[f"LicenseRef-{n}"])
+    told = "Notices for r1 (binary)\n" + "".join(f"\np{n}\nLicence: MIT\nCopyright: (c) {n}\n" for n in range(count))
+    return requests + line(do="freeze", release="r1", day="2025-03-03"), told + "".join(f"\n---- LicenseRef-{n} ----\n{n}\n{text}" for n in range(count))
+
+
+def releases(desk):
+    """Notices and pages of releases of more and more packages."""
+    least = {}
+    for count in (FEWEST, FEW, MANY):
+        requests, notices = many_packages(count)
+        yield f"a release of {count} packages", desk.run("script", "--db", f"{count}.db", text=requests).returncode == 0
+        page = subprocess.run([desk.program, "page", "--db", f"{count}.db", "r1"], cwd=desk.room, capture_output=True, check=False).stdout
+        yield f"a page of {count} packages", page.count(b"<article>") == count
+        for word, whole in (("notices", notices.encode()), ("page", page)):
+            words = [word, "--db", f"{count}.db", "r1"]
+            if count < MANY:
+                least[word, count] = desk.least(words, whole)
+                continue
+            each = (least[word, FEW] - least[word, FEWEST]) / (FEW - FEWEST)
+            yield f"{word} of {count} packages", desk.is_whole(int(least[word, FEW] + SLACK * each * (MANY - FEW)), words, whole)
+
+
+def outputs(desk):
+    """A text that can't be written isn't tried again and again."""
+    for words in (["notices", "r1"], ["page", "r1"], ["list", "documents"]):
+        words = [words[0], "--db", f"{MANY}.db", *words[1:]]
+        with open("/dev/full", "wb") as full:
+            yield f"{words[0]} to a full device", desk.fails_at_once(words, full)
+        ours, its = os.pipe()
+        os.close(ours)
+        yield f"{words[0]} to a pipe that nobody reads", desk.fails_at_once(words, its)
+        os.close(its)
+
+
 def main():
     passed, failed = 0, []
     with tempfile.TemporaryDirectory() as room:
         desk = Bounded(sys.argv[1], room)
-        for cases in (scripts, files, connections, trees, reports):
+        for cases in (scripts, files, connections, trees, reports, releases, outputs):
             for name, is_right in cases(desk):
                 passed += is_right
                 failed += [] if is_right else [name]

@@ -1,8 +1,5 @@
 """Connections to `desk serve`: requests by grammar and by change, whole, cut short, or in pieces, a session of them on one desk in a file."""
 
-import csv
-import io
-import json
 import os
 import random
 import socket
@@ -14,6 +11,7 @@ import mutations
 import offices
 import running
 import second_desk
+import second_views
 import serving
 
 NAME, SIZE = "connections", 500
@@ -111,28 +109,19 @@ def sent(port, pieces):
         return serving.received(peer)
 
 
-def are_notices(reply):
-    is_text = reply.startswith(b"HTTP/1.1 200 OK\r\nContent-Type: text/plain; charset=utf-8\r\n") and b"\r\n\r\nNotices for " in reply
-    return None if is_text else "no notices"
-
-
 def of_text(desk, question):
     """The response to the question for a text."""
-    release = desk.releases.get(question["release"])
-    if release is None:
-        return serving.response(serving.NO_RELEASE)
-    if question["ask"] == "csv":
-        told = desk.answer({"ask": "duties", "release": question["release"]})
-        out = io.StringIO()
-        csv.writer(out, lineterminator="\n").writerows([serving.NAMES.decode().strip().split(","), *json.loads(told)["rows"]])
-        return serving.response(out.getvalue().encode(), serving.CSV)
-    if release.state != "frozen":
-        return serving.response(second_desk.shown({"at": [release.state], "name": "ReleaseState", "refused": 13}))
-    return are_notices
+    try:
+        if question["ask"] == "csv":
+            table = second_views.duties(desk, question["release"])
+            return serving.response("".join(map(second_views.record, table)).encode(), serving.CSV)
+        return serving.response(second_views.notices(desk, question["release"]).encode(), serving.PLAIN)
+    except second_desk.Refused as refused:
+        return serving.response(second_desk.shown(refused.told))
 
 
 def answered(desk, asked):
-    """The response to a request, or a judge of it."""
+    """The response to a request."""
     request = http_read.request_of(asked)
     if request == "catalogue":
         return serving.response(b'{"at":[1],"name":"BadCatalogue","refused":1}')
@@ -140,17 +129,10 @@ def answered(desk, asked):
         return serving.response(second_desk.shown({"fault": request}))
     if request.get("ask") in ("notices", "csv"):
         return of_text(desk, request)
-    told = desk.answer(request)
-    if callable(told):
-        return lambda reply: told(reply.partition(b"\r\n\r\n")[2]) if reply.startswith(b"HTTP/1.1 200 OK\r\n") else "no findings"
-    return serving.response(told)
+    return serving.response(desk.answer(request))
 
 
 REFUSED = serving.response(serving.BAD)
-
-
-def fits(told, wanted):
-    return not wanted(told) if callable(wanted) else told == wanted
 
 
 def wrong(desk, port, pieces, told):
@@ -167,7 +149,7 @@ def wrong(desk, port, pieces, told):
         wanted = serving.response(serving.BAD, status=asked.status)
     else:
         wanted = answered(desk, asked)
-    return None if fits(told, wanted) else f"{told!r:.400}, and not {wanted!r:.400}"
+    return None if told == wanted else f"{told!r:.400}, and not {wanted!r:.400}"
 
 
 def begun(program, path):

@@ -1,11 +1,13 @@
 """Documents by grammar and by change: each is imported, and asked what it ships and what its findings are."""
 
 import collections
+import hashlib
 import json
 import os
 import random
 import tempfile
 
+import json_read
 import mutations
 import oracle
 import running
@@ -14,6 +16,8 @@ import second_judge
 import second_lists
 
 NAME, SIZE = "documents", 200
+# The kinds of findings, which so many documents have to have, and how often they had them.
+MEETS, MET = set(second_lists.NAMES.values()), collections.Counter()
 # Every so many inputs `desk import` has the file too, bytes that are no text among them.
 ASKED = 50
 HERE = os.path.join(running.TESTS, "documents")
@@ -24,6 +28,13 @@ TAGS = ["PackageVersion", "PackageDownloadLocation", "FilesAnalyzed", "PackageVe
         "FileChecksum", "LicenseConcluded", "LicenseInfoInFile", "FileCopyrightText", "ExtractedText", "Creator", "PackageComment", "PackageComent", "SPDXVersion"]
 VALUES = ["true", "false", "no", "1.0", "SHA1: " + "0a" * 20, "SHA1: 12", "SHA256: 00", "da39a3ee5e6b4b0d3255bfef95601890afd80709", "NOASSERTION",
           "<text>one\ntwo</text>", "<text></text>", "<text>x", "<text>x</text> y", "MIT", "https://example.org/", ""]
+
+
+# Codes of no file and of one, another one, and what is none; and whether files were analysed.
+CODE_OF_ONE = hashlib.sha1(b"0a" * 20).hexdigest()
+CODES = ["da39a3ee5e6b4b0d3255bfef95601890afd80709", CODE_OF_ONE, CODE_OF_ONE.upper(), CODE_OF_ONE[:-1] + "x", CODE_OF_ONE[:-1], CODE_OF_ONE + "(",
+         "SHA1: " + CODE_OF_ONE, *(f"{CODE_OF_ONE}{names}" for names in (" (excludes: ./f0, f1)", "(f2)", "()", "\t(excludes:f0)", " f0", " (f0) "))]
+FLAGS = ["true", "false", "False", "TRUE", "no", "yes", "<text>false\n</text>"]
 
 
 def fixtures():
@@ -45,7 +56,8 @@ def part(turn, number):
     if kind < 0.4:
         lines = [f"PackageName: p{number}", f"SPDXID: SPDXRef-p{number}", f"PackageLicenseConcluded: {turn.choice(CONCLUSIONS)}"]
     elif kind < 0.55:
-        lines = [f"FileName: ./f{number}", f"SPDXID: SPDXRef-f{number}", f"FileChecksum: {turn.choice(VALUES)}"]
+        digest = turn.choice(VALUES if turn.random() < 0.5 else VALUES[4:5])
+        lines = [f"FileName: ./f{number}", f"SPDXID: SPDXRef-f{number}", f"FileChecksum: {digest}"]
     elif kind < 0.6:
         lines = [f"SnippetSPDXID: SPDXRef-s{number}"]
     elif kind < 0.7:
@@ -54,6 +66,8 @@ def part(turn, number):
         lines = [f"Relationship: {element(turn)} {turn.choice(TYPES)} {element(turn)}"]
     if turn.random() < 0.3:
         lines.insert(turn.randint(1, len(lines)), f"{turn.choice(TAGS)}: {turn.choice(VALUES)}")
+    if lines[0].startswith("PackageName") and turn.random() < 0.3:
+        lines += [f"FilesAnalyzed: {turn.choice(FLAGS)}", f"PackageVerificationCode: {turn.choice(CODES)}"][turn.choice([0, 0, 1]) :]
     return lines
 
 
@@ -144,63 +158,51 @@ def is_licence(text, profile):
     return text.strip(" \t") not in ("", "NONE", "NOASSERTION") and second_judge.tree_of(text.encode(), profile) is not None
 
 
-def told_beside(data, profile, shipped, rows):
-    """What `desk import` says on standard error of a document that ships these packages and has these findings."""
-    packages = [fields for kind, _, fields in second_lists.Sections(data, profile).parts if kind == "package"]
+def told_beside(document, profile):
+    """What `desk import` says on standard error of a document that it took in."""
+    packages = [fields for kind, _, fields in second_lists.Sections(document.data, profile).parts if kind == "package"]
     count, without, declared = 0, 0, 0
     for fields in packages:
         first = {tag: value for _, tag, value in reversed(fields)}
-        if first["SPDXID"] in shipped:
+        if first["SPDXID"] in document.shipped():
             count += 1
             if not is_licence(first.get("PackageLicenseConcluded", ""), profile):
                 without += 1
                 declared += is_licence(first.get("PackageLicenseDeclared", ""), profile)
+    rows = second_lists.findings(document.data, profile)
     kinds = collections.Counter((row[1], row[2]) for row in rows)
     found = "".join(f", {name}: {kinds[number, name]}" for number, name in sorted(kinds))
     told = f"packages: {len(packages)}, shipped: {count}, without a conclusion: {without}, of these with a declared licence: {declared}"
     return f"read by profile {profile}: {told}\nfindings: {len(rows)}{found}\n".encode()
 
 
-def beside_import(program, path, data, profile, desk):
-    """What standard error has to say beside an import, or what is wrong with the findings that are asked for."""
-    if not desk.documents:
-        return b"", None
-    reply = program.run("script", "--db", path, text=b'{"ask":"findings","document":1}\n', size=len(data)).out.removesuffix(b"\n")
-    wrong = desk.answer({"ask": "findings", "document": 1})(reply)
-    return b"" if wrong else told_beside(data, profile, desk.documents[0].shipped(), json.loads(reply)["rows"]), wrong
-
-
-def beside_refusal(data, err):
-    """What `desk import` says beside a refusal: why the bytes are no document in JSON either. If Python reads them as JSON, why is open."""
-    start = b"nor is it a document in JSON: "
-    try:
-        json.loads(data)
-    except (ValueError, RecursionError):
-        return start + b"NotJson\n"
-    return err if err.startswith(start) and err.count(b"\n") == 1 else start
-
-
 def from_a_file(program, data, profile):
     """What `desk import` says of a file, and that its desk is sound behind it."""
     desk = second_desk.SecondDesk()
-    wanted = desk.answer({"do": "import", "text": data, "profile": profile}) + b"\n"
+    text, beside = json_read.taken(data)
+    wanted = desk.answer({"do": "import", "text": text, "profile": profile}) + b"\n"
+    beside += told_beside(desk.documents[0], profile) if desk.documents else b""
     with tempfile.TemporaryDirectory(dir=running.ROOM) as room:
         file, path = os.path.join(room, "document"), os.path.join(room, "desk.db")
         with open(file, "wb") as out:
             out.write(data)
         done = program.run("import", "--db", path, "--profile", str(profile), file, size=len(data))
-        beside, wrong = beside_import(program, path, data, profile, desk)
-        if b"refused" in wanted:
-            beside = beside_refusal(data, done.err)
-        if wrong or (done.status, done.out, done.err) != (int(b"refused" in wanted), wanted, beside):
-            return f"import: {done!r}, and not {wanted!r}, {beside!r}: {wrong}"
+        if (done.status, done.out, done.err) != (int(b"refused" in wanted), wanted, beside):
+            return f"import: {done!r}, and not {wanted!r}, {beside!r}"
         done = program.run("audit", "--db", path, size=len(data))
         return None if (done.status, done.out) == (0, b"sound\n") else f"audit: {done!r}"
+
+
+def count_findings(lines, replies):
+    for line, reply in zip(lines, replies):
+        if b'"ask":"findings"' in line and reply.startswith(b'{"rows"'):
+            MET.update(name for _, _, name in json.loads(reply)["rows"])
 
 
 def differences(program, batch):
     lines, wanted, places = zip(*asked(batch))
     done = program.run("script", text=b"".join(lines))
+    count_findings(lines, running.lines(done.out))
     if running.unlike(done, {0, 1}):
         yield 0, running.unlike(done, {0, 1})
     for at, words in running.compared(lines, running.lines(done.out), wanted):

@@ -25,11 +25,16 @@ import database_files
 import documents
 import expressions
 import folders
+import json_documents
 import lines
+import reports
 import trees_made
 
-KINDS = {kind.NAME: kind for kind in (expressions, documents, catalogues, lines, connections, folders, trees_made, database_files)}
+KINDS = {kind.NAME: kind for kind in (expressions, documents, json_documents, catalogues, lines, reports, connections, folders, trees_made,
+                                      database_files)}
 SHOWN = 10
+# So many inputs of a kind meet what each run of them has to meet.
+ENOUGH = 600
 
 
 def batch_of(kind, seed, number):
@@ -49,6 +54,11 @@ def tried(program, kind, seed, start):
     return len(batch), len(differing)
 
 
+def unmet_of(kind):
+    """What the inputs of a kind have to meet, and didn't."""
+    return sorted(getattr(kind, "MEETS", set()) - set(getattr(kind, "MET", ())))
+
+
 def slice_of(program, kind, seed, is_over):
     """Tries batches until it is over, and prints what was tried."""
     begun, count, differing = time.monotonic(), 0, 0
@@ -59,7 +69,10 @@ def slice_of(program, kind, seed, is_over):
     seconds = time.monotonic() - begun
     told = f"{count:>12,} {kind.NAME:12} {seconds:7.0f} s {count / max(seconds, 0.001):>9,.0f} a second"
     print(f"{told}, {program.runs:>8,} runs, the longest {program.longest:.2f} s, {differing} differ", flush=True)
-    return count, differing
+    unmet = unmet_of(kind) if count >= ENOUGH else []
+    if unmet:
+        print(f"seed {seed}, {kind.NAME}: no input met {', '.join(unmet)}", flush=True)
+    return count, differing + len(unmet)
 
 
 def shown(program, kind, seed, number):

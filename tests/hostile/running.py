@@ -81,13 +81,9 @@ def lines(text):
 
 
 def compared(inputs, replies, wanted):
-    """The places and words of replies that aren't what is wanted. What is wanted may be a function that judges the reply."""
+    """The places and words of replies that aren't what is wanted."""
     if len(replies) != len(wanted):
         yield min(len(replies), len(inputs) - 1), f"{len(replies)} replies to {len(wanted)} requests, the last {replies[-1:]!r:.300}"
     for place, (reply, want) in enumerate(zip(replies, wanted)):
-        if callable(want):
-            found = want(reply)
-            if found:
-                yield place, f"{reply!r:.400}: {found}"
-        elif reply != want:
+        if reply != want:
             yield place, f"{reply!r:.400}, and not {want!r:.400}"

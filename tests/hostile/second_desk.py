@@ -39,19 +39,10 @@ def refuse_if(condition, number, *at):
         raise Refused(number, *at)
 
 
-def of_rows(judge):
-    """A judge of replies that have rows, by a judge of rows."""
-    def judged(reply):
-        told = json.loads(reply)
-        return judge(told["rows"]) if list(told) == ["rows"] else "no rows"
-
-    return judged
-
-
 class Release:
     def __init__(self, name, form):
         self.name, self.form, self.state, self.revision = name, form, "open", 0
-        self.documents, self.choices, self.duties = [], {}, []
+        self.documents, self.choices, self.duties, self.frozen = [], {}, [], []
 
 
 class Document:
@@ -88,18 +79,16 @@ class SecondDesk:
         self.namespaces = {}
 
     def reply(self, line):
-        """The reply to a line, None where it has none or where it isn't known what the reply is."""
+        """The reply to a line, None where it has none."""
         if requests_read.is_blank(line):
             return None
         request = requests_read.request_of(line)
         return shown({"fault": "command"}) if request is None else self.answer(request)
 
     def answer(self, request):
-        """The reply to a request that was read, or a function that says what is wrong with it."""
+        """The reply to a request that was read."""
         kind = request.get("do") or request.get("ask")
         try:
-            if request.get("ask") == "findings":
-                return of_rows(self.ask_findings(request))
             return shown(getattr(self, f"{'do' if 'do' in request else 'ask'}_{kind}")(request))
         except Refused as refused:
             return shown(refused.told)
@@ -235,10 +224,11 @@ class SecondDesk:
         release = self.release(request)
         refuse_if(release.state != "open", 13, release.state)
         refuse_if(not release.documents, 20)
+        frozen = [(number, name, self.owed(release, number, name)) for number, name in self.shipped(release)]
         rows = [
             [number, name, term.decode(), rule.spelled.decode(), code.decode()]
-            for number, name in self.shipped(release)
-            for term, rule in self.owed(release, number, name)
+            for number, name, terms in frozen
+            for term, rule in terms
             for code in rule.codes.split(b" ") if code
         ]
         refuse_if(len(self.duties) + len(rows) > second_judge.DUTIES, 27, "duties")
@@ -246,7 +236,7 @@ class SecondDesk:
         for number, row in enumerate(rows, first):
             self.duties.append(Duty(number, release, row, request["day"]))
             release.duties.append(self.duties[-1])
-        release.state, release.revision = "frozen", len(self.catalogues)
+        release.state, release.revision, release.frozen = "frozen", len(self.catalogues), frozen
         return {"count": len(rows), "first": first}
 
     def moved(self, request):
@@ -297,9 +287,8 @@ class SecondDesk:
         return {"rows": self.duties[request["duty"] - 1].changes}
 
     def ask_findings(self, request):
-        """Findings have a reader of their own."""
         document = self.document(request)
-        return second_lists.findings(document.data, document.profile)
+        return {"rows": second_lists.findings(document.data, document.profile)}
 
     def ask_release(self, request):
         release = self.release(request)

@@ -1,15 +1,14 @@
-"""Lists that a second desk answers with: minimal sets, adopted terms, and the findings of a document.
-
-Of findings it tells those whose rule docs/REQUESTS.md says whole; the others (Misplaced, BadCode, CodeDiffers) are left out of both."""
+"""Lists that a second desk answers with: minimal sets, adopted terms, and the findings of a document (docs/REQUESTS.md)."""
 
 import re
 
 import oracle
+import second_codes
 import second_judge
 
 TERMS, SETS = 128, 64
-NAMES = {1: "UnknownTag", 3: "BadExpression", 4: "BadDigest", 7: "CodeUnwanted", 8: "Dangling", 9: "MissingField", 10: "BadFlag", 11: "UndefinedRef"}
-LEFT_OUT = {2: "Misplaced", 5: "BadCode", 6: "CodeDiffers"}
+NAMES = {1: "UnknownTag", 2: "Misplaced", 3: "BadExpression", 4: "BadDigest", 5: "BadCode", 6: "CodeDiffers", 7: "CodeUnwanted", 8: "Dangling",
+         9: "MissingField", 10: "BadFlag", 11: "UndefinedRef"}
 # The tags of SPDX 2.3, clauses 6 to 13, without the three that it calls deprecated (ArtifactOfProject..).
 TAGS = set("""
 SPDXVersion DataLicense SPDXID DocumentName DocumentNamespace ExternalDocumentRef LicenseListVersion Creator Created
@@ -26,6 +25,13 @@ ReviewComment
 """.split())
 BEGINNINGS = ("Package", "File", "Snippet", "License", "Annotat", "Review", "External", "Relationship", "Creator", "Document", "SPDXREF")
 NAMED = ("document", "package", "file")
+# The sections that have a tag. What describes the document counts in each, and a relationship belongs to each.
+PLACES = {
+    "SPDXID": NAMED, "ExtractedText": ("extracted",),
+    **dict.fromkeys("PackageVersion PackageDownloadLocation FilesAnalyzed PackageVerificationCode PackageLicenseConcluded PackageLicenseDeclared "
+                    "PackageCopyrightText".split(), ("package",)),
+    **dict.fromkeys("FileChecksum LicenseConcluded LicenseInfoInFile FileCopyrightText".split(), ("file",)),
+}
 LICENCES = {"PackageLicenseConcluded": "package", "PackageLicenseDeclared": "package", "LicenseConcluded": "file", "LicenseInfoInFile": "file"}
 
 
@@ -91,6 +97,7 @@ class Sections:
         self.fields = [(kind, *field) for kind, _, fields in self.parts for field in fields]
         self.ids = {value for kind, _, tag, value in self.fields if tag == "SnippetSPDXID" or tag == "SPDXID" and kind in NAMED}
         self.licences = {value for _, _, tag, value in self.fields if tag == "LicenseID"}
+        self.files = second_codes.files_of(self.parts)
 
     def add(self, line, kind):
         self.rows.append([line, kind, NAMES[kind]])
@@ -115,6 +122,8 @@ class Sections:
     def field(self, kind, line, tag, value):
         if tag not in TAGS and not tag.startswith(BEGINNINGS):
             self.add(line, 1)
+        if kind not in PLACES.get(tag, (kind,)):
+            self.add(line, 2)
         if LICENCES.get(tag) == kind:
             self.licence(line, tag, value)
         if tag == "Relationship":
@@ -132,20 +141,31 @@ class Sections:
             self.add(line, 9)
         if kind == "extracted" and "ExtractedText" not in tags:
             self.add(line, 9)
-        values = {tag: value for _, tag, value in fields}
-        if kind == "package" and folded(values.get("FilesAnalyzed", "")) == "false":
-            for at, tag, _ in fields:
-                if tag == "PackageVerificationCode":
-                    self.add(at, 7)
+        if kind == "package":
+            self.code({tag: (at, value) for at, tag, value in fields}, fields)
 
-    def of_document(self):
-        """A field of the document that is in another section may be ignored there: then nothing is said of line 1."""
-        at = {tag: kind for kind, _, tag, _ in self.fields if tag in ("DataLicense", "Creator", "Created")}
-        if any(kind != "document" for kind in at.values()):
-            return False
-        for _ in range(3 - len(at)):
+    def code(self, values, fields):
+        """A package's verification code."""
+        at, value = values.get("PackageVerificationCode", (0, None))
+        if value is None:
+            return
+        if not second_codes.is_code(value):
+            self.add(at, 5)
+        if second_codes.differs(fields, self.files[values["SPDXID"][1]]):
+            self.add(at, 6)
+        if folded(values.get("FilesAnalyzed", (0, ""))[1]) == "false":
+            self.add(at, 7)
+
+    def found(self):
+        """The findings by line and kind."""
+        tags = {tag for _, _, tag, _ in self.fields}
+        for _ in {"DataLicense", "Creator", "Created"} - tags:
             self.add(1, 9)
-        return True
+        for kind, line, fields in self.parts:
+            self.missing(kind, line, fields)
+        for field in self.fields:
+            self.field(*field)
+        return sorted(self.rows)
 
 
 def folded(value):
@@ -158,25 +178,4 @@ def is_sha1(value):
 
 
 def findings(data, profile):
-    """A function that says what is wrong with a reply to the question for the findings of a document, if anything."""
-    sections = Sections(data, profile)
-    is_whole = sections.of_document()
-    for kind, line, fields in sections.parts:
-        sections.missing(kind, line, fields)
-    for field in sections.fields:
-        sections.field(*field)
-    wanted = sorted(sections.rows)
-    last = max((line for _, line, _, _ in sections.fields), default=1)
-
-    def kept(row):
-        return row[1] not in LEFT_OUT and (is_whole or row[:2] != [1, 9])
-
-    def judge(rows):
-        if rows != sorted(rows) or any(not 1 <= row[0] <= last for row in rows):
-            return "the findings aren't by line and kind, or are on no line"
-        if any(row[2] != {**NAMES, **LEFT_OUT}.get(row[1]) for row in rows):
-            return "a kind has another name"
-        told, of_reader = [row for row in rows if kept(row)], [row for row in wanted if kept(row)]
-        return None if told == of_reader else f"and not {of_reader}"
-
-    return judge
+    return Sections(data, profile).found()

@@ -12,7 +12,7 @@ With a call that fails the script goes on or stops: what was replied to is what 
 are those after these, or after the one that failed too where nothing was recorded after it, and a later run serves the desk.
 
 An audit of the file that each script leaves, with each of its reads refused in turn, tells that the file is sound or why it can't be read,
-and leaves the file as it was.
+and leaves the file as it was. So do a page and lists, with each call refused in turn: they are written whole, or not at all with a reason.
 """
 
 import os
@@ -36,6 +36,7 @@ SECTOR = 512
 MIXES = 4
 MEMORY = "/dev/shm"
 STORE = b'{"fault":"store"}\n'
+TEXTS = (["page", "r1"], ["list", "releases"], ["list", "documents"], ["list", "duties", "--release", "r1"])
 
 
 def is_question(request):
@@ -79,12 +80,12 @@ class Desk:
                 file.write(mixed(old, new, turn) if turn else old)
                 file.truncate()
 
-    def run(self, requests, word="script", **disk):
+    def run(self, requests, word="script", of=(), **disk):
         """Standard output, the status, standard error, and whether the call of the disk was met."""
         if os.path.exists(self.told):
             os.remove(self.told)
         env = {"LD_PRELOAD": self.library, "DISK_TOLD": self.told, **{"DISK_" + key.upper(): str(value) for key, value in disk.items()}}
-        done = subprocess.run([self.program, word, "--db", self.file], input=b"".join(requests), capture_output=True,
+        done = subprocess.run([self.program, word, "--db", self.file, *of], input=b"".join(requests), capture_output=True,
                               env=env if disk else {}, timeout=60, check=False)
         return done.stdout.splitlines(keepends=True), done.returncode, done.stderr, os.path.exists(self.told)
 
@@ -212,6 +213,30 @@ class Script:
         self.desk.run(self.requests)
         return self.each(self.audit, calls="read", does="fail")
 
+    def text(self, words, whole, **disk):
+        """Whether there was such a call to refuse in a run that writes a text of what the script leaves."""
+        before = self.desk.tables()
+        told, status, why, was_met = self.desk.run([], word=words[0], of=words[1:], **disk)
+        if not was_met:
+            return False
+        is_told = told in ([], [STORE], whole[0]) and status == 3 and why.startswith(b"error: ")
+        if not (is_told or (told, status, why) == whole) or self.desk.tables() != before:
+            self.fail(disk, f"{words}: status {status}, {told}, {why}")
+        return True
+
+    def texts(self):
+        """How many calls were refused in runs that write a text."""
+        self.desk.clear()
+        self.desk.run(self.requests)
+        count = 0
+        for words in TEXTS:
+            whole = self.desk.run([], word=words[0], of=words[1:])[:3]
+            if not whole[0]:
+                self.fail(words, f"status {whole[1]}, {whole[2]}")
+            for calls in ("read", "write", "sync"):
+                count += self.each(lambda **disk: self.text(words, whole, **disk), calls=calls, does="fail")
+        return count
+
     def each(self, run, **disk):
         """How many calls there were."""
         count = 0
@@ -225,7 +250,7 @@ def main():
         library = os.path.join(room, "disk.so")
         subprocess.run(["cc", "-O2", "-shared", "-fPIC", "-o", library, os.path.join(HERE, "disk.c"), "-ldl"], check=True)
         desk = Desk(os.path.abspath(sys.argv[1]), library, room)
-        stopped, refused, lost, audits = 0, 0, 0, 0
+        stopped, refused, lost, audits, texts = 0, 0, 0, 0, 0
         for name in SCRIPTS:
             script = Script(desk, name)
             stopped += sum(script.each(script.stop, calls=calls, does=does) for calls in ("write", "sync") for does in ("stop", "half", "after"))
@@ -233,10 +258,11 @@ def main():
             refused += script.each(script.refuse, calls="write", does="full")
             lost += sum(script.each(script.lose, mix=mix, calls=calls, does="lose") for mix in range(MIXES + 1) for calls in ("write", "sync"))
             audits += script.audits()
-        if stopped == 0 or refused == 0 or lost == 0 or audits == 0:
+            texts += script.texts()
+        if 0 in (stopped, refused, lost, audits, texts):
             sys.exit("no call of the disk was met")
         print(f"{len(SCRIPTS)} scripts, stopped {stopped} times, refused a call of the disk {refused} times, its disk lost {lost} times,"
-              f" refused {audits} reads of an audit: passed")
+              f" refused {audits} reads of an audit and {texts} calls of texts: passed")
 
 
 if __name__ == "__main__":
