@@ -3,7 +3,8 @@
 The notices of a release of 10,000 packages in 64 documents, whose catalogue has 4 MiB of licence texts, and which has extracted texts too;
 and those of a release with a tenth of all that. Then the table of 100,000 duties, beside Python's csv writer on the same rows. Each is
 had from a process of its own over a file in shared memory; that less the time of a process that asks the same file for hardly anything,
-which is what opening takes; and over HTTP from a desk that is open already. Each time is that on a processor, the least of some runs.
+which is what opening takes; and over HTTP from a desk that is open already. Of the same duties the lists of duties, of releases and of documents, and
+the page of the release, each from a process of its own. Each time is that on a processor, the least of some runs.
 """
 
 import csv
@@ -121,10 +122,10 @@ def filled(program, path, steps):
     desk.end()
 
 
-def ran(program, word, path, release):
+def ran(program, word, path, of):
     """The seconds of a whole process, and what it wrote into a file."""
     with open(path + ".txt", "w+b") as out:
-        process = subprocess.Popen([program, word, "--db", path, release], stdout=out)
+        process = subprocess.Popen([program, word, "--db", path, of], stdout=out)
         _, process.returncode, used = os.wait4(process.pid, 0)
         if process.returncode != 0:
             sys.exit(f"{word}: status {process.returncode}")
@@ -218,13 +219,24 @@ def duties(program, room):
     print(f"the table of {DUTIES:,} duties: {len(text):,} bytes")
     _, (by_python,) = measured(program, path, "duties", text, b"/releases/r/duties.csv", (lambda: by_csv(table), True))
     row("Python's csv writer on the same rows", len(text), by_python)
+    return path
+
+
+def views(program, path):
+    """The lists and the page of the desk with these duties."""
+    for word, of in (("list", "duties"), ("list", "releases"), ("list", "documents"), ("page", "r")):
+        _, text = ran(program, word, path, of)
+        whole, opening = least(text, (lambda: ran(program, word, path, of), True), (lambda: ran(program, "totals", path, "none"), False))
+        print(f"{word} of {of}: {len(text):,} bytes")
+        row("a process of its own", len(text), whole)
+        row("what is left without opening", len(text), whole - opening)
 
 
 def main():
     program = os.path.abspath(sys.argv[1])
     with tempfile.TemporaryDirectory(dir=MEMORY) as room:
         notices(program, room)
-        duties(program, room)
+        views(program, duties(program, room))
 
 
 if __name__ == "__main__":

@@ -107,7 +107,7 @@ if [ -n "$desk" ]; then
 else
     command -v rt >/dev/null || { echo 'This needs rt, the Rattle toolchain.' >&2; exit 1; }
     echo 'This runs the desk WITH NO PROOF: it is compiled and shown, and nothing is checked.'
-    echo '`make` proves each crate and builds the proved program. Compiling, which takes some four minutes ...'
+    echo '`make` proves each crate and builds the proved program. Compiling, which takes four to six minutes ...'
     run_unproved
 fi
 
