@@ -113,7 +113,8 @@ def many(table, count, columns):
 
 
 def forms(path, copy):
-    """Writes one file of a desk's rows after the other. Tells the name of each, and whether its tables are declared as a desk's are."""
+    """Writes one file of a desk's rows after the other. Tells the name of each, and whether its tables are declared as a desk's are,
+    whatever else it has."""
     for name, form in FORMS:
         copy.write(path, **copy.changed(form)).close()
         yield name, False
@@ -121,7 +122,7 @@ def forms(path, copy):
         connection = copy.write(path)
         connection.execute(text)
         connection.close()
-        yield name, False
+        yield name, True
     for pragma in PRAGMAS:
         copy.write(path, [pragma]).close()
         yield pragma, True

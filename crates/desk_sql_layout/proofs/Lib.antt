@@ -1,3 +1,7 @@
+pub mod OneTable
+pub mod OneQuery
+pub mod OneWrite
+pub mod Declared
 pub mod Edits
 pub mod Keeps
 pub mod Orders
@@ -12,6 +16,7 @@ pub mod Counting
 pub mod Apart
 pub mod Ties
 pub mod Selecting
+pub mod Writing
 pub mod Selects
 pub mod Keyed
 pub mod Tests
