@@ -113,8 +113,7 @@ def many(table, count, columns):
 
 
 def forms(path, copy):
-    """Writes one file of a desk's rows after the other. Tells the name of each, and whether its tables are declared as a desk's are,
-    whatever else it has."""
+    """Writes one file of a desk's rows after the other. Tells the name of each, and whether its tables are declared as a desk's are."""
     for name, form in FORMS:
         copy.write(path, **copy.changed(form)).close()
         yield name, False
@@ -122,7 +121,7 @@ def forms(path, copy):
         connection = copy.write(path)
         connection.execute(text)
         connection.close()
-        yield name, True
+        yield name, False
     for pragma in PRAGMAS:
         copy.write(path, [pragma]).close()
         yield pragma, True

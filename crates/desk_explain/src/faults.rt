@@ -148,9 +148,7 @@ pub(crate) const OTHER_FAULTS: [Entry; 9] = [
     Entry {
         name: "NotADesk",
         kind: Kind::OtherFault { place: "--db FILE" },
-        meaning: Some(
-            "a table that is missing or of another form; a foreign key; a trigger or index that could refuse a row",
-        ),
+        meaning: Some("a table, index or view too many, too few or of another form"),
         cause: Some("a database of something else"),
     },
     Entry {

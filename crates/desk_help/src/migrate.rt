@@ -14,7 +14,7 @@ All is done in one transaction, and only where the tables that come of it are so
 and this prints why:
 
   fault: BadVersion   its tables aren't of an older version, or are of none that this knows
-  fault: NotADesk     it has no table that tells a version, or not all tables of that version
+  fault: NotADesk     it has no table that tells a version, or not all tables of that version and no others
   fault: Bad..        its tables wouldn't be sound: desk audit --help has the names",
     after_help: "\
 Copy FILE first: an older desk can't read the tables of this version.

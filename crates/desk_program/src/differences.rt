@@ -1,4 +1,4 @@
-//! Why the tables of a file are not those of a desk.
+//! How the tables of a file differ from those of a desk.
 
 use sqlite_schema::names::same_name;
 use sqlite_schema::schema::{Index, Schema, Table};
@@ -28,21 +28,18 @@ const NAMES: [&str; 16] = [
 /// How the names of SQLite's own indexes begin.
 const OWN: &[u8] = b"sqlite_autoindex_";
 
-/// How many columns an index of a desk's table has at most.
-const MAX_COLUMNS: usize = 8;
-
-/// Why the tables of a file are not those of a desk.
+/// How the tables of a file differ from those of a desk.
 #[derive(Debug, Drop, Error)]
 pub enum Difference {
     #[error("it has no table {0}")]
     Missing(&'static str),
-    #[error("its table {0} has a trigger, or an index that isn't understood")]
-    Bound(&'static str),
-    #[error("its table {0:?} has a foreign key")]
-    ForeignKey(String),
-    #[error("its index {0:?}, on a table of the desk, is UNIQUE or has more than 8 columns")]
+    #[error("it has a table {0:?}, which no desk has")]
+    Further(String),
+    #[error("it has a view, which no desk has")]
+    View,
+    #[error("it has an index {0:?}, which no desk has")]
     Index(String),
-    #[error("one of its tables is made in another way than a desk's")]
+    #[error("one of its tables is made in another way than a desk's, or in another order")]
     Declared,
 }
 
@@ -64,39 +61,20 @@ fn missing(schema: &Schema) -> Option<&'static str> {
     None
 }
 
-// Whether the file has a table of this name that is kept as it is.
-fn is_bound(schema: &Schema, name: &str) -> bool {
-    schema.views.as_slice().iter().any(|view| view.is_bound
-        && same_name(view.name.as_slice(), name.as_bytes()))
-}
-
-fn with_foreign_key(schema: &Schema) -> Option<&Table> {
+fn further(schema: &Schema) -> Option<&Table> {
     for table in schema.tables.as_slice() {
-        if !table.references.is_empty() {
+        if !NAMES.iter().any(|name| has_name(table, name)) {
             return Some(table);
         }
     }
     None
 }
 
-// Whether a tree is that of a desk's table.
-fn is_of_desk(schema: &Schema, tree: u32) -> bool {
-    for table in schema.tables.as_slice() {
-        if table.tree == tree {
-            return NAMES.iter().any(|name| has_name(table, name));
-        }
-    }
-    false
-}
-
-// The first index of a desk's table that doesn't belong to a key and could refuse a row. SQLite
-// names the indexes of keys itself, and they go with their tables.
+// The first index that doesn't belong to a key. SQLite names the indexes of keys itself, and they
+// go with their tables.
 fn index(schema: &Schema) -> Option<&Index> {
     for index in schema.indexes.as_slice() {
-        if !index.name.as_slice().starts_with(OWN)
-            && (index.is_unique || index.columns.len() > MAX_COLUMNS)
-            && is_of_desk(schema, index.table)
-        {
+        if !index.name.as_slice().starts_with(OWN) {
             return Some(index);
         }
     }
@@ -107,16 +85,16 @@ fn name_of(alloc: Global, name: &[u8]) -> Result<String, AllocError> {
     String::from_str(alloc, str::from_utf8(name).unwrap_or("?"))
 }
 
-/// The first reason why a schema doesn't have a desk's tables.
+/// The first difference between a schema and a desk's.
 pub fn first_difference(alloc: Global, schema: &Schema) -> Result<Difference, AllocError> {
     if let Some(name) = missing(schema) {
-        if is_bound(schema, name) {
-            return Ok(Difference::Bound(name));
-        }
         return Ok(Difference::Missing(name));
     }
-    if let Some(table) = with_foreign_key(schema) {
-        return Ok(Difference::ForeignKey(name_of(alloc, table.name.as_slice())?));
+    if let Some(table) = further(schema) {
+        return Ok(Difference::Further(name_of(alloc, table.name.as_slice())?));
+    }
+    if !schema.views.is_empty() {
+        return Ok(Difference::View);
     }
     if let Some(index) = index(schema) {
         return Ok(Difference::Index(name_of(alloc, index.name.as_slice())?));

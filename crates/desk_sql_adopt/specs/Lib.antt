@@ -1,5 +1,4 @@
 pub mod Forms
-pub mod Owned
 pub mod Reading
 pub mod Version
 pub mod Older

@@ -9,7 +9,7 @@ use Rattle.sqlite_schema.specs.declared.schema.Table.{Table}
 use Rattle.sqlite_schema.specs.declared.schema.Schema.{Schema}
 use Rattle.sqlite_schema.specs.Names.{same_name}
 use Rattle.sqlite.specs.State.{State, Shown}
-use Rattle.desk_sql_layout.specs.Desk.{HasDesk}
+use Rattle.desk_sql_layout.specs.Layout.{desk_schema}
 use Rattle.desk_sql_adopt.specs.Reading.{Answers}
 use Rattle.desk_sql_adopt.specs.declared.version.Content.{Content}
 use Rattle.desk_sql_adopt.specs.declared.version.Content.TheVariants.{Desk, OtherVersion, Other}
@@ -49,11 +49,11 @@ ShowsVersion version old new = (rows : List Row) × Shown version_text [] old ne
 abbrev pub TellsNoOther : State → Type 0
 TellsNoOther s = TellsVersion (Some (pos 3)) s ⊎ TellsVersion None s
 
--- What a database is taken for: a desk by its tables, if it gives no other version; a database of
+-- What a database is taken for: a desk by its schema, if it gives no other version; a database of
 -- another version by that alone; and else something else.
 abbrev pub IsContent : State → Content → Type 0
-IsContent s Desk = TellsNoOther s × HasDesk s.now.schema
+IsContent s Desk = TellsNoOther s × (s.now.schema ≡ desk_schema)
 IsContent s (OtherVersion n) = TellsVersion (Some n) s × (n ≢ pos 3)
     × (has_version s.now.schema ≡ true)
 IsContent s Other = (has_version s.now.schema ≡ false)
-    ⊎ (TellsNoOther s × (¬ HasDesk s.now.schema))
+    ⊎ (TellsNoOther s × (s.now.schema ≢ desk_schema))

@@ -1,7 +1,3 @@
-pub mod OneTable
-pub mod OneQuery
-pub mod OneWrite
-pub mod Declared
 pub mod Edits
 pub mod Keeps
 pub mod Orders
@@ -16,7 +12,6 @@ pub mod Counting
 pub mod Apart
 pub mod Ties
 pub mod Selecting
-pub mod Writing
 pub mod Selects
 pub mod Keyed
 pub mod Tests

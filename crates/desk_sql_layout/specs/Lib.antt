@@ -1,5 +1,4 @@
 pub mod Layout
-pub mod Desk
 pub mod Stored
 pub mod Cells
 pub mod Held

@@ -1,7 +1,3 @@
-mod TwoTables
-mod Copying
-mod Declaring
-mod Growing
 mod Gained
 mod Rows
 mod Whole

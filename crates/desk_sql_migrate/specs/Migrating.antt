@@ -1,7 +1,7 @@
 -- What a migration makes of a database, and why it is refused.
 use Rattle.std.specs.Prelude.{◌≡◌, ◌⊎◌, List, IsTrue, Result, Ok, Err}
 use Rattle.sqlite_trees.specs.Tree.{Trees}
-use Rattle.sqlite.specs.Effect.{Database, IsDatabase}
+use Rattle.sqlite.specs.Effect.{Database}
 use Rattle.sqlite.specs.State.{State, HasCleanDisk, KeepsCommit, Survives}
 use Rattle.desk_model.specs.Answers.{IsHistory}
 use Rattle.desk_model.specs.Readings.{Readings}
@@ -15,7 +15,7 @@ use Rattle.desk_beside.specs.Beside.{HasNumbers, IsBeside, report_of}
 use Rattle.desk_beside.specs.declared.beside.Audited.{Audited}
 use Rattle.desk_beside.specs.declared.beside.Audited.TheVariants as audited
 use Rattle.desk_beside.specs.declared.beside.Beside.{Beside}
-use Rattle.desk_sql_adopt.specs.Older.{HasOlder, HoldsOlder, IsOlderContent}
+use Rattle.desk_sql_adopt.specs.Older.{HoldsOlder, IsOlderContent, older_schema}
 use Rattle.desk_sql_adopt.specs.Reading as reading
 use Rattle.desk_sql_adopt.specs.declared.older.OlderVersion.{OlderVersion}
 use Rattle.desk_sql_adopt.specs.declared.older.OlderContent.{OlderContent}
@@ -61,7 +61,7 @@ pub record Prepared (version : OlderVersion) (told : AuditReport) (old new : Sta
   pub inside : IsTrue new.in_transaction
   pub kept : KeepsCommit old new
   pub rows : Becomes version old.now new.now
-  pub report : HasOlder version old.now.schema → IsDatabase old.now → IsReportOn new.now told
+  pub report : old.now.schema ≡ older_schema version → IsReportOn new.now told
 
 abbrev pub Prepares : OlderVersion → State → State → Result AuditReport Fault → Type 0
 Prepares version old new (Ok told) = HasCleanDisk new → IsTrue old.in_transaction
@@ -88,7 +88,7 @@ pub record LeavesMigrated (version : OlderVersion) (old : State) (trees : Trees)
   pub was_open : IsTrue old.is_open
   pub db : Database
   pub rows : Becomes version old.now db
-  pub sound : HasOlder version old.now.schema → IsReportOn db report.Sound
+  pub sound : old.now.schema ≡ older_schema version → IsReportOn db report.Sound
   pub is : trees ≡ db.trees
 
 -- The connection shows what it showed, as far as it still shows anything, although a stop may leave

@@ -17,7 +17,7 @@ use Rattle.desk_model.specs.declared.command.Fault.TheVariants.{Memory, Store}
 use Rattle.desk_model.specs.declared.command.StoreFault.TheVariants.{Database as DatabaseFault}
 use Rattle.desk_access.specs.Seen.{MoreFaults}
 use Rattle.desk_sql_layout.specs.Faults.{fault_by}
-use Rattle.desk_sql_layout.specs.Held.{HasRows, labelled}
+use Rattle.desk_sql_layout.specs.Held.{HasRows}
 use Rattle.desk_sql_layout.specs.Layout.{desk_schema}
 
 -- what a cell can hold: NULL, a number of 32 bits, or at most a hundred million bytes
@@ -60,7 +60,7 @@ LeavesRoom n (Int (pos id)) = id + n < 2 ^ 63
 LeavesRoom n (Int (negsuc id)) = id < 2 ^ 63
 LeavesRoom n _ = Unit {0}
 
--- each table whose rows the database numbers has rowids left for this many more (`labelled` rows)
+-- each table whose rows the database numbers has rowids left for this many more
 pub record HasRoom (n : ℕ) (trees : Trees) : Type 0 where
   pub few : n < 2 ^ 62
   pub room : AllByRecursion (λ t. t.key ≡ None
@@ -80,8 +80,8 @@ IsCaused old new fault = (fault ≡ Memory)
 -- a write used at most this many rowids
 pub record Uses {A : Type 0} (before : A → ℕ → List Row) (many : ℕ) (old new : State) : Type 0 where
   pub is_open : IsTrue old.is_open → IsTrue new.is_open
-  pub room : (a : A) → HasRows (before a) old.now → (n : ℕ)
-      → HasRoom (n + many) (labelled old.now) → HasRoom n (labelled new.now)
+  pub room : (a : A) → HasRows (before a) old.now → (n : ℕ) → HasRoom (n + many) old.now.trees
+      → HasRoom n new.now.trees
 
 module _ {A : Type 0} (before after : A → ℕ → List Row) (many : ℕ) (old new : State) where
   -- if the tables can hold the rows before and after, and there are rowids for as many as are
@@ -89,7 +89,7 @@ module _ {A : Type 0} (before after : A → ℕ → List Row) (many : ℕ) (old 
   pub record FailsFor (fault : Fault) : Type 0 where
     pub cause : HasCleanDisk new → IsTrue old.in_transaction → IsTrue old.is_open
         → old.step_limit ≡ None → (a : A) → HasRows (before a) old.now → CanStand (before a)
-        → CanStand (after a) → HasRoom many (labelled old.now) → IsCaused old new fault
+        → CanStand (after a) → HasRoom many old.now.trees → IsCaused old new fault
 
   abbrev pub FailsOnlyAs : Result (Unit {0}) Fault → Type 0
   FailsOnlyAs (Ok done) = HasCleanDisk new → IsTrue old.in_transaction → Uses before many old new

@@ -8,7 +8,7 @@ ghost use Rattle.desk_model.specs.Readings.{Readings};
 ghost use Rattle.desk_model.specs.Tables.{Tables, tables};
 ghost use Rattle.desk_access.specs.Seen.{Looked, OfRows, Same};
 ghost use Rattle.desk_core.specs.Desks.{InHistory};
-ghost use Rattle.desk_sql_layout.specs.Held.{Holds, Stands, known_of, labelled, seen_of};
+ghost use Rattle.desk_sql_layout.specs.Held.{Holds, Stands, known_of, seen_of};
 ghost use Rattle.desk_sql_layout.specs.Layout.{desk_schema, no_schema};
 ghost use Rattle.desk_tally.specs.Kept.{AreKept};
 ghost use Rattle.desk_texts.specs.Right.{AreRight};
@@ -139,13 +139,12 @@ impl<S: Alter> SqlDesk<S> {
     /// only read.
     ///
     /// It is refused as `BadVersion` if its table `meta` gives a version other than 3, whatever
-    /// else is in it; as `NotADesk` if no table `meta` has a column `version`, or if not all tables of
-    /// a desk are declared as `create` declares them, whatever else is in the database (also if any
-    /// table has a foreign key, or if an index of one of a desk's could refuse a row); and as
-    /// `Unsound` if `audit_connection` finds that its tables aren't sound. After these the connection
-    /// is as it was. The fault is that no memory was left, that the database failed, or that a desk's
-    /// tables gave rows that no desk has: a cell has a value of another kind than its column has in a
-    /// desk, or sound rows have a number below 0.
+    /// else is in it; as `NotADesk` if no table `meta` gives a single version, or if not all tables
+    /// of a desk are declared as `create` declares them, in its order, or if there is a table, an
+    /// index or a view besides them; and as `Unsound` if `audit_connection` finds that its tables
+    /// aren't sound. After these the connection is as it was. The fault is that no memory was left,
+    /// that the database failed, or that a desk's tables gave rows that no desk has: a cell has a
+    /// value of another kind than its column has in a desk, or sound rows have a number below 0.
     ///
     /// The tables of a recorded history are sound, so for them the only error is a fault. Whatever
     /// sound rows the connection shows are the desk's rows, so a refusal or a fault leaves them.
@@ -172,7 +171,7 @@ impl<S: Alter> SqlDesk<S> {
             → IsTrue (state S.Store conn).is_open → IsSoundDesk (state S.Store conn)) }
         ensures some { IfOk result (λ desk. HasCleanDisk (state S.Store desk.desk.store.conn)
             → IsTrue (state S.Store conn).is_open
-            → AreTables desk_schema (labelled (state S.Store conn).now)
+            → AreTables desk_schema (state S.Store conn).now.trees
             → HoldsSome (state S.Store conn) (⟦<SqlDesk<S> as Desk>⟧.seen desk)) }
         ensures reason { IfErr result (λ e. HasCleanDisk (state S.Store e.1)
             → IsReason (state S.Store conn) e.0) }
