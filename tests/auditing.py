@@ -1,10 +1,10 @@
-"""Audits files of desks, sound ones and others: python3 tests/auditing.py PROGRAM [CHANGES]
+"""Audits files of desks, sound and broken: python3 tests/auditing.py PROGRAM [CHANGES]
 
-Each answer is compared with what is known of it, or with that of tests/second_judge.py: after changes by hand, after each condition is
-broken in each of its columns, after two are broken at once, and after so many changes at random (5,000). Files of other programs have to
-be answered within two minutes on the slowest machine, by a condition's name or by status 3. The questions of docs/AUDIT.md have to show the rows that break a
-condition, and none in a sound file. After each audit the file has the bytes that it had. It needs Python 3.11. Ends with status 1 where
-something differs.
+Each answer is compared with what is known about the file, or with the answer of tests/second_judge.py: after changes by hand, after each
+condition is broken in each of its columns, after two are broken at once, and after CHANGES random changes (5,000 by default). Files of
+other programs must be answered within two minutes on the slowest machine, with a condition's name or status 3. The queries of docs/AUDIT.md
+must show the rows that break a condition, and none in a sound file. An audit must not change the bytes of the file. Needs Python 3.11. Ends
+with status 1 if something differs.
 """
 
 import collections
@@ -30,19 +30,24 @@ import second_judge
 PAGE = os.path.join(HERE, "../docs/AUDIT.md")
 NAMES = [name for name, _ in second_judge.CONDITIONS]
 CHANGES = 5_000
-# Every so many changes at random another subcommand is asked too.
+# After this many random changes another subcommand runs too.
 ASKED = 20
-# An audit of a million rows takes some seconds, and ten where little of a machine is free.
+# An audit of a million rows takes some seconds, and ten on a busy machine.
 SECONDS = 120
 SHOWN = 20
-# A file system in memory, where there is one.
+# How a file's tables differ from a desk's and, if its rows may be a desk's, how they are kept.
+DIFFERENCE = (
+    rb'("[^\n]*": it has no table [^\n]+\n|"[^\n]*": (its|one of its tables) [^\n]+\n"[^\n]*": examples/restore moves [^\n]+\n)'
+)
+UNOPENED = rb'"[^\n]*" isn\'t opened as a desk \(NotADesk\)\n'
+# A file system in memory, if there is one.
 ROOM = "/dev/shm" if os.path.isdir("/dev/shm") else None
 
 differences = []
 
 
 def differs(what, found, wanted):
-    """Notes a difference, and tells the first few."""
+    """Notes a difference, and prints the first few."""
     if found not in wanted:
         differences.append(what)
         if len(differences) <= SHOWN:
@@ -57,14 +62,14 @@ def bytes_at(path):
 
 
 class Desk:
-    """The program on one file, of which its answers are had in short."""
+    """The program on one file, with its answers in short."""
 
     def __init__(self, program, room):
         self.program, self.path = program, os.path.join(room, "desk.db")
-        self.longest, self.audits = 0, 0
+        self.longest, self.audits, self.said = 0, 0, b""
 
     def put(self, data):
-        """The file has these bytes, and nothing stands beside it."""
+        """The file has these bytes, and no log."""
         for end in ("", "-wal", "-shm", "-journal"):
             if os.path.exists(self.path + end):
                 os.remove(self.path + end)
@@ -83,15 +88,20 @@ class Desk:
         is_fault = done.returncode == 3 and re.fullmatch(rb"error: [^\n]+\n", done.stderr)
         if is_fault and done.stdout == b"":
             return "error"
-        # (of a file that is no desk, those that want one say how its tables differ)
-        has_words = words[0] not in ("audit", "migrate") and done.stdout == b"fault: NotADesk\n"
-        is_told = re.fullmatch(rb'"[^\n]*": (it has|one of its tables) [^\n]+\n' if has_words else b"", done.stderr)
+        self.said = done.stderr
+        # (for a file that isn't a desk, subcommands that need one say how its tables differ, and an audit that it isn't opened)
+        wanted = b""
+        if words[0] == "audit" and done.stdout == b"sound\n":
+            wanted = b"(" + UNOPENED + DIFFERENCE + b")?"
+        elif words[0] not in ("audit", "migrate") and done.stdout == b"fault: NotADesk\n":
+            wanted = DIFFERENCE
+        is_told = re.fullmatch(wanted, done.stderr)
         if not is_fault and (not is_told or done.returncode not in (0, 1)):
             return f"status {done.returncode}, {done.stdout[:100]!r}, {done.stderr[:100]!r}"
         return f"{done.returncode} {done.stdout.decode(errors='replace')}"
 
     def audit(self, path=None):
-        """`sound`, the name of a condition, or `error`. The file has to stay as it was."""
+        """`sound`, the name of a condition, or `error`. The file must stay as it was."""
         path = path or self.path
         before = bytes_at(path)
         told = self.run("audit", "--db", path)
@@ -121,7 +131,7 @@ def made(desk, requests):
 
 
 def changed(desk, data, text):
-    """Puts a file with a change by hand, and tells what the second judge says of it, and how many rows `meta` has."""
+    """Writes a file with a change by hand. Returns what the second judge says about it, and how many rows `meta` has."""
     desk.put(data)
     connection = sqlite3.connect(desk.path, isolation_level=None)
     connection.executescript(f"BEGIN; {text}; COMMIT")
@@ -131,7 +141,7 @@ def changed(desk, data, text):
 
 
 def executed(desk, data, text):
-    """Puts a file with a change that the second judge isn't asked about."""
+    """Writes a file with a change that the second judge isn't asked about."""
     desk.put(data)
     connection = sqlite3.connect(desk.path, isolation_level=None)
     connection.executescript(text)
@@ -139,7 +149,7 @@ def executed(desk, data, text):
 
 
 def others_answer(judged, rows):
-    """What another subcommand says where an audit says this: another version comes before the audit where it stands alone in `meta`."""
+    """What another subcommand says if an audit says this: another version comes before the audit if it is the only row of `meta`."""
     if judged == "BadMeta" and rows == 1:
         return "BadVersion"
     return "served" if judged == "sound" else judged
@@ -175,7 +185,7 @@ def each_condition(desk, data):
 
 
 def of_sound_rows(desk, data):
-    """A desk whose rows are sound and come from no command answers each request, or tells a fault."""
+    """A desk with sound rows that come from no command answers each request, or reports a fault."""
     requests, count = offices.later_requests(), 0
     for wanted, text in breaks.BREAKS:
         if wanted == "sound":
@@ -189,7 +199,7 @@ def of_sound_rows(desk, data):
 
 
 def of_numbers_below_0(desk, data):
-    """Sound rows with a number below 0 are no desk's, which keeps the file as it is."""
+    """Sound rows with a number below 0 are not a desk's, and the file stays unchanged."""
     for below, other in breaks.BELOW_0:
         for text, wanted in ((below, "error"), (other, "served")):
             judged, _ = changed(desk, data, text)
@@ -202,7 +212,7 @@ def of_numbers_below_0(desk, data):
 
 
 def two_at_once(desk, data):
-    """The first one is told, whichever was broken first."""
+    """The first one is reported, whichever was broken first."""
     count = 0
     for place, (wanted, first) in enumerate(breaks.ALONE):
         for _, second in breaks.ALONE[place + 1 :]:
@@ -213,7 +223,7 @@ def two_at_once(desk, data):
 
 
 def changed_at_random(desk, data, turn):
-    """Puts a file that is changed at random, and tells the changes, what the second judge says, and how many rows `meta` has."""
+    """Writes a file with random changes. Returns the changes, what the second judge says, and how many rows `meta` has."""
     desk.put(data)
     connection = sqlite3.connect(desk.path, isolation_level=None)
     connection.execute("BEGIN")
@@ -234,7 +244,7 @@ def at_random(desk, files, changes):
         told[judged] += 1
         differs(f"audit of the {name}, after {notes}", desk.audit(), [judged])
         if number % ASKED == 0:
-            # a desk needs more of numbers than an audit does
+            # a desk requires more of numbers than an audit does
             wanted = [others_answer(judged, rows)] + (["error"] if judged == "sound" else [])
             differs(f"totals of the {name}, after {notes}", desk.totals(), wanted)
             for met in NAMES[: NAMES.index(judged) if judged in NAMES else None]:
@@ -242,13 +252,63 @@ def at_random(desk, files, changes):
     print(f"{changes:,} changes at random: " + ", ".join(f"{name} {told[name]}" for name in ("sound", *NAMES)))
 
 
+def beside(path):
+    """What a file has besides a desk's tables, with its rows."""
+    connection = sqlite3.connect(path)
+    found = connection.execute("SELECT type, name, tbl_name, sql FROM sqlite_schema WHERE name IN ('more', 'later') ORDER BY 1, 2").fetchall()
+    rows = connection.execute("SELECT * FROM more").fetchall() if ("table", "more") in [row[:2] for row in found] else []
+    connection.close()
+    return str((found, rows))
+
+
+def going_on(desk, path=None):
+    """The replies to later requests, the rows after them, and what SQLite then says about the file."""
+    path = path or desk.path
+    told = desk.run("script", "--db", path, text=offices.later_requests().encode())
+    connection = sqlite3.connect(path)
+    columns = {table: ", ".join(names) for table, names in others.COLUMNS.items()}
+    rows = {table: sorted(map(repr, connection.execute(f"SELECT {columns[table]} FROM {table}"))) for table in columns}
+    check = connection.execute("PRAGMA integrity_check").fetchall()
+    connection.close()
+    return str((told, rows, check))
+
+
+def restored(desk, version=3):
+    """Moves the rows of the file into a new one, and gives its path."""
+    path = desk.path + "-new"
+    for end in ("", "-wal"):
+        if os.path.exists(path + end):
+            os.remove(path + end)
+    desk.run("script", "--db", path)
+    others.moved(path, desk.path, version)
+    return path
+
+
 def of_other_programs(desk, copy):
-    """Files with tables of the same names: a condition's name or status 3, or `sound` where the rows are a desk's."""
+    """Files with tables of the same names: a condition's name or status 3, or `sound` if the rows are a desk's. A file with a desk's tables
+    is a desk, continues as one, and keeps what else it has; from any other sound file the rows can be moved into a desk."""
+    answers = {
+        "yes": (["sound"], ["served"]),
+        "no": (["sound", "error", *NAMES], ["NotADesk", "error"]),
+        "if it is read": (["sound", "error"], ["served", "error"]),
+    }
     count = 0
     desk.put(None)
-    for name, is_declared in others.forms(desk.path, copy):
-        differs(f"audit of a file with {name}", desk.audit(), ["sound", "error"] if is_declared else ["sound", "error", *NAMES])
-        differs(f"totals of a file with {name}", desk.totals(), ["NotADesk", "error", "served" if is_declared else ""])
+    copy.write(desk.path).close()
+    plain = going_on(desk)
+    desk.put(None)
+    for name, is_desk in others.forms(desk.path, copy):
+        audits, totals = answers[is_desk]
+        differs(f"audit of a file with {name}", desk.audit(), audits)
+        is_sound, said = desk.audit() == "sound", b"isn't opened" in desk.said
+        differs(f"totals of a file with {name}", desk.totals(), totals)
+        differs(f"whether an audit says that a file with {name} isn't opened", str(said), [str(is_sound and is_desk == "no")])
+        if is_sound and is_desk == "no":
+            differs(f"what is moved from a file with {name}", going_on(desk, restored(desk)), [plain])
+        if is_desk == "yes":
+            before = beside(desk.path)
+            differs(f"later requests to a file with {name}", going_on(desk), [plain])
+            differs(f"what else is in a file with a desk and {name}", beside(desk.path), [before])
         desk.put(None)
         count += 1
     for name, is_absent in others.lacking(desk.path, copy):
@@ -260,14 +320,14 @@ def of_other_programs(desk, copy):
 
 
 def of_other_values(desk, data, copy):
-    """Values that no desk writes, in a desk's tables and in tables that take any."""
+    """Values that no desk writes, in a desk's tables and in tables that accept any."""
     count = 0
     for text in others.values():
         try:
             judged, _ = changed(desk, data, text)
         except sqlite3.IntegrityError:
             continue
-        # a text that isn't UTF-8 may be a fault of its own
+        # a text that isn't UTF-8 may be a separate fault
         differs(f"audit, after {text}", desk.audit(), [judged, "error"] if "CAST" in text else [judged])
         count += 1
     desk.put(None)
@@ -296,7 +356,7 @@ def other_table(path):
 
 
 def in_other_places(desk, room, data):
-    """Files that aren't there, that are no database or have no table `meta`, and a file whose last changes stand in its log."""
+    """Files that don't exist, that aren't a database or have no table `meta`, and a file whose last changes are in its log."""
     turn = random.Random(1)
     desk.put(None)
     differs("audit where no file is", desk.audit(), ["sound"])
@@ -334,7 +394,7 @@ def in_other_places(desk, room, data):
 
 
 def in_use(desk, data):
-    """A file that a desk has open is audited when that one ends."""
+    """A file that a desk has open is audited once that desk has ended."""
     desk.put(data)
     with subprocess.Popen([desk.program, "script", "--db", desk.path], stdin=subprocess.PIPE, stdout=subprocess.PIPE) as other:
         other.stdin.write(b'{"ask":"totals","release":"first"}\n')
@@ -346,7 +406,7 @@ def in_use(desk, data):
 
 
 def with_bytes_changed(desk, data):
-    """A bit changed at 300 places: a fault, a condition's name, or what the second judge says where SQLite reads it at all."""
+    """A bit changed at 300 places: a fault, a condition's name, or what the second judge says if SQLite can read the file."""
     turn, told = random.Random(1), collections.Counter()
     for _ in range(300):
         whole = bytearray(data)
@@ -359,7 +419,7 @@ def with_bytes_changed(desk, data):
 
 
 def sections_of_the_page():
-    """What stands below the heading of each condition."""
+    """What is below the heading of each condition."""
     parts = re.split(r"^### (\w+)\n", bytes_at(PAGE).decode(), flags=re.M)
     return dict(zip(parts[1::2], parts[2::2]))
 
@@ -376,8 +436,8 @@ def asked(path, question):
 
 
 def of_the_page(desk, files):
-    """Each question finds a row in a file that is broken so, in each such file where the page doesn't say what is missed, and none in a
-    sound file."""
+    """Each query finds a row in every file with its condition broken, except those that the page says it misses, and none in a sound
+    file."""
     sections, questions, found, count = sections_of_the_page(), questions_of_the_page(), 0, 0
     differs("the headings of docs/AUDIT.md", ", ".join(sections), [", ".join(NAMES)])
     for name, question in questions.items():

@@ -1,10 +1,10 @@
 """Migrates files of older versions: python3 tests/migrating.py PROGRAM [CHANGES] [KILLS]
 
-The texts of tests/migrations are loaded and migrated. The tables are compared with the older ones, row by row; what the desk answers then,
-with the answers of a desk that the program makes of the same requests, and, for totals and changes, with the older rows. Files that were
-changed by hand, or at random (so many CHANGES), have to be refused as tests/second_judge.py says of the rows that would come of them, and
-keep their bytes. A migration is stopped at each call of its disk, and killed so many times (KILLS). It needs Python 3.11. Ends with
-status 1 where something differs.
+The texts of tests/migrations are loaded and migrated. The tables are compared with the older ones, row by row; the desk's answers are
+compared with those of a desk that the program makes from the same requests and, for totals and changes, with the older rows. Files that
+were changed by hand, or at random (CHANGES times), must be refused as tests/second_judge.py says about the rows that they would get, and
+keep their bytes. A migration is stopped at each call of its disk, and killed KILLS times. Needs Python 3.11. Ends with status 1 if
+something differs.
 """
 
 import collections
@@ -44,7 +44,7 @@ class Desk(auditing.Desk):
     """The program on one file, which is migrated."""
 
     def migrate(self, path=None):
-        """`migrated 1` or `migrated 2`, the name of a fault, or `error`. Where it is refused the file has to stay as it was."""
+        """`migrated 1` or `migrated 2`, the name of a fault, or `error`. If it is refused, the file must stay as it was."""
         path = path or self.path
         before = bytes_at(path) if os.path.isfile(path) else b""
         told = self.run("migrate", "--db", path)
@@ -101,10 +101,16 @@ def declared(version):
     return list(make.TABLES[version].items())
 
 
-def version_of(connection):
-    """The older version whose tables a database has, with nothing beside them and in their order, if it has those of one."""
-    found = [(name, text) for kind, name, _, text in schema(connection) if kind != "index" or text]
-    return next((version for version in make.OLDER if found == declared(version)), None)
+def has_version(connection, version):
+    """Whether a database has the tables of an older version, whatever else it has."""
+    found = {(name, text) for kind, name, _, text in schema(connection) if kind == "table"}
+    return found.issuperset(declared(version))
+
+
+def is_taken(connection, version):
+    """Whether a name that a table of version 3 gets is taken."""
+    later = {name for name, _ in declared(3)[len(declared(version)) :]}
+    return any(name in later for _, name, _, _ in schema(connection))
 
 
 def migrated(connection, version):
@@ -126,8 +132,10 @@ def wanted_of(connection):
         return "BadMeta", None
     if versions[0] not in make.OLDER:
         return "BadVersion", None
-    if version_of(connection) != versions[0]:
+    if not has_version(connection, versions[0]):
         return "NotADesk", None
+    if is_taken(connection, versions[0]):
+        return "error", None
     copy = migrated(connection, versions[0])
     rows = tables(copy)
     judged = second_judge.judged(second_judge.snapshot_of(copy))
@@ -136,7 +144,7 @@ def wanted_of(connection):
 
 
 def try_file(desk, what, wanted, rows, otherwise=()):
-    """Migrates the file that stands there, and compares the answer and, where it is migrated, the rows."""
+    """Migrates the file, and compares the answer and, if it is migrated, the rows."""
     before = bytes_at(desk.path)
     answer = desk.migrate()
     differs(f"migrate, {what}", answer, [wanted, *otherwise])
@@ -146,7 +154,7 @@ def try_file(desk, what, wanted, rows, otherwise=()):
 
 
 def try_change(desk, data, text, otherwise=()):
-    """Migrates a file after a change by hand. Tells what was wanted, or nothing where its tables don't take the change."""
+    """Migrates a file after a change by hand. Returns what was expected, or nothing if its tables don't accept the change."""
     desk.put(data)
     connection = sqlite3.connect(desk.path, isolation_level=None)
     try:
@@ -172,7 +180,7 @@ def questions(rows):
 
 
 def replies_by_rows(rows):
-    """The replies to the questions for totals and changes, from the rows alone."""
+    """The replies to the questions for totals and changes, from the rows only."""
     states = collections.Counter((row[1], row[7]) for row in rows["duty"])
     totals = []
     for (name, *_) in rows["releases"]:
@@ -197,7 +205,7 @@ def compare_answers(desk, name, before, fresh):
 
 
 def compare_texts(desk, name, before, fresh):
-    """The texts of reports, and the replies to requests that go on."""
+    """The texts of reports, and the replies to further requests."""
     words = [[word, "--db", desk.path, row[0]] for row in before["releases"] for word in ("notices", "duties", "totals")]
     words += [["changes", "--db", desk.path, str(row[0])] for row in before["duty"][:3]]
     kept, told = bytes_at(desk.path), []
@@ -217,7 +225,7 @@ OTHER_SUBCOMMANDS = (
 
 
 def before_migration(desk, name, data):
-    """Each other subcommand leaves the file."""
+    """Each other subcommand leaves the file unchanged."""
     for word, *more in OTHER_SUBCOMMANDS:
         told = desk.run(word, "--db", desk.path, *more, text=b'{"ask":"totals","release":"r1"}\n')
         differs(f"{word} of {name}", told, ["1 fault: BadVersion\n"])
@@ -227,7 +235,7 @@ def before_migration(desk, name, data):
 
 
 def of_dumps(desk):
-    """Each file of an older version, from its making to requests behind its migration."""
+    """Each file of an older version, from its making to requests after its migration."""
     desk.put(None)
     make.made(desk.program, desk.path, "")
     new = asked(desk.path, schema)
@@ -245,7 +253,9 @@ def of_dumps(desk):
         after = asked(desk.path, tables)
         for table in sorted({*after, *before}):
             differs(f"{table} of {name}", str(after.get(table)), [str(added.get(table, before.get(table)))])
-        differs(f"the schema of {name}", str(asked(desk.path, schema)), [str(new)])
+        kept = dict(declared(version))
+        wanted = [(kind, table, of, kept.get(table, text)) for kind, table, of, text in new]
+        differs(f"the schema of {name}", str(asked(desk.path, schema)), [str(wanted)])
         check = asked(desk.path, lambda connection: connection.execute("PRAGMA integrity_check").fetchall())
         differs(f"the check of {name}", str(check), [str([("ok",)])])
         differs(f"audit of {name}, migrated", desk.audit(), ["sound"])
@@ -279,7 +289,7 @@ def by_hand(desk, files):
             told[wanted] += 1
             without += wanted is None
     told.pop(None, None)
-    print("changes by hand: " + ", ".join(f"{name} {count}" for name, count in told.items()), f"({without} can't stand)", flush=True)
+    print("changes by hand: " + ", ".join(f"{name} {count}" for name, count in told.items()), f"({without} can't be written)", flush=True)
 
 
 def of_versions(desk, files):
@@ -291,7 +301,9 @@ def of_versions(desk, files):
             for number in VERSIONS:
                 differs(f"version {number}", try_change(desk, data, f"UPDATE meta SET version = {number}"), ["BadVersion"])
             other = next(number for number in make.OLDER if number != version)
-            differs(f"version {other}", try_change(desk, data, f"UPDATE meta SET version = {other}"), ["NotADesk"])
+            # (a file of version 2 has all tables of version 1, and one with a name that the migration needs)
+            wanted = "NotADesk" if other == 2 else "error"
+            differs(f"version {other}", try_change(desk, data, f"UPDATE meta SET version = {other}"), [wanted])
             for text in ("DELETE FROM meta", f"INSERT INTO meta VALUES ({other})", "INSERT INTO meta VALUES (3), (4)"):
                 differs(text, try_change(desk, data, text), ["BadMeta"])
             count += len(VERSIONS) + 4
@@ -310,37 +322,43 @@ def of_versions(desk, files):
 
 
 def written(desk, rows, statements):
-    """Puts a file with these tables in this order, and the rows of those that have them."""
+    """Writes a file with these tables in this order, the rows of those that have them, and what has no name."""
     desk.put(None)
     connection = sqlite3.connect(desk.path, isolation_level=None)
     connection.execute("BEGIN")
-    for name, text in statements:
+    for name, text in (pair for pair in statements if pair[0]):
         connection.execute(text)
         if name in rows:
             marks = ", ".join("?" * len(chance.COLUMNS[name]))
             connection.executemany(f"INSERT INTO {name} ({', '.join(chance.COLUMNS[name])}) VALUES ({marks})", rows[name])
     connection.execute("COMMIT")
+    connection.executescript("".join(text for name, text in statements if not name))
     connection.close()
 
 
 def of_other_tables(desk, files):
-    """Tables that are missing, or stand beside a version's, or in another order."""
+    """Tables that are missing, that exist besides a version's, or that are in another order."""
     count = 0
     for version in make.OLDER:
         desk.put(files[version]["whole-office"])
         rows, of_version = asked(desk.path, tables), declared(version)
         later = declared(3)[len(of_version) :]
-        kinds = [(f"no {name}", [pair for pair in of_version if pair[0] != name]) for name, _ in of_version]
-        kinds += [(f"{name} before the others", sorted(of_version, key=lambda pair: pair[0] != name)) for name, _ in of_version[1:]]
-        kinds += [(f"{name} behind the others", sorted(of_version, key=lambda pair: pair[0] == name)) for name, _ in of_version[:-1]]
-        kinds += [("the other way round", of_version[::-1]), ("a table of version 3 more", [*of_version, *later[:1]])]
-        kinds += [("all tables of version 3", declared(3)), ("waiver alone beside them", [*of_version, later[-1]])]
-        kinds += [(text, [*of_version, ("more", text)]) for _, text in others.ADDED]
-        for what, statements in kinds:
+        kinds = [(f"no {name}", [pair for pair in of_version if pair[0] != name], "NotADesk") for name, _ in of_version]
+        orders = [(f"{name} before the others", sorted(of_version, key=lambda pair: pair[0] != name)) for name, _ in of_version[1:]]
+        orders += [(f"{name} behind the others", sorted(of_version, key=lambda pair: pair[0] == name)) for name, _ in of_version[:-1]]
+        orders += [("the other way round", of_version[::-1])]
+        orders += [("numbers that are NOT NULL", [(name, others.numbered(name, text)) for name, text in of_version])]
+        kinds += [(*pair, "migrated") for pair in orders]
+        kinds += [("a table of version 3 more", [*of_version, *later[:1]], "error")]
+        kinds += [("all tables of version 3", declared(3), "error"), ("waiver alone beside them", [*of_version, later[-1]], "error")]
+        kinds += [("a view with a name of version 3", [*of_version, ("waiver", "CREATE VIEW waiver AS SELECT 1")], "error")]
+        kinds += [(text, [*of_version, ("", text)], "migrated" if taken else "NotADesk") for _, text, taken in others.ADDED]
+        for what, statements, wanted in kinds:
             written(desk, rows, statements)
-            # statistics and triggers may be what the program doesn't read
-            otherwise = ["error"] if what.startswith(("CREATE TRIGGER", "ANALYZE", "CREATE INDEX more ON duty (lower")) else []
-            try_file(desk, f"version {version}: {what}", "NotADesk", None, otherwise)
+            is_wanted = wanted == "migrated"
+            found = asked(desk.path, lambda connection: tables(migrated(connection, version))) if is_wanted else None
+            # the program may not be able to read triggers and some indexes
+            try_file(desk, f"version {version}: {what}", f"migrated {version}" if is_wanted else wanted, found, [] if is_wanted else ["error"])
         written(desk, rows, of_version)
         try_file(desk, f"version {version}, written anew", *asked(desk.path, wanted_of))
         count += len(kinds) + 1
@@ -348,15 +366,20 @@ def of_other_tables(desk, files):
 
 
 def of_other_forms(desk, files):
-    """Tables of other forms, and files that another program made anew."""
+    """Tables of other forms, and files that another program rewrote."""
     count = 0
     for version in make.OLDER:
         desk.put(files[version]["whole-office"])
         copy, rows = others.Copy(desk.path), asked(desk.path, wanted_of)[1]
+        moved = {table: sorted(map(repr, lines)) for table, lines in rows.items()}
         for name, form in others.FORMS:
             desk.put(None)
             copy.write(desk.path, **copy.changed(form)).close()
             try_file(desk, f"version {version}: {name}", "NotADesk", None, ["error"])
+            path = auditing.restored(desk, version)
+            found = {table: sorted(map(repr, lines)) for table, lines in asked(path, tables).items()}
+            differs(f"what is moved of version {version}: {name}", str(found), [str(moved)])
+            differs(f"audit of what is moved of version {version}: {name}", desk.audit(path), ["sound"])
         for pragma in others.PRAGMAS:
             desk.put(None)
             copy.write(desk.path, [pragma]).close()
@@ -368,7 +391,7 @@ def of_other_forms(desk, files):
 
 
 def of_other_values(desk, files):
-    """Values that no desk writes, each in the file of one version: in turn, where both have the table."""
+    """Values that no desk writes, each in the file of one version: in turn, if both have the table."""
     told, place = collections.Counter(), 0
     for text in others.values():
         table = re.match(r"UPDATE (\w+)", text).group(1)
@@ -376,15 +399,15 @@ def of_other_values(desk, files):
         if not versions:
             continue
         data = files[versions[place % len(versions)]]["whole-office"]
-        # a text that isn't UTF-8 may be a fault of its own
+        # a text that isn't UTF-8 may be a separate fault
         told[try_change(desk, data, text, ["error"] if "CAST" in text else [])] += 1
         place += 1
     without = told.pop(None, 0)
-    print(f"{sum(told.values())} values that no desk writes ({without} can't stand)", flush=True)
+    print(f"{sum(told.values())} values that no desk writes ({without} can't be written)", flush=True)
 
 
 def of_numbers_below_0(desk, files):
-    """Sound rows with a number below 0 are no desk's: they aren't migrated, and the file stays as it was."""
+    """Sound rows with a number below 0 aren't a desk's: they aren't migrated, and the file stays unchanged."""
     for version in make.OLDER:
         for below, other in breaks.BELOW_0:
             auditing.executed(desk, files[version]["whole-office"], below)
@@ -415,7 +438,7 @@ def at_random(desk, files, changes):
         connection.execute("COMMIT")
         wanted, rows = wanted_of(connection)
         connection.close()
-        # a desk needs more of numbers than an audit does
+        # a desk requires more of numbers than an audit does
         try_file(desk, f"{office} of version {version}, after {by_chance.notes}", wanted, rows, ["error"] if rows else [])
         told[wanted] += 1
         done += 1
@@ -455,7 +478,7 @@ def in_other_places(desk, room, files):
 
 
 def of_logs(desk, files):
-    """A file whose last changes stand in its log."""
+    """A file whose last changes are in its log."""
     for text in ("UPDATE duty SET state = 'met' WHERE number = 2", "UPDATE releases SET state = 'frozen' WHERE name = 'bare'"):
         desk.put(files[2]["whole-office"])
         connection = sqlite3.connect(desk.path, isolation_level=None)
@@ -476,7 +499,7 @@ def of_logs(desk, files):
 
 
 def in_use(desk, files):
-    """A file that a desk has open is read when that one ends."""
+    """A file that a desk has open is read once that desk has ended."""
     desk.put(files[1]["first-release"])
     differs("migrate before it is used", desk.migrate(), ["migrated 1"])
     with subprocess.Popen([desk.program, "script", "--db", desk.path], stdin=subprocess.PIPE, stdout=subprocess.PIPE) as other:

@@ -1,7 +1,8 @@
-"""A second judge of a desk's tables, written apart from the desk's, for what an audit should answer: python3 tests/second_judge.py FILE..
+"""A second judge of a desk's tables, written independently of the desk's, for what an audit should answer: python3 tests/second_judge.py
+FILE..
 
 Prints `sound` for each file, or the name of the first of the ten conditions (docs/AUDIT.md) that its rows don't meet. It reads the tables
-by SQLite, and the catalogues, documents, expressions and days in them by readers of its own. It needs tomllib (Python 3.11).
+by SQLite, and the catalogues, documents, expressions and days in them by its own readers. Needs tomllib (Python 3.11).
 """
 
 import calendar
@@ -32,7 +33,7 @@ RESERVED = (b"LicenseRef-", b"DocumentRef-")
 
 
 class NotRead(Exception):
-    """The text is no expression, no term, no catalogue or no document."""
+    """The text isn't an expression, a term, a catalogue or a document."""
 
 
 def folded(text):
@@ -111,7 +112,7 @@ class Tokens:
 
 @functools.lru_cache(maxsize=100_000)
 def tree_of(text, profile):
-    """The tree of an expression, or None. NONE and NOASSERTION alone are none."""
+    """The tree of an expression, or None. NONE and NOASSERTION alone have none."""
     try:
         tokens = Tokens(text, profile)
         if tokens.rest in ([b"NONE"], [b"NOASSERTION"]):
@@ -140,7 +141,7 @@ def is_true(tree, terms):
 
 
 def is_minimal(tree, terms):
-    """No tree turns false by a term more, so it is enough to leave out each term alone."""
+    """No tree becomes false by adding a term, so it is enough to leave out each term alone."""
     return is_true(tree, terms) and not any(is_true(tree, terms - {term}) for term in terms)
 
 
@@ -207,7 +208,7 @@ def text_id_in(licence, body):
 
 @functools.lru_cache(maxsize=10_000)
 def rules_of(body):
-    """The rules of a catalogue, sorted by term and form, or None where the text is no catalogue."""
+    """The rules of a catalogue, sorted by term and form, or None if the text isn't a catalogue."""
     try:
         if len(body) > CATALOGUE_BYTES:
             return None
@@ -259,7 +260,7 @@ def edges_of(elements, relationships):
 
 
 def shipped_by(elements, packages, relationships):
-    """What is reached from the document, and from each package where nothing describes the document."""
+    """What is reached from the document, and from each package if nothing describes the document."""
     edges, is_described = edges_of(elements, relationships)
     targets = {}
     for start, end in edges:
@@ -280,7 +281,7 @@ def stored(text):
 
 @functools.lru_cache(maxsize=10_000)
 def document_of(data):
-    """What a desk keeps of a document, or None where the bytes are none."""
+    """What a desk keeps of a document, or None if the bytes aren't one."""
     if oracle.answer(data) != "document":
         return None
     sections, relationships = sections_of(oracle.fields(data.decode()))
@@ -415,7 +416,7 @@ def is_adoption(row):
 
 
 def conclusion_in(s):
-    """The tree of each package's conclusion: the office's, read in capitals, else its own field's by the document's profile."""
+    """The tree of each package's conclusion: the office's, read in capitals, otherwise its own field's, by the document's profile."""
     office = {(row.document, row.package): row.expression for row in s.conclusion}
     profiles = {row.document: row.profile for row in s.reading}
 
@@ -497,7 +498,7 @@ def is_formed(row):
 
 
 def goes_on(before, row, last_days):
-    """Whether a change is a move that may come behind the one before it."""
+    """Whether a change is a move that may follow the one before it."""
     if WORDS[before.word][0] not in WORDS[row.word][1]:
         return False
     return row.word != b"ended" or last_days.get((before.duty, before.step), row.day) < row.day
@@ -550,7 +551,7 @@ CONDITIONS = [
 
 
 def judged(s):
-    """`sound`, or the first condition that isn't met. Each one may suppose those before it."""
+    """`sound`, or the first condition that isn't met. Each one may assume those before it."""
     return next((name for name, is_met in CONDITIONS if not is_met(s)), "sound")
 
 

@@ -1,7 +1,7 @@
-"""Reads the tables of a desk's file by SQLite: python3 tests/tables.py PROGRAM
+"""Reads the tables of a desk's file with SQLite: python3 tests/tables.py PROGRAM
 
-After the first release the file is sound, its tables have the columns and keys of docs/TABLES.md, and the rows are those that the requests
-say. Then each question of that page is asked of it.
+After the first release the file must be sound, its tables must have the columns and keys of docs/TABLES.md, and the rows must be those that
+follow from the requests. Then each query of that page is run on it.
 """
 
 import os
@@ -19,7 +19,7 @@ import dialogue
 
 PAGE = os.path.join(HERE, "../docs/TABLES.md")
 
-# Each table's columns in order, its key, the columns that no two rows share beside it, and those that may be NULL.
+# Each table's columns in order, its key, the other columns that no two rows share, and those that may be NULL.
 TABLES = {
     "meta": ("version", "version", "", ""),
     "catalogue": ("revision body", "revision", "", ""),
@@ -91,8 +91,8 @@ def main():
             info = connection.execute(f"PRAGMA table_info({name})").fetchall()
             compare(f"the columns of {name}", [row[1] for row in info], columns)
             compare(f"the key of {name}", key_of(connection, name), key)
-            compare(f"what stands once in {name}", uniques_of(connection, name), [unique] if unique else [])
-            may_be_null = [row[1] for row in info if not row[3] and not (row[5] and len(key) == 1 and row[2] == "INTEGER")]
+            compare(f"what is unique in {name}", uniques_of(connection, name), [unique] if unique else [])
+            may_be_null = [row[1] for row in info if not row[3]]
             compare(f"what may be NULL in {name}", may_be_null, null)
             if not text.endswith("STRICT"):
                 sys.exit(f"{name} isn't STRICT")
@@ -102,7 +102,7 @@ def main():
             questions = re.findall(r"```sql\n(.*?)```", page.read(), re.S)
         for question in questions:
             connection.execute(question).fetchall()
-        compare("how each release stands", connection.execute(questions[1]).fetchall(), [("r1", 1, 0, 1, 0, 0)])
+        compare("the state of each release", connection.execute(questions[1]).fetchall(), [("r1", 1, 0, 1, 0, 0)])
         connection.close()
         print(f"{len(listed)} tables, and {len(questions)} questions of docs/TABLES.md: passed")
 

@@ -1,4 +1,4 @@
-"""Changes of tables by hand, each with what an audit answers. Texts stand in SQL, on the desks of offices.py."""
+"""Changes of tables by hand, each with what an audit answers. They are written in SQL, for the desks of offices.py."""
 
 # On the first release, and the last one on the withdrawn release.
 KNOWN = [
@@ -18,7 +18,7 @@ LONG = "x" * 1_024
 
 
 def steps(last, word):
-    """Duty 2 with so many changes: it is met and reopened in turn, and the last step has a word of its own."""
+    """Duty 2 with this many changes: it is met and reopened in turn, and the last step has its own word."""
     moves = f"WITH RECURSIVE n(k) AS (SELECT 2 UNION ALL SELECT k + 1 FROM n WHERE k < {last - 1})"
     words = "CASE k % 2 WHEN 0 THEN 'met' ELSE 'reopened' END"
     state = {"reopened": "open", "ended": "open"}.get(word, word)
@@ -60,7 +60,7 @@ ON_NOTHING = [
     ("BadChange", "INSERT INTO waiver VALUES (1, 1, '2025-03-03')"),
 ]
 
-# The tables whose rows have a place of their own beside their key.
+# The tables whose rows have their own place besides their key.
 PLACED = ("rule", "package", "extracted", "conclusion", "adoption", "releases", "attached", "choice", "frozen", "change", "waiver")
 
 # On the whole office: each condition broken in each column that it speaks of, and tables that are sound though no command made them.
@@ -304,11 +304,11 @@ BREAKS = [
     ("sound", steps(998, "met")),
 ]
 
-# The same rows, which stand in another order in the file.
+# The same rows, in another order in the file.
 BREAKS += [("sound", f"UPDATE {table} SET rowid = -rowid") for table in PLACED]
 BREAKS += [("sound", "; ".join(f"UPDATE {table} SET rowid = 9223372036854775807 - rowid" for table in PLACED))]
 
-# One break of each condition that leaves the others as they are, so that two can stand together.
+# One break of each condition that doesn't affect the others, so that two can be combined.
 ALONE = [
     ("BadMeta", "UPDATE meta SET version = 4"),
     ("BadRevision", "UPDATE catalogue SET body = 'x' WHERE revision = 2"),

@@ -1,4 +1,4 @@
-"""Changes of a desk's tables at random: of a cell, of a row, of a duty's moves."""
+"""Random changes of a desk's tables: of a cell, of a row, of a duty's moves."""
 
 import sqlite3
 
@@ -49,7 +49,7 @@ def near(turn, value):
 
 
 class Chance:
-    """Changes the tables of a connection, as a source of random numbers has it, and notes each."""
+    """Changes the tables of a connection by a source of random numbers, and notes each change."""
 
     def __init__(self, connection, turn):
         self.connection, self.turn, self.notes = connection, turn, []
@@ -90,7 +90,7 @@ class Chance:
             self.do(f"DELETE FROM {table} WHERE rowid = {found[0]}")
 
     def double(self):
-        """A row like another one, with other values until it can stand."""
+        """A row like another one, with other values until it fits."""
         table = self.turn.choice(TABLES)
         found = self.row(table)
         if not found:
@@ -130,7 +130,7 @@ class Chance:
             self.do("INSERT INTO waiver VALUES (?, ?, ?)", duty, step, turn.choice(DAYS))
 
     def take_back(self):
-        """The last change of a duty is taken back, mostly with its waiver."""
+        """The last change of a duty is undone, mostly with its waiver."""
         found = self.rows("SELECT duty, max(step) FROM change GROUP BY duty HAVING max(step) > 1")
         if not found:
             return
@@ -143,7 +143,7 @@ class Chance:
             self.do("UPDATE duty SET state = ? WHERE number = ?", STATES[word[0][0]], duty)
 
     def release(self):
-        """A release in another state, some of the time with its choices dropped or its open and waived duties moved."""
+        """A release in another state, sometimes with its choices dropped or its open and waived duties moved."""
         found = self.row("releases")
         if not found:
             return
@@ -157,11 +157,11 @@ class Chance:
             self.do(f"UPDATE duty SET state = 'withdrawn' {moved}", found[1])
 
     def turn_round(self):
-        """The rows of a table stand the other way round in the file."""
+        """The rows of a table are in reverse order in the file."""
         self.do(f"UPDATE {self.turn.choice(breaks.PLACED)} SET rowid = -rowid")
 
     def change(self):
-        """One change, or two some of the time."""
+        """One change, or sometimes two."""
         kinds = [self.cell] * 9 + [self.drop, self.double] * 2 + [self.move] * 4 + [self.take_back, self.release, self.swap] * 2 + [self.turn_round]
         while not self.notes:
             for _ in range(self.turn.choice([1, 1, 1, 2])):

@@ -1,4 +1,4 @@
-"""Requests that make the desks whose audits are tried."""
+"""Requests that make the desks on which audits are tested."""
 
 import json
 import os
@@ -148,9 +148,9 @@ GPL = "GPL-2.0-only WITH Classpath-exception-2.0"
 
 
 def whole_office():
-    """Documents of both profiles, two revisions, and releases and duties of each state: duties 1 to 9 are of the release `first`, 10 to
-    23 of `gone`. No duty is of the releases `held` and `bare`, which are open, of `source`, which is frozen, and of `dropped`, which was
-    withdrawn before a freeze."""
+    """Documents of both profiles, two revisions, and releases and duties of each state: duties 1 to 9 are of the release `first`, 10 to 23
+    of `gone`. The releases `held` and `bare`, which are open, `source`, which is frozen, and `dropped`, which was withdrawn before a
+    freeze, have no duty."""
     return "".join([
         line(do="catalogue", text=CATALOGUE),
         line(do="import", text=DOCUMENT),
@@ -200,7 +200,7 @@ def whole_office():
 
 
 def later_requests():
-    """What may be asked of the whole office, also where its tables are sound and no command made them so."""
+    """What may be asked of the whole office, even if its tables are sound and no command made them so."""
     return "".join([
         line(do="freeze", release="first", day="2025-05-01"),
         line(do="freeze", release="source", day="2025-05-01"),
@@ -222,7 +222,7 @@ def later_requests():
 
 
 def busy_office(seed):
-    """A frozen release and a withdrawn one, each of whose eleven duties moves at random."""
+    """A frozen release and a withdrawn one, with eleven duties each that move at random."""
     turn = random.Random(seed)
     requests = [line(do="catalogue", text=CATALOGUE), line(do="import", text=DOCUMENT), line(do="import", text=SMALL_DOCUMENT, profile=2)]
     requests += [line(do="adopt", document=1, reference="LicenseRef-own", licence="Zlib")]

@@ -1,10 +1,12 @@
-"""Files of other programs, with tables of the same names as a desk's: how each is made of a sound desk's file."""
+"""Files of other programs, with tables that have the names of a desk's: how each is made from a sound desk's file."""
 
+import os
 import re
 import sqlite3
 
 import chance
 
+RESTORE = os.path.join(os.path.dirname(os.path.abspath(__file__)), "../../examples/restore/restore.sql")
 COLUMNS = chance.COLUMNS
 TABLES = chance.TABLES
 # What a column may hold in a table that isn't STRICT.
@@ -17,7 +19,7 @@ PRAGMAS = (
 
 
 class Copy:
-    """The tables and the rows of a sound file, to be written anew in another way."""
+    """The tables and the rows of a sound file, to be written again in another way."""
 
     def __init__(self, path):
         connection = sqlite3.connect(path)
@@ -25,13 +27,13 @@ class Copy:
         self.rows = {name: connection.execute(f"SELECT {', '.join(COLUMNS[name])} FROM {name}").fetchall() for name in self.texts}
         connection.close()
 
-    def write(self, path, pragmas=(), without=(), **other):
-        """A file with these tables, but for those that are left out or have another text."""
+    def write(self, path, pragmas=(), without=(), order=list, **other):
+        """A file with these tables in this order, but for those that are left out or have another text."""
         connection = sqlite3.connect(path, isolation_level=None)
         for pragma in pragmas:
             connection.execute(f"PRAGMA {pragma}").fetchall()
         connection.execute("BEGIN")
-        for name, text in self.texts.items():
+        for name, text in order(list(self.texts.items())):
             if name not in without:
                 connection.execute(other.get(name, text))
                 marks = ", ".join("?" * len(COLUMNS[name]))
@@ -44,12 +46,12 @@ class Copy:
 
 
 def bare(name, _):
-    """A table whose columns have no kind and no key."""
+    """A table with columns that have no type and no key."""
     return f"CREATE TABLE {name} ({', '.join(COLUMNS[name])})"
 
 
 def turned(name, text):
-    """A table whose columns stand the other way round."""
+    """A table with its columns in reverse order."""
     if "PRIMARY KEY (" in text:
         columns, key = re.fullmatch(r"CREATE TABLE \w+ \((.*), (PRIMARY KEY .*)\) STRICT", text).groups()
     else:
@@ -73,17 +75,36 @@ FORMS = [
     ("references", lambda name, text: text.replace("release TEXT NOT NULL", "release TEXT NOT NULL REFERENCES releases (name)")),
 ]
 
+# What a file has besides a desk's tables, and whether such a file is opened as a desk.
 ADDED = [
-    ("an index more", "CREATE INDEX more ON duty (state)"),
-    ("an index of some rows", "CREATE INDEX more ON duty (code) WHERE state = 'open'"),
-    ("an index of a term", "CREATE INDEX more ON duty (lower(code))"),
-    ("a view more", "CREATE VIEW more AS SELECT * FROM duty"),
-    ("a trigger", "CREATE TRIGGER more AFTER UPDATE ON duty BEGIN DELETE FROM change; END"),
-    ("a table more", "CREATE TABLE more (x)"),
-    ("statistics", "ANALYZE"),
+    ("an index more", "CREATE INDEX more ON duty (state)", True),
+    ("an index of eight columns", "CREATE INDEX more ON duty (state, rule, code, term, package, document, release, number)", True),
+    ("a UNIQUE index that repeats a key", "CREATE UNIQUE INDEX more ON releases (name)", True),
+    ("a UNIQUE index that extends a key", "CREATE UNIQUE INDEX more ON releases (state, place)", True),
+    ("a view more", "CREATE VIEW more AS SELECT * FROM duty", True),
+    ("a table more", "CREATE TABLE more (x)", True),
+    ("a table with rows, an index and a trigger of its own", "CREATE TABLE more (x UNIQUE); INSERT INTO more VALUES (1), (2); "
+     "CREATE TRIGGER later AFTER INSERT ON more BEGIN DELETE FROM more; END", True),
+    ("statistics", "ANALYZE", True),
+    ("statistics as they are needed", "PRAGMA optimize = 0x10002", True),
+    ("a UNIQUE index", "CREATE UNIQUE INDEX more ON document (bytes)", False),
+    ("a UNIQUE index without regard to case", "CREATE UNIQUE INDEX more ON releases (name COLLATE NOCASE)", False),
+    ("an index of nine columns", "CREATE INDEX more ON duty (state, rule, code, term, package, document, release, number, state)", False),
+    ("an index of some rows", "CREATE INDEX more ON duty (code) WHERE state = 'open'", False),
+    ("an index of a term", "CREATE INDEX more ON duty (lower(code))", False),
+    ("a trigger", "CREATE TRIGGER more AFTER UPDATE ON duty BEGIN DELETE FROM change; END", False),
+    ("a table that refers to a desk's", "CREATE TABLE more (duty INTEGER REFERENCES duty)", False),
 ]
 
-# Many rows more in one table of the whole office, the columns as SQL over k, and what an audit says of them.
+
+def numbered(name, text):
+    """A table whose number is declared NOT NULL, or isn't although it was, which makes no difference."""
+    if " INTEGER NOT NULL PRIMARY KEY" in text:
+        return text.replace(" INTEGER NOT NULL PRIMARY KEY", " INTEGER PRIMARY KEY")
+    return text.replace(" INTEGER PRIMARY KEY", " INTEGER NOT NULL PRIMARY KEY")
+
+
+# Many more rows in one table of the whole office, the columns as SQL over k, and what an audit says of them.
 MANY = [
     ("BadChange", "change", 1_000_000, "1, 100 + k, '2025-03-03', 'met', 'x'"),
     ("BadChange", "change", 1_000_000, "100 + k, 1, '2025-03-03', 'raised', ''"),
@@ -108,27 +129,46 @@ MANY = [
 ]
 
 
+def moved(path, old, version=3):
+    """Moves the rows of a file of a version into a new desk at a path, by examples/restore as it says."""
+    with open(RESTORE, encoding="utf-8") as file:
+        text = file.read()
+    if version < 3:
+        text = re.sub(r"INSERT INTO main\.waiver .*?;\n", "", text, flags=re.S)
+    if version < 2:
+        text = text.replace("SELECT document, profile FROM old.reading", "SELECT number, 1 FROM old.document")
+    connection = sqlite3.connect(path)
+    connection.execute("ATTACH ? AS old", (old,))
+    connection.executescript(text)
+    connection.close()
+
+
 def many(table, count, columns):
     return f"WITH RECURSIVE n(k) AS (SELECT 1 UNION ALL SELECT k + 1 FROM n WHERE k < {count}) INSERT INTO {table} SELECT {columns} FROM n"
 
 
 def forms(path, copy):
-    """Writes one file of a desk's rows after the other. Tells the name of each, and whether its tables are declared as a desk's are."""
+    """Writes one file of a desk's rows after the other. Yields the name of each, and whether it is a desk's: yes, no, or as the program reads
+    such a file at all."""
     for name, form in FORMS:
         copy.write(path, **copy.changed(form)).close()
-        yield name, False
-    for name, text in ADDED:
+        yield name, "no"
+    for name, text, is_taken in ADDED:
         connection = copy.write(path)
-        connection.execute(text)
+        connection.executescript(text)
         connection.close()
-        yield name, False
+        yield name, "yes" if is_taken else "no"
+    copy.write(path, **copy.changed(numbered)).close()
+    yield "numbers that are declared in the other way", "yes"
+    copy.write(path, order=reversed).close()
+    yield "tables the other way round", "yes"
     for pragma in PRAGMAS:
         copy.write(path, [pragma]).close()
-        yield pragma, True
+        yield pragma, "if it is read"
 
 
 def lacking(path, copy):
-    """Writes one file after the other that lacks a table, or has something else in its place. Tells the name of each, and whether nothing
+    """Writes one file after the other that lacks a table, or has something else in its place. Yields the name of each, and whether nothing
     is in its place."""
     for name in TABLES:
         copy.write(path, without=[name]).close()

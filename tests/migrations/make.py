@@ -1,8 +1,8 @@
 """Writes files of versions 1 and 2 as SQL: python3 tests/migrations/make.py PROGRAM
 
-The tables of an older version are stated here, with the rows that a desk of version 3 has of the same requests: no waiver among them has
+The tables of an older version are stated here, with the rows that a desk of version 3 has after the same requests: no waiver among them has
 a last day, and for version 1 each document is imported with profile 1. A text NAME-of-version-N.sql is what `.dump` of sqlite3 writes: a
-file that has such rows is made by executing it. The tables have to be made in this order.
+file with such rows is made by executing it. The tables must be made in this order.
 """
 
 import json
@@ -18,7 +18,7 @@ sys.dont_write_bytecode = True
 
 import offices
 
-# The tables of version 1, and the one that version 2 has beside them.
+# The tables of version 1, and the additional one of version 2. A number that is a key may be declared NOT NULL, as in version 3.
 FIRST = {
     "meta": "CREATE TABLE meta (version INTEGER PRIMARY KEY) STRICT",
     "catalogue": "CREATE TABLE catalogue (revision INTEGER PRIMARY KEY, body TEXT NOT NULL) STRICT",
@@ -50,7 +50,10 @@ READING = {"reading": "CREATE TABLE reading (document INTEGER PRIMARY KEY, profi
 WAIVER = {
     "waiver": "CREATE TABLE waiver (duty INTEGER NOT NULL, step INTEGER NOT NULL, last_day TEXT NOT NULL, PRIMARY KEY (duty, step)) STRICT",
 }
-TABLES = {1: FIRST, 2: {**FIRST, **READING}, 3: {**FIRST, **READING, **WAIVER}}
+THIRD = {
+    name: text.replace(" INTEGER PRIMARY KEY", " INTEGER NOT NULL PRIMARY KEY") for name, text in {**FIRST, **READING, **WAIVER}.items()
+}
+TABLES = {1: FIRST, 2: {**FIRST, **READING}, 3: THIRD}
 OLDER = (1, 2)
 
 
@@ -61,7 +64,7 @@ def never_ending(requests):
 
 
 def in_capitals(requests):
-    """The requests of an office whose documents are all in capitals, so that no profile is named."""
+    """The requests of an office with documents only in capitals, so that no profile is named."""
     read = [json.loads(line) for line in requests.splitlines()]
     for request in read:
         if request.pop("profile", 1) != 1:
@@ -92,7 +95,7 @@ def text_of(name):
 
 
 def made(program, path, requests):
-    """Has the program make a file of version 3 by requests, none of which may be refused."""
+    """Makes a file of version 3 with the program, by requests, none of which may be refused."""
     done = subprocess.run([program, "script", "--db", path], input=requests.encode(), capture_output=True, timeout=120, check=False)
     if done.returncode or b'"refused"' in done.stdout or b'"fault"' in done.stdout:
         sys.exit(f"a desk isn't made: status {done.returncode}, {done.stdout[-300:]!r}, {done.stderr[:300]!r}")

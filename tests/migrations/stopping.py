@@ -1,5 +1,5 @@
-"""Stops migrations, and fails the calls of their disk, by tests/stops/disk.c. What is left has to be the older file whole or the migrated
-one whole, by SQLite and by the desk."""
+"""Stops migrations, and makes calls of their disk fail, by tests/stops/disk.c. What is left must be the complete older file or the complete
+migrated one, by SQLite and by the desk."""
 
 import os
 import random
@@ -104,7 +104,7 @@ class Migration:
         sys.exit(f"{self.name}: {at}: {why}")
 
     def stands(self, at, is_told=False):
-        """That the older tables or the migrated ones stand, those if it was told so, and that the desk finds the same."""
+        """That the file has the older tables or the migrated ones, the latter if that was reported, and that the desk finds the same."""
         found = self.stops.tables()
         if found not in (self.old, self.new) or is_told and found == self.old:
             self.fail(at, f"other tables: {str(found)[:500]}")
@@ -205,13 +205,13 @@ def try_all(desk, room, files, kills):
     if 0 in (stopped, refused, lost, *left.values()):
         sys.exit("no call of the disk was met, or all left the same tables")
     told = f"stopped {stopped} times, refused a call of the disk {refused} times, its disk lost {lost} times"
-    print(f"{told}: {left['older']} times the older tables stand, {left['migrated']} times the migrated ones", flush=True)
+    print(f"{told}: {left['older']} times the older tables were left, {left['migrated']} times the migrated ones", flush=True)
     for migration in migrations:
         migration.left = {"older": 0, "migrated": 0}
     for number in range(kills):
         migrations[number % len(migrations)].kill(turn)
     left = {name: sum(migration.left[name] for migration in migrations) for name in ("older", "migrated")}
-    print(f"killed {kills} times: {left['older']} times the older tables stand, {left['migrated']} times the migrated ones", flush=True)
+    print(f"killed {kills} times: {left['older']} times the older tables were left, {left['migrated']} times the migrated ones", flush=True)
     # a file of this version, as the program leaves it
     reads = read_by_an_audit(stops, desk.first_release())
     print(f"{reads} reads of an audit refused in turn: sound, or a fault in words", flush=True)

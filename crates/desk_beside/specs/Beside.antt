@@ -46,6 +46,7 @@ pub record IsBeside (kept : Beside) (t : Tables) : Type 0 where
 
 -- ---- what a snapshot has of tables
 
+-- the revisions, documents, releases and duties of the snapshot are those of the tables
 pub record ShowsTables (s : Snapshot) (t : Tables) : Type 0 where
   pub catalogue : s.catalogue ≡ map catalogue_stored t.catalogue
   pub document : s.document ≡ map document_stored t.document
@@ -85,9 +86,11 @@ pub record AreFew (s : Snapshot) : Type 0 where
   pub releases : length s.releases < 2 ^ 32
   pub duties : length s.duty < 2 ^ 32
 
+-- its place in the order of opening is of 32 bits
 abbrev pub IsSmallRelease : ReleaseRow → Type 0
 IsSmallRelease row = row.place < 2 ^ 32
 
+-- its own number and that of its document are of 32 bits
 abbrev pub IsSmallDuty : DutyRow → Type 0
 IsSmallDuty row = (row.number < 2 ^ 32) × (row.document < 2 ^ 32)
 

@@ -41,7 +41,7 @@ pub struct Beside {
 pub enum Audited {
     /// They are sound, and this is kept beside them.
     Sound(Beside),
-    /// They don't meet this condition, but those before it.
+    /// They don't meet this condition, but they meet those before it.
     Unsound(AuditFault),
 }
 
@@ -123,8 +123,8 @@ fn beside_of(alloc: Global, snapshot: &Snapshot) -> Result<Beside, Fault>
 /// Audits the rows of a snapshot, and returns what is kept beside them if they are sound, or else
 /// the first of the ten conditions that they don't meet.
 ///
-/// The fault is that no memory was left, or that sound rows are none of a desk: a number is below 0
-/// where the ten conditions admit any.
+/// The fault is that no memory was left, or that sound rows aren't a desk's: a number is below 0 in
+/// a column where the ten conditions allow any number.
 pub fn beside_if_sound(alloc: Global, snapshot: &Snapshot) -> Result<Audited, Fault>
     ensures report { IfOk result (λ found. (w : Readings) → AreRight w
         → IsReport w snapshot.now (report_of found)) }

@@ -11,9 +11,13 @@ use desk_snapshot::Snapshot;
 /// How many revisions, documents, releases and duties there are.
 #[derive(Clone, Copy, PartialEq, Eq)]
 pub struct Counts {
+    /// The revisions of the catalogue.
     pub revisions: u32,
+    /// The documents.
     pub documents: u32,
+    /// The releases.
     pub releases: u32,
+    /// The duties of all releases.
     pub duties: u32,
 }
 

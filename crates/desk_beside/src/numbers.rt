@@ -1,4 +1,4 @@
-//! Numbers that an audit admits although no desk's tables have them.
+//! Numbers that an audit allows although no desk's tables have them.
 
 ghost use Rattle.std.specs.Prelude.{◌≡◌};
 ghost use Rattle.std.specs.Bool.{Decides};
@@ -39,7 +39,7 @@ fn frozen_have_numbers(rows: &[StoredFrozen]) -> bool
     rows.iter().all(|row| row.document >= 0)
 }
 
-/// Whether no number is below 0 where the ten conditions admit any.
+/// Whether no number is below 0 in the columns where the ten conditions allow any number.
 pub(crate) fn has_numbers(snapshot: &Snapshot) -> bool
     ensures { Decides result (HasNumbers snapshot.now) }
 {

@@ -7,3 +7,4 @@ mod Small
 pub mod Matching
 pub mod Stating
 pub mod Readers
+mod Desks

@@ -8,6 +8,7 @@ use Rattle.desk_sql_layout.specs.Cells.{joined}
 abbrev pub IsShort : List ℕ → Type 0
 IsShort text = IsUtf8 text × (length text ≤ 10 ^ 8)
 
+-- each of these texts is one
 abbrev pub AreShort : List (List ℕ) → Type 0
 AreShort = AllByRecursion IsShort
 

@@ -1,5 +1,5 @@
-//! Laws over everything else, which no program calls. This file is about the desk in a database
-//! from its creation on: its main contract with no premise left but the disk.
+//! Laws about everything else, which no program calls. This file is about the desk in a database
+//! from its creation on: its main contract, whose only remaining premise is the disk.
 //!
 //! `run_in_database` creates an empty desk in an empty database and runs a list of commands on it,
 //! as `standard::run_commands` does in memory. `adopt_left` continues with what a stop left of such
@@ -8,10 +8,11 @@
 //! A disk is honest as long as it gives back what was written. The library says of each connection
 //! whether its disk was.
 //!
-//! `tables` says of each history that a file can hold its tables, and `trees` that a source tree
-//! has one gathering.
+//! `tables` says that a file can hold the tables of each history, `schemas` which files have a
+//! desk's tables, and `trees` that a source tree has one gathering.
 #![tactic(auto)]
 
+pub mod schemas;
 pub mod standard;
 pub mod tables;
 pub mod trees;
@@ -43,11 +44,11 @@ use std::alloc::{AllocError, Global};
 /// became of each command if there was memory for the list of outcomes; if there wasn't, the desk
 /// is the empty one.
 ///
-/// Whatever is repeated or refused, if the disk was honest to the end: each outcome that is no
+/// Whatever is repeated or refused, if the disk was honest to the end: each outcome that isn't a
 /// fault is the answer at its place, after the commands recorded before it; these are a recorded
 /// history, and the rows at the end are its tables. If no outcome is a fault, the desk shows these
-/// rows, and a stop leaves them and no others. No command that is refused from the command alone
-/// has a fault of the store.
+/// rows, and a stop leaves them and no others. A command that itself decides its refusal never gets
+/// a fault of the store.
 ///
 /// If no desk could be created, the error and what is left are as for `SqlDesk::create`.
 pub fn run_in_database<S: Alter>(

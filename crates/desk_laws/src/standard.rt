@@ -1,4 +1,4 @@
-//! The desk in memory that reads texts by their standards: its main contract with no premise left.
+//! The desk in memory that reads texts by their standards: its main contract, without any premise.
 //!
 //! `run_commands` runs a list of commands on an empty desk. Its contract is about each right
 //! reading of texts (`AreRight`; `desk_history_laws` proves that there is one and no other), the
@@ -23,9 +23,9 @@ pub type StandardDesk = MemDesk<Standard>;
 
 /// Runs commands on an empty desk, and returns what became of each, and the desk.
 ///
-/// Whatever is repeated or refused: each outcome that is no fault is the answer at its place, after
-/// the commands recorded before it; these are a recorded history, and the rows at the end are its
-/// tables; the only fault is that no memory is left.
+/// Whatever is repeated or refused: each outcome that isn't a fault is the answer at its place,
+/// after the commands recorded before it; these are a recorded history, and the rows at the end are
+/// its tables; the only fault is that no memory is left.
 pub fn run_commands(
     alloc: Global,
     commands: &[Command],

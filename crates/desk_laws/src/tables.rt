@@ -33,9 +33,9 @@ ghost use Rattle.sqlite_trees.specs.Tree.{Trees};
 
 use sqlite::{Alter, Connection};
 
-/// The tables of each list of commands are in the form that a file needs: sorted by their keys;
-/// revisions, documents and duties numbered 1, 2 and so on; packages and changes of documents and
-/// duties that exist; and codes that are words.
+/// The tables of each list of commands are in the form that a file needs: they are sorted by their
+/// keys; revisions, documents and duties are numbered 1, 2 and so on; packages and changes are of
+/// documents and duties that exist; and codes are words.
 pub fn tables_are_orderly()
     ensures { (w : Readings) (h : List Command) → ListsInOrder w → ListsIds w
         → AreOrderly (tables w h) }

@@ -44,6 +44,7 @@ goes_on s before row =
     (may_move (state_after left) (last_day_at s before) row.day) (word_named row.word) false)
     (word_named before.word) false
 
+-- each change follows from the one before it
 abbrev pub go_on : Snapshot → StoredChange → List StoredChange → Bool
 go_on s before [] = true
 go_on s before (row ∷ rows) = goes_on s before row && go_on s row rows
@@ -73,6 +74,7 @@ is_formed row = is_day row.day
     && option_map_or (λ word. is_body word row.body && has_room word row.step) (word_named row.word)
     false
 
+-- the change by which a freeze raised the duty
 abbrev pub is_raising : StoredChange → Bool
 is_raising row = bytes_eq row.word (word_name word.Raised)
 
@@ -104,6 +106,7 @@ abbrev pub is_waiver_of : StoredChange → List ℕ → Bool
 is_waiver_of row last_day = bytes_eq row.word (word_name word.Waived)
     && (is_day last_day && not (is_before last_day row.day))
 
+-- the step that the waiver is for is there, and may have this last day
 abbrev pub is_waived : Snapshot → StoredWaiver → Bool
 is_waived s waiver = option_map_or (λ row. is_waiver_of row waiver.last_day)
     (find (is_change_at waiver.duty waiver.step) s.changes) false

@@ -52,6 +52,7 @@ pub record AreRevisions (w : Readings) (s : Snapshot) : Type 0 where
   pub numbered : AreFrom 1 (map (λ row. row.revision) s.catalogue)
   pub read : list_all (λ row. is_some (result_ok (w.catalogue row.body))) s.catalogue ≡ true
 
+-- a rule of a revision as the tables keep it: its codes joined by one blank
 abbrev pub stored_rule : ℤ → Rule → StoredRule
 stored_rule revision rule = record {
   revision = revision;
@@ -61,6 +62,7 @@ stored_rule revision rule = record {
   codes = join_with_byte 32 rule.codes;
 }
 
+-- the rules that a revision's body has, by term and form
 abbrev pub rules_by : Readings → StoredCatalogue → List StoredRule
 rules_by w row = map (stored_rule row.revision) (rules_in (result_ok (w.catalogue row.body)))
 
@@ -72,6 +74,7 @@ AreRules w s = s.rule ≡ flat_map (rules_by w) s.catalogue
 abbrev pub document_in : Readings → StoredDocument → Option Document
 document_in w row = result_ok (w.document row.bytes)
 
+-- the bytes of a row are read, and have the row's namespace
 abbrev pub is_read : Readings → StoredDocument → Bool
 is_read w row = option_map_or (λ read. bytes_eq read.namespace row.namespace) (document_in w row)
     false
@@ -88,6 +91,7 @@ pub record AreDocuments (w : Readings) (s : Snapshot) : Type 0 where
   pub profiled : map (λ row. row.document) s.reading ≡ map (λ row. row.number) s.document
   pub profiles : list_all is_profile s.reading ≡ true
 
+-- a package as the tables keep it: 1 if it ships, else 0
 abbrev pub stored_package : ℤ → Package → StoredPackage
 stored_package document p = record {
   document = document;
@@ -99,13 +103,16 @@ stored_package document p = record {
   shipped = pos (if p.shipped then 1 else 0);
 }
 
+-- the packages that a document's bytes have, by id
 abbrev pub packages_by : Readings → StoredDocument → List StoredPackage
 packages_by w row = option_map_or (λ read. map (stored_package row.number) read.packages)
     (document_in w row) []
 
+-- an extracted licence as the tables keep it
 abbrev pub stored_extracted : ℤ → Reference → StoredExtracted
 stored_extracted document r = record { document = document; reference = r.id; body = r.body }
 
+-- the extracted licences that a document's bytes have, by id
 abbrev pub extracted_by : Readings → StoredDocument → List StoredExtracted
 extracted_by w row = option_map_or (λ read. map (stored_extracted row.number) read.references)
     (document_in w row) []
@@ -129,12 +136,15 @@ is_adoption w row = (is_printed w row.reference
     && is_that row.reference (w.reference row.reference))
     && (is_printed w row.licence && w.is_licence row.licence)
 
+-- a release that is withdrawn
 abbrev pub is_withdrawn : StoredRelease → Bool
 is_withdrawn row = bytes_eq row.state (release_state_name release.Withdrawn)
 
+-- a release that is frozen now; a withdrawn one no longer is
 abbrev pub is_frozen : StoredRelease → Bool
 is_frozen row = bytes_eq row.state (release_state_name release.Frozen)
 
+-- the profile that a stored number stands for
 abbrev pub profile_of : StoredReading → Profile
 profile_of row = if int_eq row.profile (pos 2) then Either else Capitals
 
@@ -154,6 +164,7 @@ abbrev pub terms_at : Snapshot → StoredChoice → List (List ℕ)
 terms_at s row = map (λ other. other.term)
     (filter (is_choice_of row.release row.document row.package_id) s.choice)
 
+-- the verdict that no term can go
 abbrev pub is_minimal : Verdict → Bool
 is_minimal verdict.Minimal = true
 is_minimal _ = false
@@ -184,11 +195,13 @@ pub record Held : Type 0 where
   pub package_id : List ℕ
   pub term : List ℕ
 
+-- what a release holds, by document, package and term
 abbrev pub chosen_in : Snapshot → List ℕ → List Held
 chosen_in s release = map (λ row.
     record { document = row.document; package_id = row.package_id; term = row.term })
     (filter (is_choice_in release) s.choice)
 
+-- what a release was frozen with, by document, package and term
 abbrev pub frozen_in : Snapshot → List ℕ → List Held
 frozen_in s release = map (λ row.
     record { document = row.document; package_id = row.package_id; term = row.term })
@@ -241,6 +254,7 @@ pub record Owed : Type 0 where
   pub code : List ℕ
   pub rule : List ℕ
 
+-- what a frozen term owes for one code
 abbrev pub owed_for : StoredFrozen → List ℕ → Owed
 owed_for row code = record {
   release = row.release;
@@ -255,6 +269,7 @@ owed_for row code = record {
 abbrev pub owed_by : Snapshot → StoredFrozen → List Owed
 owed_by s row = option_map_or (λ rule. map (owed_for row) (codes_in rule.codes)) (rule_for s row) []
 
+-- what the row of a duty says that it is owed for
 abbrev pub owed_of : StoredDuty → Owed
 owed_of row = record {
   release = row.release;
@@ -281,6 +296,7 @@ pub record AreChanges (s : Snapshot) : Type 0 where
   pub of_duties : list_all (λ row. is_within (length s.duty) row.duty) s.changes ≡ true
   pub waivers : list_all (is_waived s) s.waiver ≡ true
 
+-- the row of a duty has the name of this state
 abbrev pub is_in_state : DutyState → StoredDuty → Bool
 is_in_state state row = bytes_eq row.state (duty_state_name state)
 

@@ -13,6 +13,7 @@ use Rattle.desk_snapshot.specs.declared.fault.AuditReport.{AuditReport}
 use Rattle.desk_snapshot.specs.declared.fault.AuditReport.TheVariants.{Sound, Unsound}
 use Rattle.desk_snapshot.specs.declared.snapshot.Snapshot.{Snapshot}
 
+-- the name by which an audit reports the condition that isn't met
 abbrev pub audit_name : AuditFault → List ℕ
 audit_name BadMeta = codes "BadMeta"
 audit_name BadRevision = codes "BadRevision"

@@ -18,18 +18,23 @@ abbrev pub AreFrom : ℕ → List ℤ → Type 0
 AreFrom n [] = Unit {0}
 AreFrom n (m ∷ ms) = (m ≡ pos n) × AreFrom (n + 1) ms
 
+-- the profile of this document
 abbrev pub is_reading_of : ℤ → StoredReading → Bool
 is_reading_of document row = int_eq row.document document
 
+-- the package with this id in this document
 abbrev pub is_package : ℤ → List ℕ → StoredPackage → Bool
 is_package document id row = int_eq row.document document && bytes_eq row.id id
 
+-- the conclusion for this package of this document
 abbrev pub is_conclusion : ℤ → List ℕ → StoredConclusion → Bool
 is_conclusion document id row = int_eq row.document document && bytes_eq row.package_id id
 
+-- the release with this name
 abbrev pub is_release : List ℕ → StoredRelease → Bool
 is_release name row = bytes_eq row.name name
 
+-- this document, attached to this release
 abbrev pub is_attachment : List ℕ → ℤ → StoredAttached → Bool
 is_attachment release document row = bytes_eq row.release release && int_eq row.document document
 
@@ -37,10 +42,12 @@ is_attachment release document row = bytes_eq row.release release && int_eq row.
 abbrev pub is_choice_in : List ℕ → StoredChoice → Bool
 is_choice_in release row = bytes_eq row.release release
 
+-- a term chosen for this package in this release
 abbrev pub is_choice_of : List ℕ → ℤ → List ℕ → StoredChoice → Bool
 is_choice_of release document id row = bytes_eq row.release release
     && (int_eq row.document document && bytes_eq row.package_id id)
 
+-- a term that this release was frozen with
 abbrev pub is_frozen_in : List ℕ → StoredFrozen → Bool
 is_frozen_in release row = bytes_eq row.release release
 
@@ -49,11 +56,14 @@ abbrev pub is_rule_spelled : ℤ → List ℕ → List ℕ → StoredRule → Bo
 is_rule_spelled revision form spelled row = int_eq row.revision revision
     && (bytes_eq row.form form && bytes_eq row.spelled spelled)
 
+-- a change of this duty
 abbrev pub is_change_of : ℤ → StoredChange → Bool
 is_change_of duty row = int_eq row.duty duty
 
+-- the change of this duty with this step
 abbrev pub is_change_at : ℤ → ℤ → StoredChange → Bool
 is_change_at duty step row = int_eq row.duty duty && int_eq row.step step
 
+-- the last day for this step of this duty
 abbrev pub is_waiver_at : ℤ → ℤ → StoredWaiver → Bool
 is_waiver_at duty step row = int_eq row.duty duty && int_eq row.step step

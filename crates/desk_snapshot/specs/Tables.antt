@@ -35,9 +35,11 @@ use Rattle.desk_snapshot.specs.declared.rows.StoredRule.{StoredRule}
 use Rattle.desk_snapshot.specs.declared.rows.StoredWaiver.{StoredWaiver}
 use Rattle.desk_snapshot.specs.declared.snapshot.Snapshot.{Snapshot}
 
+-- a revision
 abbrev pub catalogue_stored : CatalogueRow → StoredCatalogue
 catalogue_stored row = record { revision = pos row.revision; body = row.body }
 
+-- a rule: its codes are joined by one blank
 abbrev pub rule_stored : RuleRow → StoredRule
 rule_stored row = record {
   revision = pos row.revision;
@@ -47,6 +49,7 @@ rule_stored row = record {
   codes = join_with_byte 32 row.codes;
 }
 
+-- a document; its profile is in a table of its own
 abbrev pub document_stored : DocumentRow → StoredDocument
 document_stored row = record {
   number = pos row.number;
@@ -54,12 +57,14 @@ document_stored row = record {
   bytes = row.bytes;
 }
 
+-- the profile of a document: 1 for operators in capitals, 2 for either case
 abbrev pub reading_stored : DocumentRow → StoredReading
 reading_stored row = record {
   document = pos row.number;
   profile = pos (profile_number row.profile);
 }
 
+-- a package: 1 if it ships, else 0
 abbrev pub package_stored : PackageRow → StoredPackage
 package_stored row = record {
   document = pos row.document;
@@ -71,6 +76,7 @@ package_stored row = record {
   shipped = pos (if row.shipped then 1 else 0);
 }
 
+-- an extracted licence
 abbrev pub extracted_stored : ExtractedRow → StoredExtracted
 extracted_stored row = record {
   document = pos row.document;
@@ -78,6 +84,7 @@ extracted_stored row = record {
   body = row.body;
 }
 
+-- a conclusion of the office
 abbrev pub conclusion_stored : ConclusionRow → StoredConclusion
 conclusion_stored row = record {
   document = pos row.document;
@@ -85,6 +92,7 @@ conclusion_stored row = record {
   expression = row.expression;
 }
 
+-- an adoption
 abbrev pub adoption_stored : AdoptionRow → StoredAdoption
 adoption_stored row = record {
   document = pos row.document;
@@ -92,6 +100,7 @@ adoption_stored row = record {
   licence = row.licence;
 }
 
+-- a release: its state by name, its revision 0 before a freeze
 abbrev pub release_stored : ReleaseRow → StoredRelease
 release_stored row = record {
   name = row.name;
@@ -101,9 +110,11 @@ release_stored row = record {
   revision = pos row.revision;
 }
 
+-- a document that is attached to a release
 abbrev pub attached_stored : AttachedRow → StoredAttached
 attached_stored row = record { release = row.release; document = pos row.document }
 
+-- a chosen term
 abbrev pub choice_stored : ChoiceRow → StoredChoice
 choice_stored row = record {
   release = row.release;
@@ -112,6 +123,7 @@ choice_stored row = record {
   term = row.term;
 }
 
+-- a frozen term, with the rule's spelling
 abbrev pub frozen_stored : FrozenRow → StoredFrozen
 frozen_stored row = record {
   release = row.release;
@@ -121,6 +133,7 @@ frozen_stored row = record {
   rule = row.rule;
 }
 
+-- a duty: its state by name
 abbrev pub duty_stored : DutyRow → StoredDuty
 duty_stored row = record {
   number = pos row.number;
@@ -133,6 +146,7 @@ duty_stored row = record {
   state = duty_state_name row.state;
 }
 
+-- a change: its word by name; a waiver's last day is in a table of its own
 abbrev pub change_stored : ChangeRow → StoredChange
 change_stored row = record {
   duty = pos row.duty;
@@ -142,6 +156,7 @@ change_stored row = record {
   body = row.body;
 }
 
+-- the last day of a waiver that ends
 abbrev pub waiver_stored : ChangeRow → StoredWaiver
 waiver_stored row = record {
   duty = pos row.duty;
@@ -149,6 +164,7 @@ waiver_stored row = record {
   last_day = unwrap_or row.last_day [];
 }
 
+-- all tables of schema version 3
 abbrev pub snapshot_of : Tables → Snapshot
 snapshot_of t = record {
   meta = record { version = pos 3 } ∷ [];

@@ -14,7 +14,7 @@ pub enum AuditFault {
     BadDocument,
     /// The packages and the extracted licences are those of the documents.
     BadPackage,
-    /// The office's conclusions, adoptions, places and choices are ones that it can have made.
+    /// The office can have made its conclusions, adoptions, places and choices.
     BadChoice,
     /// The duties are numbered from 1, at most 100,000, and each is of a release that was frozen.
     BadNumber,
@@ -54,6 +54,6 @@ impl AuditFault {
 pub enum AuditReport {
     /// They meet all ten conditions.
     Sound,
-    /// They don't meet this one, but those before it.
+    /// They don't meet this one, but they meet those before it.
     Unsound(AuditFault),
 }

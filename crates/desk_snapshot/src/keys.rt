@@ -15,6 +15,7 @@ use std::cmp::Ordering;
 /// The profile of a document.
 #[derive(Clone, Copy)]
 pub struct ByDocument {
+    /// The number of the document.
     pub document: i64,
 }
 
@@ -35,7 +36,9 @@ impl Sought<StoredReading> for ByDocument {
 /// A package of a document by its id.
 #[derive(Clone, Copy)]
 pub struct ById<'a> {
+    /// The number of the document.
     pub document: i64,
+    /// The SPDXID of the package.
     pub id: &'a str,
 }
 
@@ -58,7 +61,9 @@ impl Sought<StoredPackage> for ById<'_> {
 /// The office's conclusion for a package.
 #[derive(Clone, Copy)]
 pub struct ByPackage<'a> {
+    /// The number of the document.
     pub document: i64,
+    /// The SPDXID of the package.
     pub package_id: &'a str,
 }
 
@@ -81,6 +86,7 @@ impl Sought<StoredConclusion> for ByPackage<'_> {
 /// A release by its name.
 #[derive(Clone, Copy)]
 pub struct ByName<'a> {
+    /// The name of the release.
     pub name: &'a str,
 }
 
@@ -101,7 +107,9 @@ impl Sought<StoredRelease> for ByName<'_> {
 /// A document that is attached to a release.
 #[derive(Clone, Copy)]
 pub struct ByAttachment<'a> {
+    /// The name of the release.
     pub release: &'a str,
+    /// The number of the document.
     pub document: i64,
 }
 
@@ -125,8 +133,11 @@ impl Sought<StoredAttached> for ByAttachment<'_> {
 /// What is chosen for a package in a release.
 #[derive(Clone, Copy)]
 pub struct ByChoice<'a> {
+    /// The name of the release.
     pub release: &'a str,
+    /// The number of the document.
     pub document: i64,
+    /// The SPDXID of the package.
     pub package_id: &'a str,
 }
 
@@ -151,6 +162,7 @@ impl Sought<StoredChoice> for ByChoice<'_> {
 /// What is chosen in a release.
 #[derive(Clone, Copy)]
 pub struct ByHolder<'a> {
+    /// The name of the release.
     pub release: &'a str,
 }
 
@@ -171,6 +183,7 @@ impl Sought<StoredChoice> for ByHolder<'_> {
 /// The terms that a release was frozen with.
 #[derive(Clone, Copy)]
 pub struct ByFrozen<'a> {
+    /// The name of the release.
     pub release: &'a str,
 }
 
@@ -191,6 +204,7 @@ impl Sought<StoredFrozen> for ByFrozen<'_> {
 /// The changes of a duty.
 #[derive(Clone, Copy)]
 pub struct ByDuty {
+    /// The number of the duty.
     pub duty: i64,
 }
 
@@ -211,7 +225,9 @@ impl Sought<StoredChange> for ByDuty {
 /// A step of a duty.
 #[derive(Clone, Copy)]
 pub struct ByStep {
+    /// The number of the duty.
     pub duty: i64,
+    /// The step, from 1.
     pub step: i64,
 }
 

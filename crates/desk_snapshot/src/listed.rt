@@ -8,8 +8,8 @@ use desk_sorted::{Appended, Keyed, Sought};
 use std::alloc::Global;
 use std::marker::Model;
 
-/// The rows of a table, seen as their list. If they are in the order of their keys, as they are if
-/// a database lists them so, they are found by binary search, otherwise one after another.
+/// The rows of a table, seen as their list. If they are in the order of their keys, which a
+/// database's query can ensure, they are found by binary search, otherwise one by one.
 #[derive(Drop)]
 pub struct Listed<R: Keyed> {
     appended: Appended<R>,

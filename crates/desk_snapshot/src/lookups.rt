@@ -1,4 +1,4 @@
-//! What the rows of a snapshot say of a document and of a change.
+//! What the rows of a snapshot say about a document and about a change.
 
 ghost use Rattle.std.specs.Prelude.{◌≡◌};
 ghost use Rattle.std.specs.Option.{option_copied};

@@ -5,14 +5,14 @@ use Rattle.std.specs.Prelude.{◌==◌}
 use Rattle.std.proofs.lemmas.Bool.Decides.{nat_tests}
 use Rattle.std.proofs.lemmas.Int.{ints}
 use Rattle.sqlite.specs.State.{State}
-use Rattle.desk_sql_layout.specs.Layout.{desk_schema}
+use Rattle.desk_sql_layout.specs.Desk.{HasDesk}
 use Rattle.desk_sql_adopt.specs.declared.version.Content.{Content}
 use Rattle.desk_sql_adopt.specs.declared.version.Content.TheVariants.{Desk, OtherVersion, Other}
 use Rattle.desk_sql_adopt.specs.Version.{IsContent, TellsNoOther, TellsVersion, has_version}
 
 module _ (s : State) (has : has_version s.now.schema ≡ true) (declared : Bool)
-    (all : declared ≡ true → s.now.schema ≡ desk_schema)
-    (told : s.now.schema ≡ desk_schema → declared ≡ true) (content : Content) where
+    (all : declared ≡ true → HasDesk s.now.schema)
+    (told : HasDesk s.now.schema → declared ≡ true) (content : Content) where
   right_version : (b : Bool) → declared ≡ b → (declared ≡ true → content ≡ Desk)
       → (declared ≡ false → content ≡ Other) → TellsNoOther s → IsContent s content
   right_version true is desk other tells = subst (IsContent s) (sym (desk is)) (tells, all is)

@@ -1,8 +1,10 @@
 pub mod Turns
+pub mod Bytewise
 pub mod Asking
 pub mod Selecting
 pub mod Spared
 pub mod Texts
 pub mod Contents
+pub mod Desks
 pub mod Olders
 pub mod DeskColumns

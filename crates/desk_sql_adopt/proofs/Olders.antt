@@ -1,9 +1,10 @@
 -- What a database is to a migration, and which version it gives if it holds a desk's tables in an
 -- older one.
-use Rattle.std.proofs.Common.{◌≡◌, ◌≢◌, ℕ, ℤ, pos, negsuc, Bool, true, false, List, [], ◌∷◌, map}
-use Rattle.std.proofs.Common.{length, codes, Option, Some, None, inr, refl, sym, ap, subst, subst₂}
-use Rattle.std.proofs.Common.{◌∙◌, arith, IfSome, IfNone, IsPermutation}
-use Rattle.std.specs.Prelude.{◌==◌}
+use Rattle.std.proofs.Common.{◌≡◌, ◌≢◌, ◌∙◌, ℕ, ℤ, pos, negsuc, Bool, true, false, List, [], ◌∷◌, map}
+use Rattle.std.proofs.Common.{codes, slice_get, Option, Some, None, Ok, Err, Result, inr, refl, sym}
+use Rattle.std.proofs.Common.{ap, arith, subst, subst₂, IsPermutation}
+use Rattle.std.specs.Prelude.{◌==◌, option_and_then, option_map, unwrap_or}
+use Rattle.std.specs.Bool.{Decides}
 use Rattle.std.specs.List.{AllByRecursion}
 use Rattle.std.proofs.lemmas.Bool.Decides.{nat_tests}
 use Rattle.std.proofs.lemmas.Int.{ints}
@@ -13,149 +14,184 @@ use Rattle.sqlite_value.specs.Order.{Row, column}
 use Rattle.sqlite_trees.proofs.ListLemmas.{filter_all, map-map}
 use Rattle.sqlite_sql.specs.Term.{col}
 use Rattle.sqlite_sql.specs.Query.{Output, output}
-use Rattle.sqlite_schema.specs.declared.schema.Schema.{Schema}
 use Rattle.sqlite_schema.specs.declared.command.Command.TheVariants.{Select}
-use Rattle.sqlite_schema.specs.Names.{same_name}
-use Rattle.sqlite_tied.specs.Compute.{everything}
+use Rattle.sqlite_schema.specs.declared.schema.Schema.{Schema}
+use Rattle.sqlite_schema.specs.declared.schema.Table.{Table}
+use Rattle.sqlite_resolve.specs.declared.compiled.Compiled.{Compiled}
+use Rattle.sqlite_resolve.specs.declared.error.CompileError.{CompileError}
+use Rattle.sqlite_resolve.specs.Compile.{compiled, first}
+use Rattle.sqlite_rules.specs.Lists.{Has}
+use Rattle.sqlite_rules.proofs.ListLemmas.{has_got, some_from}
 use Rattle.sqlite.specs.Effect.{Reads}
-use Rattle.sqlite.specs.Listing.{understood, reads_listing}
+use Rattle.sqlite.specs.Listing.{misses_table, reads_listing, understood}
 use Rattle.sqlite.specs.State.{State, Shown}
 use Rattle.sqlite.proofs.Callers.{IsPlain, command_of, one_permutation, reads_as}
-use Rattle.desk_sql_layout.specs.Layout.{meta_table}
+use Rattle.desk_sql_layout.specs.Desk.{HasTable, found_as, tree_in, tree_named}
+use Rattle.desk_sql_layout.specs.Layout.{desk_schema, meta_table}
 use Rattle.desk_sql_layout.specs.Stored.{AreStored}
+use Rattle.desk_sql_layout.proofs.Declared.{name_is}
+use Rattle.desk_sql_layout.proofs.OneQuery as one
+use Rattle.desk_sql_layout.proofs.OneQuery.{compiled_same, meant}
 use Rattle.desk_sql_layout.proofs.Queries.{query_on, env, selected}
-use Rattle.desk_sql_layout.proofs.Selects.{order_by}
-use Rattle.desk_sql_adopt.specs.Older.{HasOlderRows, IsOlderContent, older_schema, version_number}
-use Rattle.desk_sql_adopt.specs.Version.{TellsVersion, has_version, version_text}
+use Rattle.desk_sql_layout.proofs.Selecting.{IsMeant, understood_as}
+use Rattle.desk_sql_adopt.specs.Older.{HasOlder, HasOlderRows, IsOlderContent, declares}
+use Rattle.desk_sql_adopt.specs.Older.{version_number}
+use Rattle.desk_sql_adopt.specs.Version.{TellsVersion, has_version, is_meta, version_text}
 use Rattle.desk_sql_adopt.specs.declared.older.OlderVersion.{OlderVersion}
 use Rattle.desk_sql_adopt.specs.declared.older.OlderVersion.TheVariants.{One, Two}
 use Rattle.desk_sql_adopt.specs.declared.older.OlderContent.{OlderContent}
 use Rattle.desk_sql_adopt.specs.declared.older.OlderContent.TheVariants.{Older, Untold, OtherVersion, Other}
+use Rattle.desk_sql_adopt.proofs.DeskColumns.{meta_found, meta_there}
+use Rattle.desk_sql_adopt.proofs.Texts.{version_from, version_meant}
 
-pub older_has_version : (version : OlderVersion) → has_version (older_schema version) ≡ true
-unfolding same_name
-older_has_version One = refl
-older_has_version Two = refl
+-- the tree by which a table of a desk is found
+pub tree_of : (schema : Schema) (t : Table) → Has desk_schema.tables t → (it : HasTable schema t)
+    → tree_in schema t.tree ≡ it.tree
+unfolding tree_in
+tree_of schema t there it =
+    ap (tree_named schema) (name_is t there)
+    ∙ ap (λ at. unwrap_or (option_map (λ (t : Table). t.tree)
+    (option_and_then (slice_get schema.tables) at)) 0) it.named
+    ∙ ap (λ o. unwrap_or (option_map (λ (t : Table). t.tree) o) 0) it.listed
+
+-- each older version has a table `meta`
+meta_in : (version : OlderVersion) (schema : Schema) → HasOlder version schema
+    → HasTable schema meta_table
+unfolding HasOlder
+meta_in One schema has = has.each.0
+meta_in Two schema has = has.each.0
+
+pub older_has_version : (version : OlderVersion) (schema : Schema) → HasOlder version schema
+    → has_version schema ≡ true
+older_has_version version schema has =
+    let it = meta_in version schema has in
+    some_from is_meta schema.tables (found_as meta_table it.tree it.not_null)
+    (has_got schema.tables it.place (found_as meta_table it.tree it.not_null) it.listed)
+    (meta_found it.tree it.not_null)
 
 -- ---- which version is given
 
-abbrev Asked : Schema → Type 0
-Asked schema =
-    (command_of (understood schema version_text)
-    ≡ Select (record { lets = []; body = query_on 0 [] (col 1 0 ∷ []) (order_by []) })
-    (codes "version" ∷ []))
-    × ((reads_listing schema version_text ≡ false) × IsPlain (understood schema version_text))
+never_missing : (r : Result Compiled CompileError) (tree : ℕ)
+    → IsMeant r version_text 0 tree [] (col 1 0 ∷ []) [] (codes "version" ∷ [])
+    → misses_table r ≡ false
+never_missing (Ok c) tree it = refl
+never_missing (Err e) tree it = absurd it.suits
 
-first_asked : Asked (older_schema One)
-unfolding understood everything
-first_asked = (refl, (refl, (refl, refl)))
+module _ (schema : Schema) (it : HasTable schema meta_table) where
+  abbrev this : Table
+  this = found_as meta_table it.tree it.not_null
 
-second_asked : Asked (older_schema Two)
-unfolding understood everything
-second_asked = (refl, (refl, (refl, refl)))
+  abbrev here : Result Compiled CompileError
+  here = meant this (first version_text)
+
+  there : one.Has schema it.place this
+  there = record { named = it.named; listed = it.listed; found = it.own; low = it.stored }
+
+  compiled_here : compiled schema version_text ≡ here
+  compiled_here = compiled_same schema it.place this there version_text
+      (version_from it.tree it.not_null)
+
+  found : misses_table here ≡ false
+  found = never_missing here it.tree (version_meant it.tree it.not_null)
+
+  known : understood schema version_text ≡ here
+  known = understood_as schema version_text here compiled_here found
+
+  selects : command_of (understood schema version_text)
+      ≡ Select (record { lets = []; body = query_on it.tree [] (col 1 0 ∷ []) [] })
+      (codes "version" ∷ [])
+  selects = ap command_of known ∙ (version_meant it.tree it.not_null).is
+
+  plain : IsPlain (understood schema version_text)
+  plain = subst IsPlain (sym known) (version_meant it.tree it.not_null).plain
+
+  unlisted : reads_listing schema version_text ≡ false
+  unlisted = ap misses_table compiled_here ∙ found
 
 pub each : {X : Type 0} (xs : List X) → AllByRecursion (λ x. true ≡ true) xs
 each [] = tt
 each (x ∷ xs) = (refl, each xs)
 
-shown_rows : (schema : Schema) (old new : State) (rows wanted : List Row) → Asked schema
-    → old.now.schema ≡ schema → AreStored meta_table wanted (old.now.trees 0)
-    → Shown version_text [] old new rows → IsPermutation wanted rows
-shown_rows schema old new rows wanted asked has stored shown =
-    let q = query_on 0 [] (col 1 0 ∷ []) (order_by []) in
+shown_rows : (old new : State) (rows wanted : List Row) (it : HasTable old.now.schema meta_table)
+    → AreStored meta_table wanted (old.now.trees it.tree) → Shown version_text [] old new rows
+    → IsPermutation wanted rows
+shown_rows old new rows wanted it stored shown =
+    let schema = old.now.schema in
+    let q = query_on it.tree [] (col 1 0 ∷ []) [] in
     let out = λ (r : Row). output q (env [] r) in
-    let trees = old.now.trees in
+    let meta = old.now.trees it.tree in
     let reads : Reads (Select (record { lets = []; body = q })
     (codes "version" ∷ [])) old.now [] rows =
-    subst (λ c. Reads c old.now [] rows) asked.0
-    (reads_as version_text [] old new schema has (command_of (understood schema version_text)) refl
-    asked.1.1 asked.1.0 rows shown) in
-    let it = selected 0 [] (col 1 0 ∷ []) (order_by []) trees [] rows (reads.answer Null) in
-    let outs : IsPermutation (map out (trees 0)) it.ordered =
-    subst (λ l. IsPermutation (map out l) it.ordered)
-    (filter_all (λ (r : Row). true) (trees 0) (each (trees 0))) it.same in
-    let firsts : IsPermutation (map (λ (r : Row). column r 0 ∷ []) (trees 0)) rows =
-    subst₂ (λ xs ys. IsPermutation xs ys) (map-map (λ (o : Output). o.1) out (trees 0))
-    (sym it.shown) (IsPermutation-map (λ (o : Output). o.1) _ _ outs) in
-    IsPermutation-trans wanted (map (λ (r : Row). column r 0 ∷ []) (trees 0)) rows stored.same
-    firsts
+    subst (λ c. Reads c old.now [] rows) (selects schema it)
+    (reads_as version_text [] old new schema refl (command_of (understood schema version_text)) refl
+    (plain schema it) (unlisted schema it) rows shown) in
+    let sel = selected it.tree [] (col 1 0 ∷ []) [] old.now.trees [] rows (reads.answer Null) in
+    let outs : IsPermutation (map out meta) sel.ordered =
+    subst (λ l. IsPermutation (map out l) sel.ordered)
+    (filter_all (λ (r : Row). true) meta (each meta)) sel.same in
+    let firsts : IsPermutation (map (λ (r : Row). column r 0 ∷ []) meta) rows =
+    subst₂ (λ xs ys. IsPermutation xs ys) (map-map (λ (o : Output). o.1) out meta)
+    (sym sel.shown) (IsPermutation-map (λ (o : Output). o.1) _ _ outs) in
+    IsPermutation-trans wanted (map (λ (r : Row). column r 0 ∷ []) meta) rows stored.same firsts
+
+-- the rows of the table `meta`
+meta_rows : (version : OlderVersion) (all : ℕ → List Row) (old : State)
+    (has : HasOlderRows version all old.now)
+    → AreStored meta_table (all 0) (old.now.trees (meta_in version old.now.schema has.declared).tree)
+meta_rows version all old has = subst (λ n. AreStored meta_table (all 0) (old.now.trees n))
+    (tree_of old.now.schema meta_table meta_there (meta_in version old.now.schema has.declared))
+    (by version has)
+  where
+    by : (v : OlderVersion) → HasOlderRows v all old.now
+        → AreStored meta_table (all 0) (old.now.trees (tree_in old.now.schema 0))
+    by One has = has.stored.0
+    by Two has = has.stored.0
 
 pub version_shown : (version : OlderVersion) (all : ℕ → List Row) (row : Row) (old new : State)
     (rows : List Row) → all 0 ≡ row ∷ [] → HasOlderRows version all old.now
     → Shown version_text [] old new rows → rows ≡ row ∷ []
-version_shown One all row old new rows one has shown =
+version_shown version all row old new rows one has shown =
     one_permutation row rows (subst (λ l. IsPermutation l rows) one
-    (shown_rows (older_schema One) old new rows (all 0) first_asked has.declared has.stored.0
-    shown))
-version_shown Two all row old new rows one has shown =
-    one_permutation row rows (subst (λ l. IsPermutation l rows) one
-    (shown_rows (older_schema Two) old new rows (all 0) second_asked has.declared has.stored.0
-    shown))
+    (shown_rows old new rows (all 0) (meta_in version old.now.schema has.declared)
+    (meta_rows version all old has) shown))
 
 -- ---- what it is taken for
 
-differ : older_schema One ≢ older_schema Two
-differ same = let longer : 14 ≡ 15 = ap (λ (s : Schema). length s.tables) same in
-    absurd (omega (arith, longer))
+pub decides_each : (schema : Schema) (first second : Bool) → Decides first (HasOlder One schema)
+    → Decides second (HasOlder Two schema) → (version : OlderVersion)
+    → Decides (declares first second version) (HasOlder version schema)
+decides_each schema first second one two One = one
+decides_each schema first second one two Two = two
 
-pub declared_as : (schema : Schema) (d : Option OlderVersion)
-    → IfSome d (λ v. schema ≡ older_schema v)
-    → IfNone d ((v : OlderVersion) → schema ≢ older_schema v) → (v : OlderVersion)
-    → schema ≡ older_schema v → d ≡ Some v
-declared_as schema None has lacks v same = absurd (lacks v same)
-declared_as schema (Some One) has lacks One same = refl
-declared_as schema (Some Two) has lacks Two same = refl
-declared_as schema (Some One) has lacks Two same = absurd (differ (sym has ∙ same))
-declared_as schema (Some Two) has lacks One same = absurd (differ (sym same ∙ has))
-
-module _ (s : State) (declared : Option OlderVersion)
-    (some : IfSome declared (λ version. s.now.schema ≡ older_schema version))
-    (none : IfNone declared ((version : OlderVersion) → s.now.schema ≢ older_schema version))
+module _ (s : State) (has : OlderVersion → Bool)
+    (decides : (version : OlderVersion) → Decides (has version) (HasOlder version s.now.schema))
     (content : OlderContent) where
   -- the version that is given, if it is an older one
-  numbered : (version : OlderVersion) → (declared ≡ Some version → content ≡ Older version)
-      → (declared ≢ Some version → content ≡ Other)
+  numbered : (version : OlderVersion) → (has version ≡ true → content ≡ Older version)
+      → (has version ≡ false → content ≡ Other)
       → TellsVersion (Some (pos (version_number version))) s → IsOlderContent s content
-  numbered version older bare tells = go declared refl some none version older bare tells
+  numbered version older bare tells = go (has version) refl
     where
-      found : (v : OlderVersion) → content ≡ Older v
-          → TellsVersion (Some (pos (version_number v))) s → s.now.schema ≡ older_schema v
-          → IsOlderContent s content
-      found v is told same = subst (IsOlderContent s) (sym is) (told, same)
+      go : (b : Bool) → has version ≡ b → IsOlderContent s content
+      go true is = subst (IsOlderContent s) (sym (older is)) (tells, (decides version).0 is)
+      go false is = subst (IsOlderContent s) (sym (bare is))
+          (inr (version, tells, λ there. absurd (let no = sym is ∙ (decides version).1 there in cc)))
 
-      absent : (v : OlderVersion) → content ≡ Other → TellsVersion (Some (pos (version_number v))) s
-          → s.now.schema ≢ older_schema v → IsOlderContent s content
-      absent v is told differs = subst (IsOlderContent s) (sym is) (inr (v, told, differs))
-
-      go : (d : Option OlderVersion) → declared ≡ d → IfSome d (λ v. s.now.schema ≡ older_schema v)
-          → IfNone d ((v : OlderVersion) → s.now.schema ≢ older_schema v)
-          → (v : OlderVersion) → (declared ≡ Some v → content ≡ Older v)
-          → (declared ≢ Some v → content ≡ Other) → TellsVersion (Some (pos (version_number v))) s
-          → IsOlderContent s content
-      go None is has lacks v one other told = absent v
-          (other (λ e. absurd (let e2 = sym is ∙ e in cc))) told (lacks v)
-      go (Some One) is has lacks One one other told = found One (one is) told has
-      go (Some Two) is has lacks Two one other told = found Two (one is) told has
-      go (Some One) is has lacks Two one other told = absent Two
-          (other (λ e. absurd (let e2 = sym is ∙ e in cc))) told (λ e. differ (sym has ∙ e))
-      go (Some Two) is has lacks One one other told = absent One
-          (other (λ e. absurd (let e2 = sym is ∙ e in cc))) told (λ e. differ (sym e ∙ has))
-
-  module _ (has : has_version s.now.schema ≡ true) where
+  module _ (versioned : has_version s.now.schema ≡ true) where
     other_number : (n : ℤ) → n ≢ pos 1 → n ≢ pos 2 → content ≡ OtherVersion n
         → TellsVersion (Some n) s → IsOlderContent s content
     other_number n not_one not_two is tells = subst (IsOlderContent s) (sym is)
-        (tells, not_one, not_two, has)
+        (tells, not_one, not_two, versioned)
 
     pub older_is : (told : Option ℤ) → (told ≡ None → content ≡ Untold)
         → ((version : OlderVersion) → told ≡ Some (pos (version_number version))
-        → declared ≡ Some version → content ≡ Older version)
+        → has version ≡ true → content ≡ Older version)
         → ((version : OlderVersion) → told ≡ Some (pos (version_number version))
-        → declared ≢ Some version → content ≡ Other)
+        → has version ≡ false → content ≡ Other)
         → ((n : ℤ) → told ≡ Some n → n ≢ pos 1 → n ≢ pos 2 → content ≡ OtherVersion n)
         → TellsVersion told s → IsOlderContent s content
     older_is None untold older bare other tells = subst (IsOlderContent s) (sym (untold refl))
-        (tells, has)
+        (tells, versioned)
     older_is (Some (negsuc k)) untold older bare other tells =
         let no : (m : ℕ) → negsuc k ≢ pos m = λ m same. absurd (cc) in
         other_number (negsuc k) (no 1) (no 2) (other (negsuc k) refl (no 1) (no 2)) tells

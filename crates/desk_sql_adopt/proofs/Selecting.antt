@@ -9,7 +9,7 @@ use Rattle.desk_sql_layout.proofs.Selecting.{IsSelect}
 use Rattle.desk_sql_adopt.specs.Reading.{Asks}
 use Rattle.desk_sql_adopt.proofs.Asking.{asks}
 
--- this query of a table for the desk's schema, which changes nothing for any schema
+-- this query of a table of the desk, which changes nothing for any schema
 pub record IsBareSelect (text : List ℕ) (parameters tree : ℕ) (tests project : List Term)
     (by : List (Term × Key))
     (names : List (List ℕ)) : Type 0 where

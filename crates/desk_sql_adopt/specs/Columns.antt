@@ -12,5 +12,6 @@ is_like wanted table = same_name table.name wanted.name
     && list_all (λ column. list_any (λ other. same_name other.name column.name) table.columns)
     wanted.columns
 
+-- for each of the desk's tables, one of the schema is like it; other tables don't count
 abbrev pub has_columns : Schema → Bool
 has_columns schema = list_all (λ wanted. list_any (is_like wanted) schema.tables) desk_schema.tables

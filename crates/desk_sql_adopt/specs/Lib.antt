@@ -1,4 +1,5 @@
 pub mod Forms
+pub mod Owned
 pub mod Reading
 pub mod Version
 pub mod Older

@@ -1,25 +1,28 @@
 -- Databases of older versions: what they hold, and what becomes of it. Version 1 has neither the
 -- profiles of documents nor the last days of waivers, and version 2 has no last days.
-use Rattle.std.specs.Prelude.{◌≡◌, ◌≢◌, ◌⊎◌, ℕ, pos, true, false, not, ◌==◌, if◌then◌else◌, List}
-use Rattle.std.specs.Prelude.{[], ◌∷◌, map, take, Some, None}
-use Rattle.std.specs.List.{list_all}
+use Rattle.std.specs.Prelude.{◌≡◌, ◌≢◌, ◌⊎◌, ℕ, pos, Bool, true, false, not, ◌==◌, if◌then◌else◌}
+use Rattle.std.specs.Prelude.{List, [], ◌∷◌, map, take, Some, None}
+use Rattle.std.specs.List.{AllByRecursion, list_all}
 use Rattle.sqlite_value.specs.Order.{Row, column}
 use Rattle.sqlite_schema.specs.declared.schema.Schema.{Schema}
+use Rattle.sqlite_schema.specs.declared.schema.Table.{Table}
 use Rattle.sqlite.specs.Effect.{Database, IsDatabase}
 use Rattle.sqlite.specs.State.{State}
 use Rattle.desk_base.specs.Profiles.{profile_number}
 use Rattle.desk_model.specs.Tables.{Tables}
 use Rattle.desk_model.specs.Moves.{is_waiver}
 use Rattle.desk_sql_layout.specs.Cells.{number}
-use Rattle.desk_sql_layout.specs.Held.{AreOrderly, rows_of}
+use Rattle.desk_sql_layout.specs.Desk.{HasTable}
+use Rattle.desk_sql_layout.specs.Held.{AreOrderly, labelled, rows_of}
 use Rattle.desk_sql_layout.specs.Layout.{desk_schema, meta_table, document_table, reading_table, waiver_table}
-use Rattle.desk_sql_layout.specs.Stored.{AllStored}
+use Rattle.desk_sql_layout.specs.Stored.{AreStored}
 use Rattle.desk_sql_adopt.specs.Version.{TellsVersion, has_version}
 use Rattle.desk_sql_adopt.specs.declared.older.OlderVersion.{OlderVersion}
 use Rattle.desk_sql_adopt.specs.declared.older.OlderVersion.TheVariants.{One, Two}
 use Rattle.desk_sql_adopt.specs.declared.older.OlderContent.{OlderContent}
 use Rattle.desk_sql_adopt.specs.declared.older.OlderContent.TheVariants.{Older, Untold, OtherVersion, Other}
 
+-- what `meta` gives as its number
 abbrev pub version_number : OlderVersion → ℕ
 version_number One = 1
 version_number Two = 2
@@ -29,19 +32,25 @@ abbrev pub table_count : OlderVersion → ℕ
 table_count One = 14
 table_count Two = 15
 
--- the first tables of a desk, declared in the same way, with the indexes of their keys
-abbrev pub older_schema : OlderVersion → Schema
-older_schema version = record {
-  tables = take (table_count version) desk_schema.tables;
-  indexes = take 13 desk_schema.indexes;
-  views = [];
-}
+-- the first tables of a desk
+abbrev pub older_tables : OlderVersion → List Table
+older_tables version = take (table_count version) desk_schema.tables
+
+-- the schema has these tables of a desk, and no table of it has foreign keys
+pub record HasTables (tables : List Table) (schema : Schema) : Type 0 where
+  pub each : AllByRecursion (HasTable schema) tables
+  pub alone : AllByRecursion (λ t. t.references ≡ []) schema.tables
+
+-- it has the tables of that version, whatever else it has
+unfoldable pub HasOlder : OlderVersion → Schema → Type 0
+HasOlder version = HasTables (older_tables version)
 
 -- the database has the tables of that version, with these rows in any order
 pub record HasOlderRows (version : OlderVersion) (rows : ℕ → List Row)
     (db : Database) : Type 0 where
-  pub declared : db.schema ≡ older_schema version
-  pub stored : AllStored (older_schema version) rows db.trees
+  pub declared : HasOlder version db.schema
+  pub stored : AllByRecursion (λ t. AreStored t (rows t.tree) (labelled db t.tree))
+      (older_tables version)
   pub sound : IsDatabase db
 
 -- the rows, as cells, of the table with this tree, for a desk's tables in a database of that
@@ -75,16 +84,21 @@ migrated version rows tree =
     else (if tree == reading_table.tree then readings_for version rows
     else (if tree == waiver_table.tree then [] else rows tree))
 
+-- whether a schema has the tables of that version, by whether it has those of each
+abbrev pub declares : Bool → Bool → OlderVersion → Bool
+declares first second One = first
+declares first second Two = second
+
 -- What a database is to a migration: the tables of an older version; a table `meta` that gives no
 -- single version; another version; or something else, if there is no table `meta`, or if it gives
--- an older version but the schema isn't that of this version.
+-- an older version but the tables of this version aren't there.
 abbrev pub IsOlderContent : State → OlderContent → Type 0
 IsOlderContent s (Older version) = TellsVersion (Some (pos (version_number version))) s
-    × (s.now.schema ≡ older_schema version)
+    × HasOlder version s.now.schema
 IsOlderContent s Untold = TellsVersion None s × (has_version s.now.schema ≡ true)
 IsOlderContent s (OtherVersion n) = TellsVersion (Some n) s × (n ≢ pos 1) × (n ≢ pos 2)
     × (has_version s.now.schema ≡ true)
 IsOlderContent s Other =
     (has_version s.now.schema ≡ false)
     ⊎ ((version : OlderVersion) × TellsVersion (Some (pos (version_number version))) s
-    × (s.now.schema ≢ older_schema version))
+    × (¬ HasOlder version s.now.schema))

@@ -25,6 +25,7 @@ pub record IsSpared (old new : State) : Type 0 where
 abbrev pub HasStayed : State → State → Type 0
 HasStayed old new = IsSpared old new × (HasCleanDisk new → IsTrue old.is_open → IsTrue new.is_open)
 
+-- what reading leaves: after an answer the connection is still open, after a fault maybe not
 abbrev pub HasRead : {A : Type 0} → State → State → Result A Fault → Type 0
 HasRead old new (Ok x) = HasStayed old new
 HasRead old new (Err fault) = IsSpared old new

@@ -4,11 +4,11 @@ ghost use Rattle.std.specs.Prelude.{◌≡◌, ◌==◌, true, List, map};
 ghost use Rattle.std.specs.Bool.{Decides};
 ghost use Rattle.std.specs.List.{list_all};
 ghost use Rattle.desk_sql_layout.specs.Layout.{column_of};
-ghost use Rattle.desk_sql_adopt.specs.Forms.{HasNoMore, column_by, index_by, no_stamps, plain_orders, table_by};
+ghost use Rattle.desk_sql_adopt.specs.Forms.{HasNoMore, column_by, columns_by, key_by, no_stamps, plain_orders, table_in};
 
-use crate::forms::{ColumnForm, IndexForm, TableForm};
+use crate::forms::{ColumnForm, TableForm};
 use sqlite_items::Items;
-use sqlite_schema::schema::{Column, Index, Kind, Stamps, Table};
+use sqlite_schema::schema::{Column, Kind, Stamps, Table};
 use sqlite_value::keys::{Collation, Order};
 use sqlite_value::value::Value;
 
@@ -67,21 +67,40 @@ fn is_null(value: &Value) -> bool
     matches!(value, Value::Null)
 }
 
-impl Form for TableForm {
-    type Item = Table;
-
-    ghost declared = { table_by };
-
-    fn is(&self, table: &Table) -> bool {
-        table.name.as_slice() == self.name.as_bytes()
-            && table.tree == self.tree
-            && are(table.columns.as_slice(), self.columns)
-            && table.key == self.key
-            && table.primary.as_slice() == self.primary
-            && are(table.uniques.as_slice(), self.uniques)
-            && are_plain(table.orders.as_slice(), self.uniques)
-            && is_plain(table)
+/// Whether the columns are those of a form, whose number is declared with NOT NULL or without it.
+fn are_columns(columns: &[Column], form: &TableForm, not_null: bool) -> bool
+    ensures { Decides result (columns.now ≡ columns_by form.now.number not_null form.now.columns.now) }
+{
+    let Some(number) = form.number else {
+        return are(columns, form.columns);
+    };
+    match columns {
+        [first, others @ ..] => {
+            is_column(first, number, Kind::Integer, not_null) && are(others, form.columns)
+        }
+        [] => false,
     }
+}
+
+/// The place of the column that is the rowid.
+fn key_of(form: &TableForm) -> Option<usize>
+    ensures { result ≡ key_by form.now.number }
+{
+    form.number.map(|_| 0)
+}
+
+/// Whether a table is as a form declares it, but in this tree, and whether its number has NOT NULL.
+pub(crate) fn is_declared(table: &Table, form: &TableForm, tree: u32, not_null: bool) -> bool
+    ensures { Decides result (table.now ≡ table_in form.now tree not_null) }
+{
+    table.name.as_slice() == form.name.as_bytes()
+        && table.tree == tree
+        && are_columns(table.columns.as_slice(), form, not_null)
+        && table.key == key_of(form)
+        && table.primary.as_slice() == form.primary
+        && are(table.uniques.as_slice(), form.uniques)
+        && are_plain(table.orders.as_slice(), form.uniques)
+        && is_plain(table)
 }
 
 impl Form for &'static [usize] {
@@ -125,19 +144,4 @@ fn is_plain(table: &Table) -> bool
         && table.computed.is_empty()
         && is_timeless(&table.stamps)
         && !table.is_counted
-}
-
-impl Form for IndexForm {
-    type Item = Index;
-
-    ghost declared = { index_by };
-
-    fn is(&self, index: &Index) -> bool {
-        index.name.as_slice() == self.name.as_bytes()
-            && index.tree == self.tree
-            && index.table == self.table
-            && index.columns.as_slice() == self.columns
-            && index.order.digits == 0
-            && index.is_unique
-    }
 }

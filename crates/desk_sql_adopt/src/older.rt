@@ -1,18 +1,17 @@
 //! Databases of older versions.
 
-ghost use Rattle.std.specs.Prelude.{◌≡◌, ◌≢◌, ℤ, pos, false, Some, None, IfErr, IfOk, IfSome, IfNone, IsTrue, take};
+ghost use Rattle.std.specs.Prelude.{◌≡◌, ◌≢◌, ℤ, pos, true, false, Some, None, IfErr, IfOk, IsTrue};
 ghost use Rattle.std.specs.Bool.{Decides};
 ghost use Rattle.sqlite.specs.Held.{state};
 ghost use Rattle.sqlite.specs.State.{HasCleanDisk};
 ghost use Rattle.desk_model.specs.Tables.{Tables};
-ghost use Rattle.desk_sql_layout.specs.Layout.{desk_schema};
 ghost use Rattle.desk_sql_layout.specs.Causes.{HasCause};
-ghost use Rattle.desk_sql_adopt.specs.Older.{HoldsOlder, IsOlderContent, older_schema, version_number};
+ghost use Rattle.desk_sql_adopt.specs.Older.{HasOlder, HoldsOlder, IsOlderContent, declares, version_number};
 ghost use Rattle.desk_sql_adopt.specs.Reading.{HasRead};
 ghost use Rattle.desk_model.specs.declared.command.StoreFault.TheVariants.{Rows};
 
-use crate::forms::{INDEXES, TABLES};
-use crate::matching::are;
+use crate::declared::{has_tables, have_no_references};
+use crate::forms::TABLES;
 use crate::version::{has_version, version};
 use desk_model::Fault;
 use sqlite::{Alter, Connection};
@@ -48,56 +47,22 @@ pub enum OlderContent {
     Untold,
     /// A table `meta` that gives another version.
     OtherVersion(i64),
-    /// Something else, or not exactly the tables of the version that `meta` gives.
+    /// Something else, or not the tables of the older version that `meta` gives.
     Other,
 }
 
-fn has_first_tables(schema: &Schema) -> bool
-    ensures { Decides result (schema.now.tables ≡ (older_schema OlderVersion.One).tables) }
+/// Whether a schema has the tables of version 1, whatever else it has.
+fn has_first(schema: &Schema) -> bool
+    ensures { Decides result (HasOlder OlderVersion.One schema.now) }
 {
-    are(schema.tables.as_slice(), &TABLES[..14])
+    has_tables(schema, &TABLES[..14]) && have_no_references(schema.tables.as_slice())
 }
 
-fn has_second_tables(schema: &Schema) -> bool
-    ensures { Decides result (schema.now.tables ≡ (older_schema OlderVersion.Two).tables) }
+/// Whether a schema has the tables of version 2, whatever else it has.
+fn has_second(schema: &Schema) -> bool
+    ensures { Decides result (HasOlder OlderVersion.Two schema.now) }
 {
-    are(schema.tables.as_slice(), &TABLES[..15])
-}
-
-/// Whether a schema has the indexes of an older version, which are the same in both.
-fn has_older_indexes(schema: &Schema) -> bool
-    ensures { Decides result (schema.now.indexes ≡ take 13 desk_schema.indexes) }
-{
-    are(schema.indexes.as_slice(), &INDEXES[..13])
-}
-
-/// Whether a schema has the tables of version 1, and nothing else.
-fn is_first(schema: &Schema) -> bool
-    ensures { Decides result (schema.now ≡ older_schema OlderVersion.One) }
-{
-    has_first_tables(schema) && has_older_indexes(schema) && schema.views.is_empty()
-}
-
-/// Whether a schema has the tables of version 2, and nothing else.
-fn is_second(schema: &Schema) -> bool
-    ensures { Decides result (schema.now ≡ older_schema OlderVersion.Two) }
-{
-    has_second_tables(schema) && has_older_indexes(schema) && schema.views.is_empty()
-}
-
-/// The older version whose tables a schema has, as they are declared, with the indexes of their
-/// keys.
-fn declared_version(schema: &Schema) -> Option<OlderVersion>
-    ensures some { IfSome result (λ version. schema.now ≡ older_schema version) }
-    ensures none { IfNone result ((version : OlderVersion) → schema.now ≢ older_schema version) }
-{
-    if is_first(schema) {
-        return Some(OlderVersion::One);
-    }
-    if is_second(schema) {
-        return Some(OlderVersion::Two);
-    }
-    None
+    has_tables(schema, &TABLES[..15]) && have_no_references(schema.tables.as_slice())
 }
 
 /// The older version with a number.
@@ -113,13 +78,14 @@ fn older_version(number: i64) -> Option<OlderVersion>
     }
 }
 
-/// What a database is, by the version that it gives and the older version whose tables it has.
-fn content_by(told: Option<i64>, declared: Option<OlderVersion>) -> OlderContent
+/// What a database is, by the version that it gives and by whether it has the tables of version 1
+/// and those of version 2.
+fn content_by(told: Option<i64>, first: bool, second: bool) -> OlderContent
     ensures untold { told ≡ None → result ≡ OlderContent.Untold }
     ensures older { (version : OlderVersion) → told ≡ Some (pos (version_number version))
-        → declared ≡ Some version → result ≡ OlderContent.Older version }
+        → declares first second version ≡ true → result ≡ OlderContent.Older version }
     ensures bare { (version : OlderVersion) → told ≡ Some (pos (version_number version))
-        → declared ≢ Some version → result ≡ OlderContent.Other }
+        → declares first second version ≡ false → result ≡ OlderContent.Other }
     ensures other { (n : ℤ) → told ≡ Some n → n ≢ pos 1 → n ≢ pos 2
         → result ≡ OlderContent.OtherVersion n }
 {
@@ -127,14 +93,15 @@ fn content_by(told: Option<i64>, declared: Option<OlderVersion>) -> OlderContent
         return OlderContent::Untold;
     };
     match older_version(number) {
-        Some(version) if declared == Some(version) => OlderContent::Older(version),
+        Some(OlderVersion::One) if first => OlderContent::Older(OlderVersion::One),
+        Some(OlderVersion::Two) if second => OlderContent::Older(OlderVersion::Two),
         Some(_) => OlderContent::Other,
         None => OlderContent::OtherVersion(number),
     }
 }
 
-/// What a database is to a migration, by the version that it gives and by its schema. It is only
-/// read.
+/// What a database is to a migration, by the version that it gives and by its schema, whatever it
+/// has besides the tables of that version. It is only read.
 pub fn examine_older<S: Alter>(conn: &mut Connection<S>) -> Result<OlderContent, Fault>
     requires { conn.old.in_transaction ≡ false }
     ensures found { HasCleanDisk (state S.Store conn.new)
@@ -152,7 +119,8 @@ pub fn examine_older<S: Alter>(conn: &mut Connection<S>) -> Result<OlderContent,
     if !has_version(schema) {
         return Ok(OlderContent::Other);
     }
-    let declared = declared_version(schema);
+    let first = has_first(schema);
+    let second = has_second(schema);
     let told = version(conn)?;
-    Ok(content_by(told, declared))
+    Ok(content_by(told, first, second))
 }

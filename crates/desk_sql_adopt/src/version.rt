@@ -13,7 +13,7 @@ ghost use Rattle.desk_sql_adopt.specs.Reading.{HasRead};
 ghost use Rattle.desk_sql_adopt.specs.Version.{IsContent, ShowsVersion, TellsVersion, has_version, is_meta, version_in, whole_number};
 ghost use Rattle.desk_model.specs.declared.command.StoreFault.TheVariants.{Rows};
 
-use crate::declared::is_declared;
+use crate::declared::has_desk;
 use crate::query::query;
 use desk_model::Fault;
 use sqlite::{Alter, Connection, Row};
@@ -95,16 +95,16 @@ pub(crate) fn version<S: Alter>(conn: &mut Connection<S>) -> Result<Option<i64>,
     Ok(version_in(&rows))
 }
 
-/// What a database is taken for, by its version and by whether its schema is that of a desk.
-fn content_by(version: Option<i64>, is_declared: bool) -> Content
-    ensures desk { version ≡ Some (pos 3) → is_declared ≡ true → result ≡ Content.Desk }
-    ensures undeclared { version ≡ Some (pos 3) → is_declared ≡ false → result ≡ Content.Other }
-    ensures unnamed { version ≡ None → is_declared ≡ true → result ≡ Content.Desk }
-    ensures none { version ≡ None → is_declared ≡ false → result ≡ Content.Other }
+/// What a database is taken for, by its version and by whether its schema has a desk's tables.
+fn content_by(version: Option<i64>, has_desk: bool) -> Content
+    ensures desk { version ≡ Some (pos 3) → has_desk ≡ true → result ≡ Content.Desk }
+    ensures undeclared { version ≡ Some (pos 3) → has_desk ≡ false → result ≡ Content.Other }
+    ensures unnamed { version ≡ None → has_desk ≡ true → result ≡ Content.Desk }
+    ensures none { version ≡ None → has_desk ≡ false → result ≡ Content.Other }
     ensures other { (n : ℤ) → version ≡ Some n → n ≢ pos 3 → result ≡ Content.OtherVersion n }
 {
     match version {
-        Some(VERSION) | None if is_declared => Content::Desk,
+        Some(VERSION) | None if has_desk => Content::Desk,
         Some(VERSION) | None => Content::Other,
         Some(version) => Content::OtherVersion(version),
     }
@@ -112,9 +112,9 @@ fn content_by(version: Option<i64>, is_declared: bool) -> Content
 
 /// What a database holds, by the version that it gives and by its schema. It is only read.
 ///
-/// A database that shows a desk's tables, and whose table `meta` gives no other version, is a desk:
-/// whether `meta` has just one row is for an audit to say. One more table, index or view, or one
-/// that is declared differently, makes it `Other`.
+/// A database that has a desk's tables, and whose table `meta` gives no other version, is a desk,
+/// whatever else it has: an audit says whether `meta` has just one row. A table that is missing or
+/// declared differently makes it `Other`.
 pub fn examine<S: Alter>(conn: &mut Connection<S>) -> Result<Content, Fault>
     requires { conn.old.in_transaction ≡ false }
     ensures found { HasCleanDisk (state S.Store conn.new)
@@ -131,6 +131,6 @@ pub fn examine<S: Alter>(conn: &mut Connection<S>) -> Result<Content, Fault>
     if !has_version(schema) {
         return Ok(Content::Other);
     }
-    let is_declared = is_declared(schema);
-    Ok(content_by(version(conn)?, is_declared))
+    let has_desk = has_desk(schema);
+    Ok(content_by(version(conn)?, has_desk))
 }

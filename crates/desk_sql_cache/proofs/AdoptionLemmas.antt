@@ -26,7 +26,7 @@ use Rattle.desk_model.specs.declared.row.AdoptionRow.{AdoptionRow}
 use Rattle.desk_history.specs.FromTables.{adoption_count}
 use Rattle.desk_history.proofs.Concluding.{passed_by}
 use Rattle.desk_sql_layout.specs.Cells.{number, adoption_cells}
-use Rattle.desk_sql_layout.specs.Held.{Holds, rows_of, seen_of}
+use Rattle.desk_sql_layout.specs.Held.{Holds, labelled, rows_of, seen_of}
 use Rattle.desk_sql_layout.specs.Layout.{adoption_table}
 use Rattle.desk_sql_layout.specs.Stored.{cells}
 use Rattle.desk_sql_layout.proofs.Selects.{by_unique, mine}
@@ -50,7 +50,7 @@ at_one_key x y = tie places (key_of_cells (adoption_cells x)) (key_of_cells (ado
 apart : (t : Tables) (db : Database) → Holds t db → IsDistinct at_one_key t.adoption
 apart t db holds =
     let this = adoption_table in
-    let stored = db.trees 12 in
+    let stored = labelled db 12 in
     let e : Row → Row → Bool = λ cs ds. tie places (key_of_cells cs) (key_of_cells ds) in
     let up = by_unique this.name 12 this.columns this.key this.primary this.uniques this.orders 7
     refl adoption_cells (rows_of t) t.adoption refl db holds.rows 0 places refl refl

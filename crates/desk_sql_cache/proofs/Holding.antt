@@ -55,7 +55,7 @@ use Rattle.desk_history.proofs.Distinct.{from_filter, from_put}
 use Rattle.desk_history.proofs.Rows.{list_any-put}
 use Rattle.desk_memory_rows.proofs.Holding.{holders_kept}
 use Rattle.desk_sql_layout.specs.Cells.{release_cells}
-use Rattle.desk_sql_layout.specs.Held.{Holds, rows_of, seen_of}
+use Rattle.desk_sql_layout.specs.Held.{Holds, labelled, rows_of, seen_of}
 use Rattle.desk_sql_layout.specs.Layout.{releases_table}
 use Rattle.desk_sql_layout.specs.Stored.{cells}
 use Rattle.desk_sql_layout.proofs.Selects.{by_unique, mine}
@@ -248,7 +248,7 @@ at_one_name x y = tie names (name_of_cells (release_cells x)) (name_of_cells (re
 names_apart : (t : Tables) (db : Database) → Holds t db → IsDistinct at_one_name t.releases
 names_apart t db holds =
     let this = releases_table in
-    let stored = db.trees 14 in
+    let stored = labelled db 14 in
     let e : Row → Row → Bool = λ cs ds. tie names (name_of_cells cs) (name_of_cells ds) in
     let up = by_unique this.name 14 this.columns this.key this.primary this.uniques this.orders 8
     refl release_cells (rows_of t) t.releases refl db holds.rows 1 names refl refl

@@ -14,6 +14,7 @@ use Rattle.desk_sql_cache.specs.Last.{AreLast, last_after, nothing_last}
 abbrev pub AreFound : Found → Tables → Type 0
 AreFound found t = AreAdopted found.adoptions t × AreHeld found.holders t × AreLast found.last t
 
+-- what a store keeps before it has looked anything up
 abbrev pub nothing_kept : Found
 nothing_kept = record { adoptions = None; holders = None; last = nothing_last }
 

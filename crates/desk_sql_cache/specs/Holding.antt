@@ -12,6 +12,7 @@ use Rattle.desk_memory_rows.specs.Holders.{AreHolders, is_holder}
 use Rattle.desk_memory_rows.specs.declared.holders.Holder.{Holder}
 use Rattle.desk_sql_cache.specs.declared.holders.Holders.{Holders}
 
+-- the holders that are kept, in the order of their blocks
 abbrev pub held_by : Holders → List Holder
 held_by holders = rows_in holders.rows.blocks.items
 

@@ -21,12 +21,14 @@ abbrev pub IsRule : Option Rule → Tables → Type 0
 IsRule None t = Unit {0}
 IsRule (Some rule) t = rule_for (rules_found t) rule.term rule.form ≡ Some rule
 
+-- each thing that was looked up last, if it is still kept, is what the tables give now
 pub record AreLast (last : Last) (t : Tables) : Type 0 where
   pub document : IsDocument last.document t
   pub rule : IsRule last.rule t
   pub conclusions : AreConclusions last.conclusions t
   pub choices : AreChoices last.choices t
 
+-- no look-up is kept
 abbrev pub nothing_last : Last
 nothing_last = record {
   document = None;

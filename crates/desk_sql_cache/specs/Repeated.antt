@@ -18,9 +18,11 @@ AreChoices kept t = IfSome kept.rows
     (λ rows. IfSome kept.release (λ release. rows.rows.items
     ≡ filter (is_choice_in release) t.choice))
 
+-- nothing was asked for yet, of no document (documents are numbered from 1)
 abbrev pub no_conclusions : Conclusions
 no_conclusions = record { document = 0; asked = 0; rows = None }
 
+-- nothing was asked for yet, of no release
 abbrev pub no_choices : Choices
 no_choices = record { release = None; asked = 0; rows = None }
 

@@ -17,10 +17,13 @@ use sqlite::{Alter, Connection};
 use std::alloc::{AllocError, Global};
 use std::collections::BTreeSet;
 
-/// How many references of a document are adopted, and a set of references that has all of these.
+/// How many references of a document are adopted, and a set of references that includes all of
+/// these.
 #[derive(Drop)]
 pub struct Adoptions {
+    /// The document's number.
     pub document: u32,
+    /// How many of its references are adopted.
     pub count: u64,
     references: BTreeSet<String>,
 }

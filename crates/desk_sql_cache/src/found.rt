@@ -1,4 +1,4 @@
-//! What a store found of its rows, and keeps beside them.
+//! What a store found in its rows, and keeps beside them.
 
 ghost use Rattle.std.specs.Prelude.{◌≡◌, true, is_some, IfOk};
 ghost use Rattle.std.specs.Option.{option_map};
@@ -23,8 +23,11 @@ use std::alloc::Global;
 /// choice, if they were asked for; and what was looked up last.
 #[derive(Drop)]
 pub struct Found {
+    /// The adoptions of the document whose count was asked for last.
     pub adoptions: Option<Adoptions>,
+    /// The releases that hold a choice, by package.
     pub holders: Option<Holders>,
+    /// What was looked up last.
     pub last: Last,
 }
 

@@ -1,5 +1,5 @@
-//! What look-ups found last, for those that ask again: a freeze asks for each package for the same
-//! document and the same rule, and for what was concluded and chosen for it.
+//! What look-ups found last, for those that ask again: for each package a freeze asks for the same
+//! document and the same rule, and for what was concluded and chosen for the package.
 
 ghost use Rattle.std.specs.Prelude.{◌≡◌, ℕ, List, Some, IfOk, IfSome, OnErr, OnOk, find};
 ghost use Rattle.std.specs.Option.{option_map};
@@ -21,7 +21,9 @@ use std::alloc::{AllocError, Global};
 pub struct Last {
     document: Option<(u32, Profile)>,
     rule: Option<Rule>,
+    /// The conclusions that were asked for.
     pub conclusions: Conclusions,
+    /// The choices that were asked for.
     pub choices: Choices,
 }
 

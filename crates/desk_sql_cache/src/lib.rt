@@ -1,14 +1,15 @@
-//! What a desk in a SQL database keeps in memory of its tables, so that a command reads few rows.
+//! Caches look-ups of a desk in a SQL database until a change makes them stale, so that a command
+//! reads few rows.
 //!
 //! `Found` has what look-ups found and others ask for again (`specs/Found.antt`): the references of
 //! one document that are adopted (`specs/References.antt`), the releases that hold a choice
 //! (`specs/Holding.antt`), a document and a rule of the last look-ups (`specs/Last.antt`), and the
 //! conclusions of a document and the choices of a release that are asked for repeatedly
-//! (`specs/Repeated.antt`). Each definition says of which rows that is true.
+//! (`specs/Repeated.antt`). Each definition says for which rows the cached values are true.
 //!
-//! What is kept is read by `desk_sql_lookup` when it is asked for, and is true of the rows that a
-//! connection shows. Before a change is written, `found_after` gives what is true of the rows after
-//! it; the rest is let go. `replaces_none` says of an adoption whether it is known to replace no
+//! What is kept was read by `desk_sql_lookup` when it was asked for, and is true of the rows that a
+//! connection shows. Before a change is written, `found_after` gives what will be true of the rows
+//! after it; the rest is dropped. `replaces_none` says whether an adoption is known to replace no
 //! row.
 #![tactic(auto)]
 

@@ -7,7 +7,7 @@ use Rattle.desk_model.specs.Tables.{Tables, applied}
 use Rattle.desk_model.specs.declared.command.Change.{Change}
 use Rattle.desk_model.specs.declared.command.Fault.{Fault}
 use Rattle.desk_access.specs.Seen.{Seen}
-use Rattle.desk_sql_layout.specs.Held.{HasRows, rows_of}
+use Rattle.desk_sql_layout.specs.Held.{HasRows, labelled, rows_of}
 use Rattle.desk_sql_write.specs.Replacing.{Takes}
 use Rattle.desk_sql_write.specs.Taking.{CanStand, HasRoom, IsCaused, rows_in}
 
@@ -33,7 +33,7 @@ module _ (is_new : Bool) (change : Change) where
     pub cause : HasCleanDisk new → IsTrue old.is_open → old.step_limit ≡ None → (t : Tables)
         → Takes is_new change t
         → HasRows (rows_of t) old.now → CanStand (rows_of t) → CanStand (rows_of (applied change t))
-        → HasRoom (rows_in change) old.now.trees → IsCaused old new fault
+        → HasRoom (rows_in change) (labelled old.now) → IsCaused old new fault
 
   -- what contracts see of a store with such tables, as far as its disk is honest
   abbrev pub taking : Seen Trees → Seen Trees

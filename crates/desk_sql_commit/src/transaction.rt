@@ -51,9 +51,9 @@ fn write<S: Alter>(
 /// If the change is known to replace no row (`is_new`), none is dropped first.
 ///
 /// If the disk was honest: after `Ok` a change that continues the rows is made, and a stop leaves
-/// the rows after it and no others; after `Err` the rows are as they were, and a stop may leave the
+/// the rows after it and no others; after `Err` the rows are unchanged, and a stop may leave the
 /// change. The error is `Memory` if the database found no memory; `Store(Rows)` if the tables can't
-/// hold the change, and then nothing was tried; and else `Store(Database)`.
+/// hold the change, and then nothing was tried; otherwise `Store(Database)`.
 pub fn commit<S: Alter>(
     alloc: Global,
     conn: &mut Connection<S>,

@@ -1,11 +1,11 @@
 -- What a query does to what contracts see of a connection.
-use Rattle.std.proofs.Common.{◌≡◌, ◌⊎◌, inl, inr, ℕ, List, IsTrue, Option, Some, None, sym, subst, ◌∙◌, ap, arith}
+use Rattle.std.proofs.Common.{◌⊎◌, inl, inr, ℕ, List, IsTrue, Option, Some, None, sym, subst}
+use Rattle.std.proofs.Common.{◌∙◌, arith}
 use Rattle.sqlite_trees.specs.Tree.{Trees}
 use Rattle.sqlite_value.specs.Order.{Row}
 use Rattle.sqlite_schema.specs.declared.command.Returning.{Returning}
 use Rattle.sqlite_resolve.specs.declared.compiled.Compiled.{Compiled}
 use Rattle.sqlite.specs.declared.error.Error.{Error}
-use Rattle.sqlite.specs.Listing.{understood}
 use Rattle.sqlite.specs.Clock.{timed}
 use Rattle.sqlite.specs.State.{State, HasCleanDisk, Survives, IsUnchanged, IsRolledBack}
 use Rattle.sqlite.specs.State.{FailsToQuery, FailsToShow, IsNotRun, Shown, ShowsRows}
@@ -13,7 +13,8 @@ use Rattle.sqlite.specs.State.{CommitsShowing}
 use Rattle.sqlite.proofs.Callers.{IsPlain, never_commits}
 use Rattle.desk_model.specs.Tables.{Tables}
 use Rattle.desk_access.specs.Seen.{Kept, Same}
-use Rattle.desk_sql_layout.specs.Layout.{desk_schema}
+use Rattle.desk_sql_layout.specs.Causes.{IsPlainText}
+use Rattle.desk_sql_layout.specs.Desk.{HasDesk}
 use Rattle.desk_sql_layout.specs.Held.{Holds, Showing, seen_of}
 
 module _ (sql : List ℕ) (params : Row) (old new : State) where
@@ -46,12 +47,11 @@ module _ (sql : List ℕ) (params : Row) (old new : State) where
   unfolding Shown
   shown_open rows h = rows_open h.0 (timed params h.0.formats h.1.now) rows h.0.returning h.2
 
-  pub shown_unchanged : (rows : List Row) → old.now.schema ≡ desk_schema
-      → IsPlain (understood desk_schema sql) → Shown sql params old new rows → IsUnchanged old new
+  pub shown_unchanged : (rows : List Row) → HasDesk old.now.schema → IsPlainText sql
+      → Shown sql params old new rows → IsUnchanged old new
   unfolding Shown
   shown_unchanged rows has plain h =
-      let known = sym h.1.is ∙ ap (λ s. understood s sql) has in
-      let bare = subst IsPlain (sym known) plain in
+      let bare = subst IsPlain h.1.is (plain.within old.now.schema has) in
       let it = subst (ShowsRows old new sql h.0 (timed params h.0.formats h.1.now) rows) bare.0
       h.2 in it.3
 
@@ -59,8 +59,7 @@ module _ (sql : List ℕ) (params : Row) (old new : State) where
   abbrev pub Begins : Type 0
   Begins = IsUnchanged old new ⊎ ((rows : List Row) × Shown sql params old new rows)
 
-  begins_unchanged : old.now.schema ≡ desk_schema → IsPlain (understood desk_schema sql) → Begins
-      → IsUnchanged old new
+  begins_unchanged : HasDesk old.now.schema → IsPlainText sql → Begins → IsUnchanged old new
   begins_unchanged has plain (inl same) = same
   begins_unchanged has plain (inr shown) = shown_unchanged shown.0 has plain shown.1
 
@@ -84,7 +83,7 @@ module _ (sql : List ℕ) (params : Row) (old new : State) where
         settled = undone.1 ∙ sym undone.0;
       }
 
-  module _ (plain : IsPlain (understood desk_schema sql))
+  module _ (plain : IsPlainText sql)
       (survives : Survives old new (CommitsShowing sql params old)) where
     clean_before : HasCleanDisk new → HasCleanDisk old
     clean_before clean = omega (arith, survives.clean)
@@ -104,7 +103,7 @@ module _ (sql : List ℕ) (params : Row) (old new : State) where
           let shows = holds (clean_before clean) is in
           let none : CommitsShowing sql params old x → old.may_leave x = λ commits.
           absurd (never_commits sql params old x
-          (subst (λ s. IsPlain (understood s sql)) (sym shows.holds.rows.declared) plain)
+          (plain.within old.now.schema shows.holds.rows.declared)
           commits) in
           one x none (survives.crash clean x left);
     }

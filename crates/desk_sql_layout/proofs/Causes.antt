@@ -12,13 +12,15 @@ use Rattle.sqlite_sql.specs.Term.{Term}
 use Rattle.sqlite_typing.specs.Types.{accepts_program}
 use Rattle.sqlite_trees.specs.Tree.{Trees}
 use Rattle.sqlite_trees.specs.declared.error.StoreError.TheVariants as store
+use Rattle.sqlite_schema.specs.declared.schema.Schema.{Schema}
 use Rattle.sqlite_schema.specs.declared.command.Command.TheVariants.{Select}
 use Rattle.sqlite_resolve.specs.declared.compiled.Compiled.{Compiled}
 use Rattle.sqlite_resolve.specs.declared.error.CompileError.{CompileError}
 use Rattle.sqlite.specs.declared.error.Error.{Error}
 use Rattle.sqlite.specs.Effect.{Database, RefusesQuery, RefusesToRead}
 use Rattle.sqlite.specs.Listing.{understood, reads_listing, IsSourceOf}
-use Rattle.sqlite.specs.State.{State, HasCleanDisk, Survives, IsNoStatement, IsNotRun, Fails, FailsToQuery}
+use Rattle.sqlite.specs.State.{State, HasCleanDisk, Survives, IsNoStatement, IsNotRun, Fails}
+use Rattle.sqlite.specs.State.{FailsToQuery}
 use Rattle.sqlite.proofs.Callers.{IsPlain, command_of}
 use Rattle.desk_model.specs.declared.command.Fault.{Fault}
 use Rattle.desk_model.specs.declared.command.Fault.TheVariants.{Memory, Store}
@@ -27,9 +29,10 @@ use Rattle.desk_model.specs.Tables.{Tables}
 use Rattle.desk_access.specs.Seen.{Looked, MoreFaults, Same}
 use Rattle.desk_sql_layout.specs.Faults.{fault_by}
 use Rattle.desk_sql_layout.specs.Held.{seen_of}
-use Rattle.desk_sql_layout.specs.Layout.{desk_schema}
+use Rattle.desk_sql_layout.specs.Desk.{HasDesk}
 use Rattle.desk_sql_layout.proofs.Queries.{query_on}
-use Rattle.desk_sql_layout.specs.Causes.{AreWritten, HasCauseIf, HasCause, IsAsked, IsRow}
+use Rattle.desk_sql_layout.specs.Causes.{AreWritten, HasCauseIf, HasCause, IsAsked}
+use Rattle.desk_sql_layout.specs.Causes.{IsAskedIn, IsPlainText, IsRow}
 
 -- ---- why a query is refused
 
@@ -39,37 +42,40 @@ Suits sql count (Ok c) = (nat_le (length sql) c.tail ≡ true) × (count ≡ len
 Suits sql count (Err e) = ⊥
 
 -- a query of one table never is
-pub never_refused : (limit : Option ℕ) (tree : ℕ) (tests project : List Term)
+pub never_refused : (schema : Schema) (limit : Option ℕ) (tree : ℕ) (tests project : List Term)
     (order : List (Term × Key)) (params : Row) → limit ≡ None
-    → accepts_program desk_schema [] (query_on tree tests project order) params ≡ true
-    → (db : Database) (e : Error) → db.schema ≡ desk_schema
+    → accepts_program schema [] (query_on tree tests project order) params ≡ true
+    → (db : Database) (e : Error) → db.schema ≡ schema
     → ¬ RefusesQuery limit db (record { lets = []; body = query_on tree tests project order })
     params e
-never_refused limit tree tests project order params none accepts db e has (inl typed) = absurd
+never_refused schema limit tree tests project order params none accepts db e has
+    (inl typed) = absurd
     (let no = rw (has, accepts) at typed.1 in cc)
-never_refused limit tree tests project order params none accepts db e has (inr (inl (
+never_refused schema limit tree tests project order params none accepts db e has (inr (inl (
   is,
   inl over,
 ))) = over
-never_refused limit tree tests project order params none accepts db e has (inr (inl (
+never_refused schema limit tree tests project order params none accepts db e has (inr (inl (
   is,
   inr any,
 ))) = any.4
-never_refused limit tree tests project order params none accepts db e has (inr (inr limited)) =
+never_refused schema limit tree tests project order params none accepts db e has
+    (inr (inr limited)) =
     absurd (let no = rw none at limited.1 in cc)
 
-pub asked : (sql : List ℕ) (params : Row) (tree : ℕ) (tests project : List Term)
+pub asked : (schema : Schema) (sql : List ℕ) (params : Row) (tree : ℕ) (tests project : List Term)
     (order : List (Term × Key)) (names : List (List ℕ))
-    → (command_of (understood desk_schema sql)
+    → (command_of (understood schema sql)
     ≡ Select (record { lets = []; body = query_on tree tests project order }) names)
-    × (reads_listing desk_schema sql ≡ false)
-    → IsPlain (understood desk_schema sql) → Suits sql (length params) (understood desk_schema sql)
-    → accepts_program desk_schema [] (query_on tree tests project order) params ≡ true
-    → IsAsked sql params
-asked sql params tree tests project order names is plain suits accepts = go
-    (understood desk_schema sql) refl
+    × (reads_listing schema sql ≡ false)
+    → IsPlain (understood schema sql) → Suits sql (length params) (understood schema sql)
+    → accepts_program schema [] (query_on tree tests project order) params ≡ true
+    → IsAskedIn schema sql params
+asked schema sql params tree tests project order names is plain suits accepts = go
+    (understood schema sql) refl
   where
-    go : (r : Result Compiled CompileError) → understood desk_schema sql ≡ r → IsAsked sql params
+    go : (r : Result Compiled CompileError) → understood schema sql ≡ r
+        → IsAskedIn schema sql params
     go (Ok c) known =
         let fits = subst (Suits sql (length params)) known suits in
         let command : c.command ≡ Select (record {
@@ -87,19 +93,22 @@ asked sql params tree tests project order names is plain suits accepts = go
           whole = fits.0;
           given = fits.1;
           answers = λ db e has. subst (λ k. ¬ RefusesToRead None k db params e) (sym command)
-              (never_refused None tree tests project order params refl accepts db e has);
+              (never_refused schema None tree tests project order params refl accepts db e has);
         }
     go (Err e) known = absurd (subst (Suits sql (length params)) known suits)
 
-module _ (sql : List ℕ) (params : Row) (old new : State) (has : old.now.schema ≡ desk_schema)
+module _ (sql : List ℕ) (params : Row) (old new : State) (has : HasDesk old.now.schema)
     (opened : IsTrue old.is_open) (unlimited : old.step_limit ≡ None)
-    (asked : IsAsked sql params) where
+    (asks : IsAsked sql params) where
+  abbrev here : IsAskedIn old.now.schema sql params
+  here = asks.within old.now.schema has
+
   abbrev Caused : Error → Type 0
   Caused e = (fault_by e ≡ Memory)
       ⊎ ((fault_by e ≡ Store DatabaseFault) × MoreFaults old.faults new.faults)
 
-  known : understood old.now.schema sql ≡ Ok asked.compiled
-  known = ap (λ s. understood s sql) has ∙ asked.is
+  known : understood old.now.schema sql ≡ Ok here.compiled
+  known = here.is
 
   fails : (e : Error) → Fails old new ⊥ e → Caused e
   fails e (store.OutOfMemory, is, cause, back, tells) = inl (rw is refl)
@@ -109,28 +118,28 @@ module _ (sql : List ℕ) (params : Row) (old new : State) (has : old.now.schema
   fails e (store.Broken, is, cause, back, tells) = absurd (let shut = rw cause at opened in cc)
   fails e (store.Unstorable, is, cause, back, tells) = absurd cause
 
-  same_compiled : (c : Compiled) → understood old.now.schema sql ≡ Ok c → asked.compiled ≡ c
+  same_compiled : (c : Compiled) → understood old.now.schema sql ≡ Ok c → here.compiled ≡ c
   same_compiled c is = let it = sym known ∙ is in cc
 
   no_statement : (e : Error) → ¬ IsNoStatement old sql params e
   no_statement e (inl (fault, is, told)) = let it = sym known ∙ is in cc
   no_statement e (inr (c, is, inl (more, told))) = let it = same_compiled c is in
-      more (leb-true _ _ (rw it at asked.whole))
+      more (leb-true _ _ (rw it at here.whole))
   no_statement e (inr (c, is, inr (inl (differ, told)))) = let it = same_compiled c is in
-      differ (rw it at asked.given)
+      differ (rw it at here.given)
   no_statement e (inr (c, is, inr (inr (formats, told)))) = let it = same_compiled c is in
-      formats ((rw it at asked.plain).1)
+      formats ((rw it at here.plain).1)
 
-  answers : (c : Compiled) → asked.compiled ≡ c → (db : Database)
+  answers : (c : Compiled) → here.compiled ≡ c → (db : Database)
       → IsSourceOf (reads_listing old.now.schema sql) old.now db → (e : Error)
       → ¬ RefusesToRead old.step_limit c.command db params e
   answers c is db source e =
       let it : db ≡ old.now = subst (λ b. IsSourceOf b old.now db)
-      (ap (λ s. reads_listing s sql) has ∙ asked.unlisted) source in
-      let declared : db.schema ≡ desk_schema = ap (λ (d : Database). d.schema) it ∙ has in
+      here.unlisted source in
+      let declared : db.schema ≡ old.now.schema = ap (λ (d : Database). d.schema) it in
       subst (λ (k : Compiled). ¬ RefusesToRead old.step_limit k.command db params e) is
-      (subst (λ l. ¬ RefusesToRead l asked.compiled.command db params e) (sym unlimited)
-      (asked.answers db e declared))
+      (subst (λ l. ¬ RefusesToRead l here.compiled.command db params e) (sym unlimited)
+      (here.answers db e declared))
 
   pub caused : (e : Error) → FailsToQuery sql params old new e → Caused e
   unfolding FailsToQuery IsNotRun
@@ -138,9 +147,17 @@ module _ (sql : List ℕ) (params : Row) (old new : State) (has : old.now.schema
   caused e (inl (inr failed)) = fails e failed
   caused e (inr (c, it, h)) =
       let same = same_compiled c it.is in
-      let plain = rw same at asked.plain in
+      let plain = rw same at here.plain in
       let refused = rw (plain.0, plain.1, append-nil params) at h in
       absurd (answers c same refused.0 refused.1 e refused.2)
+
+-- a text that is asked reads no clock
+pub plain_text : {sql : List ℕ} {params : Row} → IsAsked sql params → IsPlainText sql
+plain_text asks = record {
+  within = λ schema desk.
+      let it = asks.within schema desk in
+      subst IsPlain (sym it.is) it.plain;
+}
 
 -- a query that failed
 pub failed_cause : (sql : List ℕ) (params : Row) (old new : State) (P : Trees → Type 0)

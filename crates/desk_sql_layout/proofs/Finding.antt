@@ -10,6 +10,8 @@ use Rattle.sqlite_sql.specs.Term.{Term}
 use Rattle.sqlite_sql.specs.Query.{Output, key_cmp, output, output_cmp}
 use Rattle.sqlite_typing.specs.Types.{accepts_program}
 use Rattle.sqlite_schema.specs.declared.schema.Table.{Table}
+use Rattle.sqlite_rules.specs.Lists.{Has}
+use Rattle.sqlite_rules.proofs.ListLemmas.{has_got}
 use Rattle.sqlite.specs.State.{State, Shown}
 use Rattle.desk_model.specs.Tables.{Tables}
 use Rattle.desk_sql_layout.specs.Held.{AreOrderly, Holds, rows_of}
@@ -19,7 +21,8 @@ use Rattle.desk_sql_layout.proofs.Queries.{query_on, passes, env}
 use Rattle.desk_sql_layout.specs.Causes.{AreWritten, IsAsked, IsRow, IsWritten}
 use Rattle.desk_sql_layout.proofs.Causes.{filter_written}
 use Rattle.desk_sql_layout.proofs.Selecting.{IsSelect, as_declared, select_asked}
-use Rattle.desk_sql_layout.proofs.Selects.{apart_shown, at_one_key, counts, keys_are, order_by, shows}
+use Rattle.desk_sql_layout.proofs.Selects.{apart_shown, at_one_key, counts, keys_are, order_by}
+use Rattle.desk_sql_layout.proofs.Selects.{shows}
 use Rattle.desk_sql_layout.proofs.Ties.{keys, picked}
 use Rattle.desk_sql_layout.proofs.Views.{StandApart, View}
 
@@ -101,19 +104,22 @@ module _ {X : Type 0} (view : View X)
   abbrev this : Table
   this = view.table
 
+  there : Has desk_schema.tables (as_declared this)
+  there = has_got desk_schema.tables view.place (as_declared this) view.listed
+
   abbrev shown_of : Row → Output
   shown_of cs = (picked at cs, picked out cs)
 
   -- how many rows pass
   pub finds_count : Finds text params (λ t rows. length rows ≡ length (filter p (view.held t)))
   finds_count = record {
-    asked = select_asked it params many accepts;
+    asked = select_asked it (as_declared this) there refl params many accepts;
     right = λ old new rows t shown holds.
         counts this.name this.tree this.columns this.key this.primary this.uniques this.orders
         view.place view.listed
         view.cells_of (rows_of t) (view.held t) (view.here t) old.now holds.rows text names tests
-        project ps it.is
-        it.plain params q shown_of p tested acts picks old new rows shown refl;
+        project ps it
+        params q shown_of p tested acts picks old new rows shown refl;
   }
 
   abbrev key_of : X → Row
@@ -135,13 +141,13 @@ module _ {X : Type 0} (view : View X)
         → FindsThem
     finds_sorted sorted = record {
       finds = record {
-        asked = select_asked it params many accepts;
+        asked = select_asked it (as_declared this) there refl params many accepts;
         right = λ old new rows t shown holds.
             shows this.name this.tree this.columns this.key this.primary this.uniques this.orders
             view.place
             view.listed view.cells_of (rows_of t) (view.held t) (view.here t) old.now holds.rows
             text names tests
-            project ps it.is it.plain params q shown_of p tested acts picks old new rows shown refl
+            project ps it params q shown_of p tested acts picks old new rows shown refl
             (apart t old holds) (sorted t old holds);
       };
       written = λ t are.
@@ -156,13 +162,13 @@ module _ {X : Type 0} (view : View X)
         (shown_of (view.cells_of a)) (shown_of (view.cells_of b))) ≡ false)
         (filter p (view.held t)))
     finds_apart = record {
-      asked = select_asked it params many accepts;
+      asked = select_asked it (as_declared this) there refl params many accepts;
       right = λ old new rows t shown holds.
           apart_shown this.name this.tree this.columns this.key this.primary this.uniques
           this.orders view.place
           view.listed view.cells_of (rows_of t) (view.held t) (view.here t) old.now holds.rows text
           names tests
-          project ps it.is it.plain params q shown_of p tested acts picks old new rows shown refl
+          project ps it params q shown_of p tested acts picks old new rows shown refl
           (apart t old holds);
     }
 
@@ -173,7 +179,7 @@ module _ {X : Type 0} (view : View X)
         view.place
         view.listed view.cells_of (rows_of t) (view.held t) (view.here t) old.now holds.rows text
         names tests project
-        ps it.is it.plain params q shown_of p tested acts picks k same)
+        ps it params q shown_of p tested acts picks k same)
 
     -- the rows of the table are in order
     pub finds_all : ((t : Tables) → AreOrderly t

@@ -1,3 +1,7 @@
+pub mod OneTable
+pub mod OneQuery
+pub mod OneWrite
+pub mod Declared
 pub mod Edits
 pub mod Keeps
 pub mod Orders
@@ -12,6 +16,7 @@ pub mod Counting
 pub mod Apart
 pub mod Ties
 pub mod Selecting
+pub mod Writing
 pub mod Selects
 pub mod Keyed
 pub mod Tests
@@ -24,3 +29,4 @@ pub mod Chains
 pub mod Streaming
 pub mod Loops
 pub mod Queried
+pub mod More

@@ -1,6 +1,6 @@
 -- What a call does that reads the rows of a query.
 use Rattle.std.proofs.Common.{◌≡◌, inl, ℕ, List, map, Ok, Err, Result, IfErr, IfOk, OnErr}
-use Rattle.std.proofs.Common.{Vec, Global, sym, subst}
+use Rattle.std.proofs.Common.{Vec, Global}
 use Rattle.std.specs.List.{AllByRecursion}
 use Rattle.std.specs.Result.{IsErrAnd}
 use Rattle.std.proofs.lemmas.Result.{IfErr-weaker, IfOk-weaker}
@@ -8,7 +8,6 @@ use Rattle.sqlite_trees.specs.declared.store.Store.{Ghosts}
 use Rattle.sqlite_value.specs.Order.{Row}
 use Rattle.sqlite.specs.Held.{Held, state}
 use Rattle.sqlite.specs.State.{Shown}
-use Rattle.sqlite.proofs.Callers.{IsPlain}
 use Rattle.desk_model.specs.Tables.{Tables}
 use Rattle.desk_model.specs.declared.command.Fault.{Fault}
 use Rattle.desk_model.specs.declared.command.Fault.TheVariants.{Memory}
@@ -17,7 +16,7 @@ use Rattle.desk_sql_layout.specs.Held.{seen_of}
 use Rattle.desk_sql_layout.specs.Causes.{IsRow}
 use Rattle.desk_sql_layout.specs.Queried.{Queries, ReadsQuery}
 use Rattle.desk_sql_layout.proofs.Calls.{shown_open}
-use Rattle.desk_sql_layout.proofs.Causes.{any_cause}
+use Rattle.desk_sql_layout.proofs.Causes.{any_cause, plain_text}
 
 module _ {S : Type 0} (g : Ghosts S) {sql : List ℕ} {params : Row} (old new : Held S) where
   -- rows that a query showed are read, in any way
@@ -43,11 +42,11 @@ module _ {S : Type 0} (g : Ghosts S) {sql : List ℕ} {params : Row} (old new : 
         )) value;
     err = λ plain. kept r (asks.ok plain).0.kept;
     cause = λ asked.
-        let shown = (asks.ok (subst IsPlain (sym asked.is) asked.plain)).1 in
+        let read = asks.ok (plain_text asked) in
+        let shown = read.1 in
         IfErr-weaker r _ _ (λ fault told. record {
           cause = λ clean opened unlimited t holds written can.
-              let held = (holds ((asks.ok (subst IsPlain (sym asked.is)
-              asked.plain)).0.kept.spared.honest clean) opened).holds in
+              let held = (holds (read.0.kept.spared.honest clean) opened).holds in
               let read = can.reads held rows.items (shown clean) in
               inl (told read.0 read.1 read.2 read.3);
         }) cause;

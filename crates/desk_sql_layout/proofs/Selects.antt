@@ -6,7 +6,8 @@ use Rattle.std.specs.List.{AllByRecursion, IsDistinct}
 use Rattle.std.proofs.lemmas.Map.Keys.{IsDistinct-IsPermutation}
 use Rattle.std.proofs.lemmas.Cmp.{tied_itself}
 use Rattle.std.proofs.lemmas.List.{length-map}
-use Rattle.std.proofs.lemmas.List.Sorted.{IsPermutation-map, IsPermutation-trans, IsPermutation-sym, length_permutation}
+use Rattle.std.proofs.lemmas.List.Sorted.{IsPermutation-map, IsPermutation-trans, IsPermutation-sym}
+use Rattle.std.proofs.lemmas.List.Sorted.{length_permutation}
 use Rattle.desk_base.proofs.Orders.{is_eq-reverse}
 use Rattle.sqlite_value.specs.declared.keys.Collation.TheVariants.{Binary}
 use Rattle.sqlite_value.specs.declared.keys.Key.{Key}
@@ -28,16 +29,18 @@ use Rattle.sqlite_catalog.proofs.AlterLemmas.{keys_are_unique}
 use Rattle.sqlite_rules.specs.Lists.{Has}
 use Rattle.sqlite_rules.proofs.ListLemmas.{all_from, all_has, has_got, has_filtered}
 use Rattle.sqlite_rules.proofs.ProbeLemmas.{has_mapped, mapped_has}
-use Rattle.sqlite.specs.Effect.{Database}
-use Rattle.sqlite.specs.Listing.{understood, reads_listing}
+use Rattle.sqlite.specs.Effect.{Database, Reads}
 use Rattle.sqlite.specs.State.{State, Shown}
-use Rattle.sqlite.proofs.Callers.{IsPlain, command_of, reads_as}
+use Rattle.sqlite.proofs.Callers.{reads_as}
 use Rattle.desk_sql_layout.specs.Layout.{desk_schema, table_of}
 use Rattle.desk_sql_layout.specs.Stored.{cells, AreStored}
-use Rattle.desk_sql_layout.specs.Held.{HasRows}
+use Rattle.desk_sql_layout.specs.Held.{HasRows, labelled}
+use Rattle.desk_sql_layout.proofs.Declared.{actual, entry, in_tables, tree_is}
+use Rattle.desk_sql_layout.proofs.Selecting.{IsSelect, command_here, plain_here, unlisted}
 use Rattle.desk_sql_layout.proofs.Edits.{has_permuted}
-use Rattle.desk_sql_layout.proofs.Queries.{query_on, passes, env, selected}
-use Rattle.desk_sql_layout.proofs.Ties.{are_keys, keys, picked, ascending_among, sorted_from, apart_by, apart_by_rowid}
+use Rattle.desk_sql_layout.proofs.Queries.{Selected, query_on, passes, env, selected}
+use Rattle.desk_sql_layout.proofs.Ties.{are_keys, keys, picked, ascending_among, sorted_from}
+use Rattle.desk_sql_layout.proofs.Ties.{apart_by, apart_by_rowid}
 
 -- ordered by these places of a stored row
 abbrev pub order_by : List ℕ → List (Term × Key)
@@ -94,44 +97,51 @@ module _ (name : List ℕ) (tree : ℕ) (columns : List Column) (key : Option �
   abbrev this : Table
   this = table_of name tree columns key primary uniques orders
 
-  pub mine : AreStored this (map f xs) (db.trees tree)
-  mine = subst (λ l. AreStored this l (db.trees tree)) here
-      (listed_in (λ t. AreStored t (rows t.tree) (db.trees t.tree)) desk_schema.tables place this
+  in_desk : Has desk_schema.tables this
+  in_desk = has_got desk_schema.tables place this listed
+
+  pub mine : AreStored this (map f xs) (labelled db tree)
+  mine = subst (λ l. AreStored this l (labelled db tree)) here
+      (listed_in (λ t. AreStored t (rows t.tree) (labelled db t.tree)) desk_schema.tables place this
       listed has.stored)
 
+  -- the tree of the table in this schema
+  abbrev real : ℕ
+  real = (entry db.schema has.declared this in_desk).tree
+
+  rows_are : labelled db tree ≡ db.trees real
+  rows_are = ap db.trees (tree_is db.schema has.declared this in_desk)
+
   -- a table whose key is its rowid
-  pub by_rowid : AreApart (0 ∷ []) (db.trees tree)
-  by_rowid = apart_by_rowid (db.trees tree) mine.rising
+  pub by_rowid : AreApart (0 ∷ []) (labelled db tree)
+  by_rowid = apart_by_rowid (labelled db tree) mine.rising
 
   -- a key that is declared unique
   pub by_unique : (at : ℕ) (ps : List ℕ) → slice_get uniques at ≡ Some ps
       → get_or orders at plain ≡ plain → (k : Row → Bool)
       → ((r : Row) → are_keys ps r ≡ k (cells this r)) → ((x : X) → k (f x) ≡ true)
-      → AreApart ps (db.trees tree)
+      → AreApart ps (labelled db tree)
   by_unique at ps unique order k keyed are =
-      apart_by ps (db.trees tree) mine.rising mine.keyed
-      (all_from (λ r. are_keys ps r ≡ true) (db.trees tree) one)
-      (λ row there. subst (λ o. clashes-of o row) order
-      (keys_are_unique db.schema db.trees this at ps row has.sound
-      (rw has.declared (has_got desk_schema.tables place this listed)) unique there))
+      apart_by ps (labelled db tree) mine.rising mine.keyed
+      (all_from (λ r. are_keys ps r ≡ true) (labelled db tree) one)
+      (λ row there. subst₂ (λ o l. Rattle.sqlite_schema.specs.Rules.clashes o ps l row ≡ false)
+      order (sym rows_are)
+      (keys_are_unique db.schema db.trees (actual db.schema has.declared this in_desk) at ps row
+      has.sound (in_tables db.schema has.declared this in_desk) unique
+      (subst (λ l. Has l row) rows_are there)))
     where
-      clashes-of : Order → Row → Type 0
-      clashes-of o row = Rattle.sqlite_schema.specs.Rules.clashes o ps (db.trees tree) row ≡ false
-
-      one : (r : Row) → Has (db.trees tree) r → are_keys ps r ≡ true
+      one : (r : Row) → Has (labelled db tree) r → are_keys ps r ≡ true
       one r there =
           let shown : Has (map f xs) (cells this r) =
-          has_permuted (map f xs) (map (cells this) (db.trees tree)) (cells this r) mine.same
-          (mapped_has (cells this) (db.trees tree) r there) in
+          has_permuted (map f xs) (map (cells this) (labelled db tree)) (cells this r) mine.same
+          (mapped_has (cells this) (labelled db tree) r there) in
           let x = has_mapped f xs (cells this r) shown in
           keyed r ∙ ap k x.2 ∙ are x.0
 
   -- the rows that pass, no two of which have the same key, shown in the order of the key
   module _ (sql : List ℕ) (names : List (List ℕ)) (tests project : List Term) (ps : List ℕ)
-      (is : (command_of (understood desk_schema sql)
-      ≡ Select (record { lets = []; body = query_on tree tests project (order_by ps) }) names)
-      × (reads_listing desk_schema sql ≡ false))
-      (plain : IsPlain (understood desk_schema sql)) (params : Row) (q : Row → Bool)
+      {parameters : ℕ} (it : IsSelect sql parameters tree tests project (order_by ps) names)
+      (params : Row) (q : Row → Bool)
       (u : Row → Output) (p : X → Bool)
       (tested : (r : Row) → passes tests params r ≡ q (cells this r))
       (acts : (r : Row) → output (query_on tree tests project (order_by ps)) (env params r)
@@ -141,7 +151,7 @@ module _ (name : List ℕ) (tree : ℕ) (columns : List Column) (key : Option �
     asked = query_on tree tests project (order_by ps)
 
     abbrev outs : List Output
-    outs = map (λ r. output asked (env params r)) (filter (passes tests params) (db.trees tree))
+    outs = map (λ r. output asked (env params r)) (filter (passes tests params) (labelled db tree))
 
     abbrev wanted : List Output
     wanted = map (λ x. u (f x)) (filter p xs)
@@ -152,10 +162,10 @@ module _ (name : List ℕ) (tree : ℕ) (columns : List Column) (key : Option �
         let left : map u (filter q (map f xs)) ≡ wanted =
         ap (map u) (filter-map q f xs ∙ (λ i. map f (filter (λ x. picks x i) xs)))
         ∙ map-map u f (filter p xs) in
-        let right : map u (filter q (map table (db.trees tree))) ≡ outs =
-        ap (map u) (filter-map q table (db.trees tree))
-        ∙ map-map u table (filter (λ r. q (table r)) (db.trees tree))
-        ∙ sym (λ i. map (λ r. acts r i) (filter (λ r. tested r i) (db.trees tree))) in
+        let right : map u (filter q (map table (labelled db tree))) ≡ outs =
+        ap (map u) (filter-map q table (labelled db tree))
+        ∙ map-map u table (filter (λ r. q (table r)) (labelled db tree))
+        ∙ sym (λ i. map (λ r. acts r i) (filter (λ r. tested r i) (labelled db tree))) in
         subst₂ (λ a b. IsPermutation a b) left right
         (IsPermutation-map u _ _ (IsPermutation-filter q _ _ mine.same))
 
@@ -175,17 +185,33 @@ module _ (name : List ℕ) (tree : ℕ) (columns : List Column) (key : Option �
         k))) all
 
     -- in any order
-    module _ (old new : State) (shown : List Row) (it : Shown sql params old new shown)
+    module _ (old new : State) (shown : List Row) (seen : Shown sql params old new shown)
         (same : db ≡ old.now) where
-      answer : Rattle.desk_sql_layout.proofs.Queries.Selected asked params (db.trees tree) shown
+      found : Selected (query_on real tests project (order_by ps)) params (db.trees real) shown
+      found =
+          let command = command_here it this in_desk refl db.schema has.declared in
+          let reads : Reads (Select (record {
+            lets = [];
+            body = query_on real tests project (order_by ps);
+          }) names) old.now params shown =
+          reads_as sql params old new db.schema (ap (λ d. d.schema) (sym same))
+          (Select (record { lets = []; body = query_on real tests project (order_by ps) }) names)
+          command (plain_here it this in_desk refl db.schema has.declared)
+          (unlisted it this in_desk refl db.schema has.declared) shown seen in
+          subst (λ d. Selected (query_on real tests project (order_by ps)) params
+          (d.trees real) shown)
+          (sym same) (selected real tests project (order_by ps) old.now.trees params shown
+          (reads.answer Null))
+
+      answer : Selected asked params (labelled db tree) shown
       answer =
-          let it : Rattle.sqlite.specs.Effect.Reads (Select (record { lets = []; body = asked })
-          names) old.now params shown =
-          reads_as sql params old new desk_schema (ap (λ d. d.schema) (sym same) ∙ has.declared)
-          (Select (record { lets = []; body = asked }) names) is.0 plain is.1 shown it in
-          subst (λ d. Rattle.desk_sql_layout.proofs.Queries.Selected asked params (d.trees tree)
-          shown) (sym same) (selected tree tests project (order_by ps) old.now.trees params shown
-          (it.answer Null))
+          let at_real : Selected asked params (db.trees real) shown = record {
+            ordered = found.ordered;
+            same = found.same;
+            sorted = found.sorted;
+            shown = found.shown;
+          } in
+          subst (λ l. Selected asked params l shown) (sym rows_are) at_real
 
       pub shows_some : IsPermutation (map (λ x. (u (f x)).1) (filter p xs)) shown
       shows_some =
@@ -197,15 +223,15 @@ module _ (name : List ℕ) (tree : ℕ) (columns : List Column) (key : Option �
       pub counts : length shown ≡ length (filter p xs)
       counts = length_permutation _ _ shows_some ∙ length-map (filter p xs) (λ x. (u (f x)).1)
 
-      module _ (apart : AreApart ps (db.trees tree)) where
+      module _ (apart : AreApart ps (labelled db tree)) where
         no_ties : IsAscending (λ a b. is_eq (output_cmp asked a b) ≡ false) outs
         no_ties =
             ascending-map (λ a b. is_eq (output_cmp asked a b) ≡ false)
             (λ r. output asked (env params r))
-            (filter (passes tests params) (db.trees tree))
-            (ascending_among _ _ (filter (passes tests params) (db.trees tree))
+            (filter (passes tests params) (labelled db tree))
+            (ascending_among _ _ (filter (passes tests params) (labelled db tree))
             (λ a b ha hb h. rw (keys_are ps, picked_is ps params a, picked_is ps params b) h)
-            (ascending-filter _ (passes tests params) (db.trees tree) apart))
+            (ascending-filter _ (passes tests params) (labelled db tree) apart))
 
         -- no two of them have the same key
         pub apart_shown : IsAscending (λ a b. is_eq (output_cmp asked (u (f a)) (u (f b))) ≡ false)

@@ -15,12 +15,13 @@ use Rattle.sqlite.specs.Held.{Held, state}
 use Rattle.sqlite.specs.Listing.{understood, reads_listing, IsSourceOf}
 use Rattle.sqlite.specs.State.{State, HasCleanDisk, IsStatement, IsUnchanged, Shown, ShowsRows}
 use Rattle.sqlite.specs.State.{Survives, CommitsShowing, Begins as Begun}
-use Rattle.sqlite.proofs.Callers.{EndsIn, IsPlain, begins_shown, begun_plain, given_begin, unchanged_then}
+use Rattle.sqlite.proofs.Callers.{EndsIn, IsPlain, begins_shown, begun_plain, given_begin}
+use Rattle.sqlite.proofs.Callers.{unchanged_then}
 use Rattle.desk_model.specs.declared.command.Fault.{Fault}
 use Rattle.desk_access.specs.Seen.{Same}
 use Rattle.desk_sql_layout.specs.Held.{seen_of}
-use Rattle.desk_sql_layout.specs.Layout.{desk_schema}
-use Rattle.desk_sql_layout.specs.Causes.{HasCauseIf, IsAsked, IsRow}
+use Rattle.desk_sql_layout.specs.Desk.{HasDesk}
+use Rattle.desk_sql_layout.specs.Causes.{HasCauseIf, IsAsked, IsPlainText, IsRow}
 use Rattle.desk_sql_layout.specs.Streamed.{AreRead, CanBeRead, FailsToReadOn, ReadsOn, ShowsRead}
 use Rattle.desk_sql_layout.proofs.Calls.{Begins, begins_open, begun}
 use Rattle.desk_sql_layout.proofs.Causes.{caused}
@@ -86,7 +87,7 @@ module _ {S T : Type 0} (g : Ghosts S) (cells : T → Row) (sql : List ℕ) (par
   -- a query of a desk's tables has given rows, which were read
   abbrev pub HasRead : Held S → Held S → List T → Type 0
   HasRead old now found =
-      HasCleanDisk (state g now) → old.schema ≡ desk_schema
+      HasCleanDisk (state g now) → HasDesk old.schema
       → (rows : List Row) × HasGiven g sql params now rows × IsUnchanged (state g old) (state g now)
       × AreRead cells rows found
 
@@ -95,7 +96,7 @@ module _ {S T : Type 0} (g : Ghosts S) (cells : T → Row) (sql : List ℕ) (par
     begins_so (inl h) = inl h.1
     begins_so (inr h) = inr (_, h.1)
 
-    pub begun_same : IsPlain (understood desk_schema sql)
+    pub begun_same : IsPlainText sql
         → Survives (state g old) (state g new) (CommitsShowing sql params (state g old))
         → (HasCleanDisk (state g new) → HasBegun g sql params old new)
         → Same (seen_of (state g old)) (seen_of (state g new))
@@ -107,14 +108,14 @@ module _ {S T : Type 0} (g : Ghosts S) (cells : T → Row) (sql : List ℕ) (par
     begun_open has clean = (begins_open sql params (state g old) (state g new)
         (begins_so (has clean))).0
 
-    pub begun_read : IsPlain (understood desk_schema sql)
+    pub begun_read : IsPlainText sql
         → (HasCleanDisk (state g new) → HasBegun g sql params old new) → HasRead old new []
     begun_read plain has clean schema =
         let first = begun_plain g sql params old new
-        (subst (λ s. IsPlain (understood s sql)) (sym schema) plain) (has clean) in
+        (plain.within old.schema schema) (has clean) in
         ([], first.0, first.1, none_read cells)
 
-  module _ (plain : IsPlain (understood desk_schema sql)) (first old new : Held S) (found : List T)
+  module _ (plain : IsPlainText sql) (first old new : Held S) (found : List T)
       (honest : HasCleanDisk (state g new) → HasCleanDisk (state g old))
       (read : HasRead first old found) where
     pub read_on : (x : T) → (HasCleanDisk (state g new)
@@ -136,17 +137,17 @@ module _ {S T : Type 0} (g : Ghosts S) (cells : T → Row) (sql : List ℕ) (par
         → IsUnchanged (state g old) (state g new)
         × ((given : List Row) → HasGiven g sql params old given
         → ReadsOn g cells sql params old new given None))
-        → HasCleanDisk (state g new) → first.schema ≡ desk_schema
+        → HasCleanDisk (state g new) → HasDesk first.schema
         → ShowsRead cells sql params (state g first) (state g new) found
     read_all step clean schema =
         let so_far = read (honest clean) schema in
         let shown = (step clean).1 so_far.0 so_far.1 in
         let same = so_far.2 in
-        let is : (state g old).now.schema ≡ desk_schema =
-        ap (λ (d : Database). d.schema) same.0.now_is ∙ schema in (
+        let is : HasDesk old.schema =
+        subst (λ (d : Database). HasDesk d.schema) (sym same.0.now_is) schema in (
           so_far.0,
           shown_since sql params (state g first) (state g old) (state g new) so_far.0
-              (subst (λ s. IsPlain (understood s sql)) (sym is) plain) same shown,
+              (plain.within old.schema is) same shown,
           so_far.3,
         )
 
@@ -182,15 +183,17 @@ no_end k query names is db params = subst (λ k. EndsIn k db params) (sym is) tt
 
 -- the first rows of an answer to a query of the desk's tables are the beginning of a whole one
 whole_answer : (sql : List ℕ) (params : Row) (a b : State) (rows : List Row) → IsAsked sql params
-    → a.now.schema ≡ desk_schema → IsUnchanged a b → Begun sql params b rows
+    → HasDesk a.now.schema → IsUnchanged a b → Begun sql params b rows
     → (tail : List Row) × Shown sql params a b (rows ++ tail)
 whole_answer sql params a b rows asked has same begins = begins_shown sql params a b rows
     (begins_since sql params a b rows same.0.now_is begins) same
-    (λ c db it source. let e = sym (ap (λ s. understood s sql) has ∙ asked.is) ∙ it.is in
-    let is : asked.compiled ≡ c = cc in
-    no_end c.command asked.query asked.names
+    (λ c db it source.
+    let here = asked.within a.now.schema has in
+    let e = sym here.is ∙ it.is in
+    let is : here.compiled ≡ c = cc in
+    no_end c.command here.query here.names
     (subst (λ (k : Compiled). k.command
-    ≡ Select (record { lets = []; body = asked.query }) asked.names) is asked.selects) db
+    ≡ Select (record { lets = []; body = here.query }) here.names) is here.selects) db
     (timed params c.formats it.now))
 
 module _ {S T : Type 0} (g : Ghosts S) (cells : T → Row) (has_days : T → Type 0) (sql : List ℕ)
@@ -209,8 +212,8 @@ module _ {S T : Type 0} (g : Ghosts S) (cells : T → Row) (has_days : T → Typ
         let held = (holds was opened).holds in
         let schema = held.rows.declared in
         let so_far = read (honest clean) schema in
-        let still : old.schema ≡ desk_schema = ap (λ (d : Database). d.schema) so_far.2.0.now_is
-        ∙ schema in
+        let still : HasDesk old.schema = subst (λ (d : Database). HasDesk d.schema)
+        (sym so_far.2.0.now_is) schema in
         elim (fails clean so_far.0 so_far.1) [
           | inl failed ↦ elim (caused sql params (state g old) (state g new) still
               so_far.2.0.is_open (limit ∙ unlimited) asked failed.0 failed.1) [

@@ -1,5 +1,6 @@
 -- The desk's tables, each with the rows that it holds, no two of which have the same key.
-use Rattle.std.proofs.Common.{◌≡◌, ℕ, true, List, [], ◌∷◌, map, filter, get_or, slice_get, Some, refl}
+use Rattle.std.proofs.Common.{◌≡◌, ℕ, true, List, [], ◌∷◌, map, filter, get_or, slice_get, Some}
+use Rattle.std.proofs.Common.{refl}
 use Rattle.sqlite_value.specs.Keys.{plain}
 use Rattle.sqlite_value.specs.Order.{Row}
 use Rattle.sqlite_schema.specs.declared.schema.Table.{Table}
@@ -19,8 +20,12 @@ use Rattle.desk_model.specs.declared.row.PackageRow.{PackageRow}
 use Rattle.desk_model.specs.declared.row.ReleaseRow.{ReleaseRow}
 use Rattle.desk_model.specs.declared.row.RuleRow.{RuleRow}
 use Rattle.desk_model.specs.Moves.{is_waiver}
-use Rattle.desk_sql_layout.specs.Cells.{adoption_cells, attached_cells, catalogue_cells, change_cells, choice_cells, conclusion_cells, document_cells, duty_cells, extracted_cells, frozen_cells, package_cells, reading_cells, release_cells, rule_cells, waiver_cells}
-use Rattle.desk_sql_layout.specs.Held.{Holds, rows_of}
+use Rattle.desk_sql_layout.specs.Cells.{adoption_cells, attached_cells, catalogue_cells}
+use Rattle.desk_sql_layout.specs.Cells.{change_cells, choice_cells, conclusion_cells}
+use Rattle.desk_sql_layout.specs.Cells.{document_cells, duty_cells, extracted_cells, frozen_cells}
+use Rattle.desk_sql_layout.specs.Cells.{package_cells, reading_cells, release_cells, rule_cells}
+use Rattle.desk_sql_layout.specs.Cells.{waiver_cells}
+use Rattle.desk_sql_layout.specs.Held.{Holds, labelled, rows_of}
 use Rattle.desk_sql_layout.specs.Layout as d
 use Rattle.desk_sql_layout.specs.Stored.{cells}
 use Rattle.desk_sql_layout.proofs.Selecting.{as_declared}
@@ -51,7 +56,7 @@ view_of table place cells_of held listed here = record {
 -- no two of its rows have the same key
 abbrev pub StandApart : {X : Type 0} → View X → List ℕ → Type 1
 StandApart view ps = (t : Tables) (old : State) → Holds t old.now
-    → AreApart ps (old.now.trees view.table.tree)
+    → AreApart ps (labelled old.now view.table.tree)
 
 apart_by_rowid : {X : Type 0} (view : View X) → StandApart view (0 ∷ [])
 apart_by_rowid view t old holds =

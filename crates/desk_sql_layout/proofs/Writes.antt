@@ -1,6 +1,6 @@
 -- What the tables show after INSERT, DELETE and UPDATE of one of them.
-use Rattle.std.proofs.Common.{◌≡◌, ◌≢◌, inl, inr, ℕ, Bool, true, false, not, List, [], ◌∷◌, ◌++◌}
-use Rattle.std.proofs.Common.{map, filter, drop, slice_get, Option, Some, refl, sym, ap, subst}
+use Rattle.std.proofs.Common.{◌≡◌, inl, inr, ℕ, Bool, true, false, not, List, [], ◌∷◌, ◌++◌}
+use Rattle.std.proofs.Common.{map, filter, drop, Option, refl, sym, ap, subst}
 use Rattle.std.proofs.Common.{subst₂, ◌∙◌}
 use Rattle.std.specs.List.{AllByRecursion, AllZip}
 use Rattle.std.specs.List.Sorted.{IsPermutation}
@@ -23,18 +23,16 @@ use Rattle.sqlite_rules.specs.Cast.{cast_row}
 use Rattle.sqlite_rules.specs.Edit.{id_in, edit_of, with_rowid, numbered, is_taken, are_fresh}
 use Rattle.sqlite_rules.specs.Edit.{put_all, without_all, have_rowids}
 use Rattle.sqlite_rules.specs.Calls.{ids_of}
-use Rattle.sqlite_rules.specs.Lists.{Has}
-use Rattle.sqlite_rules.proofs.ListLemmas.{all_has, all_from, test_has, has_filtered, has_kept, has_got}
+use Rattle.sqlite_rules.proofs.ListLemmas.{all_has, all_from, test_has, has_filtered, has_kept}
 use Rattle.sqlite_rules.proofs.ProbeLemmas.{has_mapped, mapped_has}
 use Rattle.sqlite_rules.proofs.PlaceLemmas.{given}
-use Rattle.sqlite_rules.proofs.RuleLemmas.{same_table}
 use Rattle.sqlite_rules.proofs.TableLemmas.{int_is}
 use Rattle.sqlite.specs.Effect.{Database, Answers}
 use Rattle.desk_sql_layout.specs.Layout.{table_of}
-use Rattle.desk_sql_layout.specs.Stored.{cells, AreStored, AllStored}
+use Rattle.desk_sql_layout.specs.Stored.{cells, AreStored}
 use Rattle.desk_sql_layout.proofs.Edits.{AreIdsOf, left_is, has_permuted, changed_where}
 use Rattle.desk_sql_layout.proofs.Queries.{query_on, passes, env, selected}
-use Rattle.desk_sql_layout.proofs.Keeps.{stored_more, stored_less, stored_changed, all_stored_after}
+use Rattle.desk_sql_layout.proofs.Keeps.{stored_more, stored_less, stored_changed}
 use Rattle.desk_sql_layout.proofs.Steps.{Stepped, at}
 
 -- each table has a different tree
@@ -144,52 +142,27 @@ module _ (name : List ℕ) (tree : ℕ) (columns : List Column) (key : Option �
       (subst (λ x. AreStored this (x ∷ shown) (put_row new_row stored)) (shows.0 stored) more)
       shows.1 whole.1 apart.1)
 
-  module _ (schema : Schema) (place : ℕ) (listed : slice_get schema.tables place ≡ Some this)
-      (apart : AreApart schema) (rows after : ℕ → List Row) (old new : Database)
-      (were : AllStored schema rows old.trees)
-      (same : AllByRecursion (λ t. t.tree ≢ tree → after t.tree ≡ rows t.tree) schema.tables) where
-    in_schema : Has schema.tables this
-    in_schema = has_got schema.tables place this listed
-
-    mine : AreStored this (rows tree) (old.trees tree)
-    mine = all_has (λ t. AreStored t (rows t.tree) (old.trees t.tree)) schema.tables this were
-        in_schema
-
-    rest : (gone : _) (rowids : _) (from : _) (sources : _)
-        → Stepped schema old new (edit_of old.trees this gone rowids from sources)
-        → AreStored this (after tree) (new.trees tree) → AllStored schema after new.trees
-    rest gone rowids from sources step here =
-        all_stored_after schema rows after old.trees new.trees tree were step.applies.tables same
-        (all_from (λ t. t.tree ≡ tree → AreStored t (after t.tree) (new.trees t.tree)) schema.tables
-        (λ t there e. subst (λ (u : Table). AreStored u (after u.tree) (new.trees u.tree))
-        (sym (same_table schema.tables t this apart there in_schema e)) here))
-
+  module _ (schema : Schema) (shown : List Row) (old new : Database)
+      (mine : AreStored this shown (old.trees tree)) where
     pub after_insert : (sources wanted : List Row) → Shows sources wanted
         → Stepped schema old new (edit_of old.trees this [] Chosen 0 sources)
-        → IsPermutation (after tree) (wanted ++ rows tree) → AllStored schema after new.trees
-    after_insert sources wanted shows step perm =
-        rest [] Chosen 0 sources step
-        (stored_as this (wanted ++ rows tree) (after tree) (new.trees tree) perm
-        (subst (AreStored this (wanted ++ rows tree)) (sym step.applies.rows)
-        (put_each sources wanted (rows tree) (old.trees tree) mine shows step.applies.keyed
-        step.applies.fresh)))
+        → AreStored this (wanted ++ shown) (new.trees tree)
+    after_insert sources wanted shows step =
+        subst (AreStored this (wanted ++ shown)) (sym step.applies.rows)
+        (put_each sources wanted shown (old.trees tree) mine shows step.applies.keyed
+        step.applies.fresh)
 
     pub after_delete : (tests : List Term) (params : Row) (found : List Row) (q : Row → Bool)
         → ((r : Row) → passes tests params r ≡ q (cells this r))
         → Answers (at schema old.trees)
         (record { lets = []; body = query_on tree tests (col 1 0 ∷ []) [] }) params found
         → Stepped schema old new (edit_of old.trees this (ids_of found) Given 0 [])
-        → IsPermutation (after tree) (filter (λ x. not (q x)) (rows tree))
-        → AllStored schema after new.trees
-    after_delete tests params found q agree answers step perm =
+        → AreStored this (filter (λ x. not (q x)) shown) (new.trees tree)
+    after_delete tests params found q agree answers step =
         let stored = old.trees tree in
-        let left = left_by schema old.trees tree tests [] params found answers this (rows tree)
-        mine in
-        rest (ids_of found) Given 0 [] step
-        (stored_as this _ (after tree) (new.trees tree) perm
-        (subst (AreStored this (filter (λ x. not (q x)) (rows tree)))
-        (sym (step.applies.rows ∙ left))
-        (stored_less this (rows tree) stored mine (passes tests params) q agree)))
+        let left = left_by schema old.trees tree tests [] params found answers this shown mine in
+        subst (AreStored this (filter (λ x. not (q x)) shown)) (sym (step.applies.rows ∙ left))
+        (stored_less this shown stored mine (passes tests params) q agree)
 
     pub after_update : (tests project : List Term) (params : Row) (found : List Row)
         (q : Row → Bool) (u : Row → Row) → ((r : Row) → passes tests params r ≡ q (cells this r))
@@ -198,23 +171,22 @@ module _ (name : List ℕ) (tree : ℕ) (columns : List Column) (key : Option �
         → Answers (at schema old.trees)
         (record { lets = []; body = query_on tree tests (col 1 0 ∷ project) [] }) params found
         → Stepped schema old new (edit_of old.trees this (ids_of found) Given 1 found)
-        → IsPermutation (after tree) (changed_where q u (rows tree))
-        → AllStored schema after new.trees
-    after_update tests project params found q u agree acts answers step perm =
+        → AreStored this (changed_where q u shown) (new.trees tree)
+    after_update tests project params found q u agree acts answers step =
         let stored = old.trees tree in
         let p = passes tests params in
         let g = λ (r : Row). rowid r ∷ eval_all project (env params r) in
         let f = λ (r : Row). cast_row this (eval_all project (env params r)) in
-        let shown = shown_by schema old.trees tree tests project params found answers in
+        let seen = shown_by schema old.trees tree tests project params found answers in
         let left = left_by schema old.trees tree tests project params found answers this
-        (rows tree) mine in
+        shown mine in
         let cast = λ (s : Row). cast_row this (drop 1 s) in
         let edit = edit_of old.trees this (ids_of found) Given 1 found in
         let news : edit.news ≡ map cast found =
         given (without_all stored (ids_of found)) (map cast found) in
         let same : IsPermutation (map f (filter p stored)) (map cast found) =
         subst (λ xs. IsPermutation xs (map cast found)) (map-map cast g (filter p stored))
-        (IsPermutation-map cast _ _ shown) in
+        (IsPermutation-map cast _ _ seen) in
         let keyed : AllByRecursion (λ r. is_int (rowid r) ≡ true) (map cast found) =
         all_from (λ r. is_int (rowid r) ≡ true) (map cast found)
         (λ x there. test_has (λ r. is_int (rowid r)) (map cast found) x
@@ -223,8 +195,5 @@ module _ (name : List ℕ) (tree : ℕ) (columns : List Column) (key : Option �
         subst₂ (λ l n. are_fresh l n ≡ true) left news step.applies.fresh in
         let whole : new.trees tree ≡ put_all (filter (λ r. not (p r)) stored) (map cast found) =
         subst₂ (λ l n. new.trees tree ≡ put_all l n) left news step.applies.rows in
-        rest (ids_of found) Given 1 found step
-        (stored_as this _ (after tree) (new.trees tree) perm
-        (subst (AreStored this (changed_where q u (rows tree))) (sym whole)
-        (stored_changed this (rows tree) stored mine p q f u (map cast found) agree acts same keyed
-        fresh)))
+        subst (AreStored this (changed_where q u shown)) (sym whole)
+        (stored_changed this shown stored mine p q f u (map cast found) agree acts same keyed fresh)

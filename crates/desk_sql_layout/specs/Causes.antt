@@ -6,6 +6,7 @@ use Rattle.sqlite_value.specs.declared.value.Value.{Value}
 use Rattle.sqlite_value.specs.declared.value.Value.TheVariants.{Null, Int, Real, Text, Blob}
 use Rattle.sqlite_value.specs.Order.{Row}
 use Rattle.sqlite_sql.specs.Query.{Query}
+use Rattle.sqlite_schema.specs.declared.schema.Schema.{Schema}
 use Rattle.sqlite_schema.specs.declared.command.Command.TheVariants.{Select}
 use Rattle.sqlite_resolve.specs.declared.compiled.Compiled.{Compiled}
 use Rattle.sqlite.specs.declared.error.Error.{Error}
@@ -21,7 +22,7 @@ use Rattle.desk_model.specs.declared.command.Fault.TheVariants.{Memory, Store}
 use Rattle.desk_model.specs.declared.command.StoreFault.TheVariants.{Database as DatabaseFault}
 use Rattle.desk_access.specs.Seen.{MoreFaults}
 use Rattle.desk_sql_layout.specs.Held.{rows_of, seen_of}
-use Rattle.desk_sql_layout.specs.Layout.{desk_schema}
+use Rattle.desk_sql_layout.specs.Desk.{HasDesk}
 
 -- what a desk writes into a cell: NULL, a number of 32 bits, a text in UTF-8, or bytes
 abbrev pub IsWritten : Value → Type 0
@@ -58,20 +59,29 @@ pub record HasCauseIf (Is : Tables → Type 0) (old new : State) (fault : Fault)
       → (seen_of old).holds t → AreWritten t → Is t
       → (fault ≡ Memory) ⊎ ((fault ≡ Store DatabaseFault) × MoreFaults old.faults new.faults)
 
+-- the same for a look-up that relies on nothing but the rows
 abbrev pub HasCause : State → State → Fault → Type 0
 HasCause = HasCauseIf (λ t. Unit {0})
 
--- a query of the desk's tables that is one statement, has as many parameters as are given, and is
--- never refused for a value
-pub record IsAsked (sql : List ℕ) (params : Row) : Type 0 where
+-- a query that is one statement, has as many parameters as are given, and is never refused for a
+-- value, in this schema
+pub record IsAskedIn (schema : Schema) (sql : List ℕ) (params : Row) : Type 0 where
   pub compiled : Compiled
-  pub is : understood desk_schema sql ≡ Ok compiled
+  pub is : understood schema sql ≡ Ok compiled
   pub plain : IsPlain (Ok compiled)
   pub query : Query
   pub names : List (List ℕ)
   pub selects : compiled.command ≡ Select (record { lets = []; body = query }) names
-  pub unlisted : reads_listing desk_schema sql ≡ false
+  pub unlisted : reads_listing schema sql ≡ false
   pub whole : nat_le (length sql) compiled.tail ≡ true
   pub given : length params ≡ length compiled.names
-  pub answers : (db : Database) (e : Error) → db.schema ≡ desk_schema
+  pub answers : (db : Database) (e : Error) → db.schema ≡ schema
       → ¬ RefusesToRead None compiled.command db params e
+
+-- and in each schema that has the desk's tables
+pub record IsAsked (sql : List ℕ) (params : Row) : Type 0 where
+  pub within : (schema : Schema) → HasDesk schema → IsAskedIn schema sql params
+
+-- a text that returns no rows of a write and reads no clock, in each such schema
+pub record IsPlainText (sql : List ℕ) : Type 0 where
+  pub within : (schema : Schema) → HasDesk schema → IsPlain (understood schema sql)

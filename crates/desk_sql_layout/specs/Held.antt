@@ -19,6 +19,7 @@ use Rattle.desk_sql_layout.specs.Layout.{document_table, package_table, extracte
 use Rattle.desk_sql_layout.specs.Layout.{conclusion_table, adoption_table, releases_table}
 use Rattle.desk_sql_layout.specs.Layout.{attached_table, choice_table, frozen_table, duty_table}
 use Rattle.desk_sql_layout.specs.Layout.{change_table, reading_table}
+use Rattle.desk_sql_layout.specs.Desk.{HasDesk, tree_in}
 use Rattle.desk_sql_layout.specs.Stored.{AllStored}
 use Rattle.desk_sql_layout.specs.Cells.{meta_cells, catalogue_cells, rule_cells, document_cells}
 use Rattle.desk_sql_layout.specs.Cells.{reading_cells, package_cells, extracted_cells}
@@ -46,11 +47,15 @@ rows_of t tree =
     else (if tree == reading_table.tree then map reading_cells t.document
     else map waiver_cells (filter is_waiver t.changes)))))))))))))))
 
+-- the stored rows of the desk's table that has this tree where the file has no other tables
+abbrev pub labelled : Database → ℕ → List Row
+labelled db tree = db.trees (tree_in db.schema tree)
+
 -- The database has the desk's tables, with these rows in any order, and it is sound: each row is as
 -- its columns say, and no key that is declared unique appears twice.
 pub record HasRows (rows : ℕ → List Row) (db : Database) : Type 0 where
-  pub declared : db.schema ≡ desk_schema
-  pub stored : AllStored desk_schema rows db.trees
+  pub declared : HasDesk db.schema
+  pub stored : AllStored desk_schema rows (labelled db)
   pub sound : IsDatabase db
 
 -- these are the numbers n, n + 1 and so on
@@ -112,6 +117,7 @@ pub record Known : Type 0 where
   pub duties : ℕ
   pub forms : List (List ℕ)
 
+-- what there is to know of these tables
 abbrev pub known_of : Tables → Known
 known_of t = record {
   revisions = length t.catalogue;

@@ -1,4 +1,5 @@
 pub mod Layout
+pub mod Desk
 pub mod Stored
 pub mod Cells
 pub mod Held

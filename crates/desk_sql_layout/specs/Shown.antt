@@ -14,12 +14,15 @@ use Rattle.desk_model.specs.Names.{duty_state_name}
 use Rattle.desk_sql_layout.specs.declared.rows.StateRow.{StateRow}
 use Rattle.desk_sql_layout.specs.declared.rows.Waiver.{Waiver}
 
+-- one column that is a number, as a count
 abbrev pub number_cells : ℕ → Row
 number_cells n = number n ∷ []
 
+-- one column that is a text
 abbrev pub text_cells : List ℕ → Row
 text_cells text = Text text ∷ []
 
+-- one column that is a blob
 abbrev pub bytes_cells : List ℕ → Row
 bytes_cells bytes = Blob bytes ∷ []
 

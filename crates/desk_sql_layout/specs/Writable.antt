@@ -22,6 +22,8 @@ are_of document packages = list_all (λ p. p.document == document) packages
 abbrev pub have_words : List RuleRow → Bool
 have_words rules = list_all (λ row. list_all is_word row.codes) rules
 
+-- Rules have words as codes, which stay apart when they are joined; packages are of the document
+-- and in the order of their ids. Any other change can be held as it is.
 abbrev pub is_writable : Change → Bool
 is_writable (change.Loaded row rules forms) = have_words rules
 is_writable (change.Imported row packages references) = are_of row.number packages && rise packages

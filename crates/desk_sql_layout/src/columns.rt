@@ -1,5 +1,5 @@
-//! The value in a column of a row. No desk's table has a value of another kind, which is a fault of
-//! the rows and no other.
+//! The value in a column of a row. A value of another kind, which no desk's table has, is a fault
+//! of the rows.
 
 ghost use Rattle.std.specs.Prelude.{◌≡◌, ◌≢◌, ◌<◌, Err, IfErr, IfOk, IsTrue, if◌then◌else◌, Bool, List, Option, ℕ, length};
 ghost use Rattle.sqlite_value.specs.Order.{column};

@@ -118,8 +118,8 @@ pub fn text<'a>(text: &'a str) -> ValueRef<'a>
     ValueRef::Text(text.as_bytes())
 }
 
-/// A number in the form that a query takes. If this many things are numbered from 1, the number
-/// after the last stands for every number beyond it.
+/// A number in the form that a query takes. If this many things are numbered from 1, every number
+/// beyond the last is replaced by the number after the last.
 pub fn among(n: u64, count: u32) -> ValueRef<'static>
     ensures { bound_value (owned result) ≡ number (min n (count + 1)) }
 {

@@ -157,7 +157,9 @@ impl ReadRow for DutyRow {
 /// The number and the state of a duty.
 #[derive(Drop)]
 pub struct StateRow {
+    /// The duty's number.
     pub number: u32,
+    /// Its state.
     pub state: DutyState,
 }
 
@@ -198,7 +200,9 @@ pub fn read_duties(alloc: Global, rows: &[Row]) -> Result<Vec<DutyRow>, Fault>
 /// The last day of the waiver at a step.
 #[derive(Drop)]
 pub struct Waiver {
+    /// The step of the duty at which it was waived.
     pub step: u32,
+    /// The last day of the waiver.
     pub last_day: Day,
 }
 

@@ -37,7 +37,7 @@ pub fn text_or_null<'a>(text: &'a Option<Text>) -> ValueRef<'a>
     }
 }
 
-/// 1 if something is so, or else 0.
+/// 1 if something is so, otherwise 0.
 pub fn flag(is: bool) -> ValueRef<'static>
     ensures { bound_value (owned result) ≡ number (if is then 1 else 0) }
 {

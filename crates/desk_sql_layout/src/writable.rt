@@ -73,8 +73,8 @@ fn rise(packages: &[PackageRow]) -> bool
     true
 }
 
-/// Whether the tables can hold what a change writes. A change is not written if they couldn't give
-/// its rows back as they were.
+/// Whether the tables can hold what a change writes. A change is not written if they couldn't
+/// return its rows unchanged.
 pub fn is_writable(change: &Change) -> bool
     ensures { result ≡ is_writable change.now }
 {

@@ -11,7 +11,6 @@ use Rattle.sqlite_sql.specs.Query.{key_cmp}
 use Rattle.sqlite_trees.specs.Tree.{IsAscending}
 use Rattle.sqlite_sql.specs.Term.{col}
 use Rattle.sqlite_tied.specs.Compute.{everything}
-use Rattle.sqlite.specs.Listing.{understood}
 use Rattle.desk_model.specs.Tables.{Tables}
 use Rattle.desk_sql_layout.specs.Held.{AreOrderly}
 use Rattle.desk_sql_layout.proofs.Ties.{keys}
@@ -35,8 +34,11 @@ abbrev pub steps_text : List ℕ
 steps_text = codes "SELECT step FROM change WHERE duty = ?1"
 
 steps_is : IsSelect steps_text 1 25 (same 1 0 ∷ []) (col 1 2 ∷ []) (order_by []) (codes "step" ∷ [])
-unfolding understood everything
-steps_is = record { is = (refl, refl); plain = (refl, refl); suits = (refl, refl) }
+unfolding everything
+steps_is = record {
+  from = λ at not_null. (refl, refl, refl);
+  is = λ at not_null. record { is = refl; plain = (refl, refl); suits = (refl, refl) };
+}
 
 pub steps_finds : (duty : ℕ) → Finds steps_text (number duty ∷ [])
     (λ t rows. length rows ≡ length (filter (is_change_of duty) t.changes))
@@ -52,8 +54,11 @@ changed_text = codes "SELECT duty FROM change WHERE duty >= ?1 AND duty <= ?2 OR
 
 changed_is : IsSelect changed_text 2 25 (within 1) (col 1 1 ∷ []) (order_by (1 ∷ 2 ∷ []))
     (codes "duty" ∷ [])
-unfolding understood everything
-changed_is = record { is = (refl, refl); plain = (refl, refl); suits = (refl, refl) }
+unfolding everything
+changed_is = record {
+  from = λ at not_null. (refl, refl, refl);
+  is = λ at not_null. record { is = refl; plain = (refl, refl); suits = (refl, refl) };
+}
 
 abbrev changed_test : ℕ → ℕ → Row → Bool
 changed_test first last cs =
@@ -83,8 +88,11 @@ changes_of_text = codes
 changes_of_is : IsSelect changes_of_text 1 25 (same 1 0 ∷ [])
     (col 1 1 ∷ col 1 2 ∷ col 1 3 ∷ col 1 4 ∷ col 1 5 ∷ []) (order_by (1 ∷ 2 ∷ []))
     (codes "duty" ∷ codes "step" ∷ codes "day" ∷ codes "word" ∷ codes "body" ∷ [])
-unfolding understood everything
-changes_of_is = record { is = (refl, refl); plain = (refl, refl); suits = (refl, refl) }
+unfolding everything
+changes_of_is = record {
+  from = λ at not_null. (refl, refl, refl);
+  is = λ at not_null. record { is = refl; plain = (refl, refl); suits = (refl, refl) };
+}
 
 pub changes_of_finds : (duty : ℕ) → FindsRows changes_of_text (number duty ∷ [])
     change_cells (λ t. filter (is_change_of duty) t.changes)
@@ -115,8 +123,11 @@ waivers_of_text = codes "SELECT step, last_day FROM waiver WHERE duty = ?1 ORDER
 waivers_of_is : IsSelect waivers_of_text 1 28 (same 1 0 ∷ []) (col 1 2 ∷ col 1 3 ∷ [])
     (order_by (1 ∷ 2 ∷ []))
     (codes "step" ∷ codes "last_day" ∷ [])
-unfolding understood everything
-waivers_of_is = record { is = (refl, refl); plain = (refl, refl); suits = (refl, refl) }
+unfolding everything
+waivers_of_is = record {
+  from = λ at not_null. (refl, refl, refl);
+  is = λ at not_null. record { is = refl; plain = (refl, refl); suits = (refl, refl) };
+}
 
 pub waivers_of_finds : (duty : ℕ) → FindsRows waivers_of_text (number duty ∷ [])
     (λ (x : ChangeRow). number x.step ∷ text_or_null x.last_day ∷ [])
@@ -135,8 +146,11 @@ days_of_text = codes "SELECT day FROM change WHERE duty = ?1 ORDER BY duty, step
 
 days_of_is : IsSelect days_of_text 1 25 (same 1 0 ∷ []) (col 1 3 ∷ []) (order_by (1 ∷ 2 ∷ []))
     (codes "day" ∷ [])
-unfolding understood everything
-days_of_is = record { is = (refl, refl); plain = (refl, refl); suits = (refl, refl) }
+unfolding everything
+days_of_is = record {
+  from = λ at not_null. (refl, refl, refl);
+  is = λ at not_null. record { is = refl; plain = (refl, refl); suits = (refl, refl) };
+}
 
 pub days_of_finds : (duty : ℕ) → FindsRows days_of_text (number duty ∷ [])
     day_cells (λ t. filter (is_change_of duty) t.changes)

@@ -6,7 +6,6 @@ use Rattle.sqlite_sql.specs.Query.{key_cmp}
 use Rattle.sqlite_trees.specs.Tree.{IsAscending}
 use Rattle.sqlite_sql.specs.Term.{col}
 use Rattle.sqlite_tied.specs.Compute.{everything}
-use Rattle.sqlite.specs.Listing.{understood}
 use Rattle.desk_model.specs.Tables.{Tables}
 use Rattle.desk_sql_layout.specs.Held.{AreOrderly}
 use Rattle.desk_sql_layout.proofs.Ties.{keys}
@@ -32,8 +31,11 @@ choices_text = codes
 choices_is : IsSelect choices_text 0 19 []
     (col 1 1 ∷ col 1 2 ∷ col 1 3 ∷ col 1 4 ∷ []) (order_by (1 ∷ 2 ∷ 3 ∷ 4 ∷ []))
     (codes "release" ∷ codes "document" ∷ codes "package" ∷ codes "term" ∷ [])
-unfolding understood everything
-choices_is = record { is = (refl, refl); plain = (refl, refl); suits = (refl, refl) }
+unfolding everything
+choices_is = record {
+  from = λ at not_null. (refl, refl, refl);
+  is = λ at not_null. record { is = refl; plain = (refl, refl); suits = (refl, refl) };
+}
 
 in_order : (t : Tables) → AreOrderly t
     → IsAscending (λ a b. is_lt (key_cmp 0 (keys (1 ∷ 2 ∷ 3 ∷ 4 ∷ []))
@@ -56,8 +58,11 @@ choices_in_text = codes
 choices_in_is : IsSelect choices_in_text 1 19 (same 1 0 ∷ [])
     (col 1 1 ∷ col 1 2 ∷ col 1 3 ∷ col 1 4 ∷ []) (order_by (1 ∷ 2 ∷ 3 ∷ 4 ∷ []))
     (codes "release" ∷ codes "document" ∷ codes "package" ∷ codes "term" ∷ [])
-unfolding understood everything
-choices_in_is = record { is = (refl, refl); plain = (refl, refl); suits = (refl, refl) }
+unfolding everything
+choices_in_is = record {
+  from = λ at not_null. (refl, refl, refl);
+  is = λ at not_null. record { is = refl; plain = (refl, refl); suits = (refl, refl) };
+}
 
 pub choices_in_finds : (release : List ℕ) → FindsRows choices_in_text (Text release ∷ [])
     choice_cells (λ t. filter (is_choice_in release) t.choice)
@@ -77,8 +82,11 @@ chosen_text = codes
 chosen_is : IsSelect chosen_text 3 19 (same 1 0 ∷ same 2 1 ∷ same 3 2 ∷ [])
     (col 1 4 ∷ []) (order_by (1 ∷ 2 ∷ 3 ∷ 4 ∷ []))
     (codes "term" ∷ [])
-unfolding understood everything
-chosen_is = record { is = (refl, refl); plain = (refl, refl); suits = (refl, refl) }
+unfolding everything
+chosen_is = record {
+  from = λ at not_null. (refl, refl, refl);
+  is = λ at not_null. record { is = refl; plain = (refl, refl); suits = (refl, refl) };
+}
 
 is_chosen : (release : List ℕ) (document : ℕ) (id : List ℕ) (x : ChoiceRow)
     → equals ((0, Text release) ∷ (1, number document) ∷ (2, Text id) ∷ []) (choice_cells x)

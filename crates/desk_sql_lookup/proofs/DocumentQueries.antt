@@ -4,7 +4,6 @@ use Rattle.std.specs.Prelude.{◌==◌, if◌then◌else◌}
 use Rattle.sqlite_value.specs.declared.value.Value.TheVariants.{Text}
 use Rattle.sqlite_sql.specs.Term.{col}
 use Rattle.sqlite_tied.specs.Compute.{everything}
-use Rattle.sqlite.specs.Listing.{understood}
 use Rattle.desk_sql_layout.specs.Shown.{bytes_cells, import_cells, name_cells}
 use Rattle.desk_model.specs.Keys.{is_document, has_namespace, is_package, is_shipped_by}
 use Rattle.desk_model.specs.declared.row.DocumentRow.{DocumentRow}
@@ -41,8 +40,11 @@ document_text = codes "SELECT document, profile FROM reading WHERE document = ?1
 document_is : IsSelect document_text 1 27 (same 0 0 ∷ []) (col 1 0 ∷ col 1 2 ∷ [])
     (order_by (0 ∷ []))
     (codes "document" ∷ codes "profile" ∷ [])
-unfolding understood everything
-document_is = record { is = (refl, refl); plain = (refl, refl); suits = (refl, refl) }
+unfolding everything
+document_is = record {
+  from = λ at not_null. (refl, refl, refl);
+  is = λ at not_null. record { is = refl; plain = (refl, refl); suits = (refl, refl) };
+}
 
 pub document_finds : (n : ℕ) → FindsRows document_text (number n ∷ [])
     reading_cells (λ t. filter (is_document n) t.document)
@@ -60,8 +62,11 @@ document_bytes_text = codes "SELECT bytes FROM document WHERE number = ?1 ORDER 
 document_bytes_is : IsSelect document_bytes_text 1 4 (same 0 0 ∷ []) (col 1 3 ∷ [])
     (order_by (0 ∷ []))
     (codes "bytes" ∷ [])
-unfolding understood everything
-document_bytes_is = record { is = (refl, refl); plain = (refl, refl); suits = (refl, refl) }
+unfolding everything
+document_bytes_is = record {
+  from = λ at not_null. (refl, refl, refl);
+  is = λ at not_null. record { is = refl; plain = (refl, refl); suits = (refl, refl) };
+}
 
 pub document_bytes_finds : (n : ℕ) → FindsRows document_bytes_text (number n ∷ [])
     (λ (x : DocumentRow). bytes_cells x.bytes) (λ t. filter (is_document n) t.document)
@@ -79,8 +84,11 @@ import_of_text = codes "SELECT number, bytes FROM document WHERE namespace = ?1 
 import_of_is : IsSelect import_of_text 1 4 (same 2 0 ∷ []) (col 1 0 ∷ col 1 3 ∷ [])
     (order_by (2 ∷ []))
     (codes "number" ∷ codes "bytes" ∷ [])
-unfolding understood everything
-import_of_is = record { is = (refl, refl); plain = (refl, refl); suits = (refl, refl) }
+unfolding everything
+import_of_is = record {
+  from = λ at not_null. (refl, refl, refl);
+  is = λ at not_null. record { is = refl; plain = (refl, refl); suits = (refl, refl) };
+}
 
 pub import_of_finds : (namespace : List ℕ) → FindsRows import_of_text (Text namespace ∷ [])
     import_cells (λ t. filter (has_namespace namespace) t.document)
@@ -102,8 +110,11 @@ package_is : IsSelect package_text 2 6 (same 1 0 ∷ same 2 1 ∷ [])
     (order_by (1 ∷ 2 ∷ []))
     (codes "document" ∷ codes "id" ∷ codes "name" ∷
     codes "version" ∷ codes "concluded" ∷ codes "copyright" ∷ codes "shipped" ∷ [])
-unfolding understood everything
-package_is = record { is = (refl, refl); plain = (refl, refl); suits = (refl, refl) }
+unfolding everything
+package_is = record {
+  from = λ at not_null. (refl, refl, refl);
+  is = λ at not_null. record { is = refl; plain = (refl, refl); suits = (refl, refl) };
+}
 
 pub package_finds : (document : ℕ) (id : List ℕ)
     → FindsRows package_text (number document ∷ Text id ∷ [])
@@ -127,8 +138,11 @@ shipped_is : IsSelect shipped_text 2 6 (same 1 0 ∷ same 7 1 ∷ [])
     (order_by (1 ∷ 2 ∷ []))
     (codes "document" ∷ codes "id" ∷ codes "name" ∷
     codes "version" ∷ codes "concluded" ∷ codes "copyright" ∷ codes "shipped" ∷ [])
-unfolding understood everything
-shipped_is = record { is = (refl, refl); plain = (refl, refl); suits = (refl, refl) }
+unfolding everything
+shipped_is = record {
+  from = λ at not_null. (refl, refl, refl);
+  is = λ at not_null. record { is = refl; plain = (refl, refl); suits = (refl, refl) };
+}
 
 shipped_flag : (b : Bool) → ((if b then 1 else 0) == 1) ≡ b
 shipped_flag true = refl
@@ -151,8 +165,11 @@ names_text = codes "SELECT number, namespace FROM document ORDER BY number"
 
 names_is : IsSelect names_text 0 4 [] (col 1 0 ∷ col 1 2 ∷ []) (order_by (0 ∷ []))
     (codes "number" ∷ codes "namespace" ∷ [])
-unfolding understood everything
-names_is = record { is = (refl, refl); plain = (refl, refl); suits = (refl, refl) }
+unfolding everything
+names_is = record {
+  from = λ at not_null. (refl, refl, refl);
+  is = λ at not_null. record { is = refl; plain = (refl, refl); suits = (refl, refl) };
+}
 
 pub names_finds : FindsRows names_text [] name_cells (λ t. t.document)
 names_finds =
@@ -167,8 +184,11 @@ readings_text = codes "SELECT document, profile FROM reading ORDER BY document"
 
 readings_is : IsSelect readings_text 0 27 [] (col 1 0 ∷ col 1 2 ∷ []) (order_by (0 ∷ []))
     (codes "document" ∷ codes "profile" ∷ [])
-unfolding understood everything
-readings_is = record { is = (refl, refl); plain = (refl, refl); suits = (refl, refl) }
+unfolding everything
+readings_is = record {
+  from = λ at not_null. (refl, refl, refl);
+  is = λ at not_null. record { is = refl; plain = (refl, refl); suits = (refl, refl) };
+}
 
 pub readings_finds : FindsRows readings_text [] reading_cells (λ t. t.document)
 readings_finds =

@@ -5,7 +5,6 @@ use Rattle.sqlite_sql.specs.Query.{key_cmp}
 use Rattle.sqlite_trees.specs.Tree.{IsAscending}
 use Rattle.sqlite_sql.specs.Term.{col}
 use Rattle.sqlite_tied.specs.Compute.{everything}
-use Rattle.sqlite.specs.Listing.{understood}
 use Rattle.desk_model.specs.Tables.{Tables}
 use Rattle.desk_sql_layout.specs.Held.{AreOrderly}
 use Rattle.desk_sql_layout.proofs.Ties.{keys}
@@ -33,8 +32,11 @@ duty_is : IsSelect duty_text 1 23 (same 0 0 ∷ [])
     (order_by (0 ∷ []))
     (codes "number" ∷ codes "release" ∷ codes "document" ∷ codes "package" ∷
     codes "term" ∷ codes "code" ∷ codes "rule" ∷ codes "state" ∷ [])
-unfolding understood everything
-duty_is = record { is = (refl, refl); plain = (refl, refl); suits = (refl, refl) }
+unfolding everything
+duty_is = record {
+  from = λ at not_null. (refl, refl, refl);
+  is = λ at not_null. record { is = refl; plain = (refl, refl); suits = (refl, refl) };
+}
 
 pub duty_finds : (n : ℕ) → FindsRows duty_text (number n ∷ []) duty_cells
     (λ t. filter (is_duty n) t.duty)
@@ -55,8 +57,11 @@ duties_of_is : IsSelect duties_of_text 1 23 (same 2 0 ∷ [])
     (order_by (0 ∷ []))
     (codes "number" ∷ codes "release" ∷ codes "document" ∷ codes "package" ∷
     codes "term" ∷ codes "code" ∷ codes "rule" ∷ codes "state" ∷ [])
-unfolding understood everything
-duties_of_is = record { is = (refl, refl); plain = (refl, refl); suits = (refl, refl) }
+unfolding everything
+duties_of_is = record {
+  from = λ at not_null. (refl, refl, refl);
+  is = λ at not_null. record { is = refl; plain = (refl, refl); suits = (refl, refl) };
+}
 
 in_order : (t : Tables) → AreOrderly t
     → IsAscending (λ a b. is_lt (key_cmp 0 (keys (0 ∷ [])) (number b.number ∷ [])
@@ -80,8 +85,11 @@ states_of_text = codes "SELECT number, state FROM duty WHERE release = ?1 ORDER 
 states_of_is : IsSelect states_of_text 1 23 (same 2 0 ∷ []) (col 1 0 ∷ col 1 8 ∷ [])
     (order_by (0 ∷ []))
     (codes "number" ∷ codes "state" ∷ [])
-unfolding understood everything
-states_of_is = record { is = (refl, refl); plain = (refl, refl); suits = (refl, refl) }
+unfolding everything
+states_of_is = record {
+  from = λ at not_null. (refl, refl, refl);
+  is = λ at not_null. record { is = refl; plain = (refl, refl); suits = (refl, refl) };
+}
 
 pub states_of_finds : (release : List ℕ) → FindsRows states_of_text (Text release ∷ [])
     (λ (x : DutyRow). number x.number ∷ Text (duty_state_name x.state) ∷ [])
@@ -104,8 +112,11 @@ duties_at_is : IsSelect duties_at_text 1 23 (same 8 0 ∷ [])
     (order_by (0 ∷ []))
     (codes "number" ∷ codes "release" ∷ codes "document" ∷ codes "package" ∷
     codes "term" ∷ codes "code" ∷ codes "rule" ∷ codes "state" ∷ [])
-unfolding understood everything
-duties_at_is = record { is = (refl, refl); plain = (refl, refl); suits = (refl, refl) }
+unfolding everything
+duties_at_is = record {
+  from = λ at not_null. (refl, refl, refl);
+  is = λ at not_null. record { is = refl; plain = (refl, refl); suits = (refl, refl) };
+}
 
 pub duties_at_finds : (state : List ℕ) → FindsRows duties_at_text (Text state ∷ [])
     duty_cells (λ t. filter (stands_at state) t.duty)

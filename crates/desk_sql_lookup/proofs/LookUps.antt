@@ -1,6 +1,6 @@
 -- What a look-up does, from what its calls do.
 use Rattle.std.proofs.Common.{◌≡◌, ℕ, List, map, IsTrue, Ok, Err, Result, IfErr, IfOk, OnErr}
-use Rattle.std.proofs.Common.{OnOk, Vec, Global, refl, sym, ◌∙◌, ap, subst}
+use Rattle.std.proofs.Common.{OnOk, Vec, Global, refl, sym, ◌∙◌, subst}
 use Rattle.std.specs.List.{AllByRecursion}
 use Rattle.std.specs.Result.{IsErrAnd}
 use Rattle.std.proofs.lemmas.Result.{IfErr-weaker, IfOk-weaker}
@@ -8,21 +8,21 @@ use Rattle.sqlite_trees.specs.declared.store.Store.{Ghosts}
 use Rattle.sqlite_value.specs.Order.{Row}
 use Rattle.sqlite.specs.Effect.{Database}
 use Rattle.sqlite.specs.Held.{Held, state}
-use Rattle.sqlite.specs.Listing.{understood}
 use Rattle.sqlite.specs.State.{HasCleanDisk, IsUnchanged, Shown}
-use Rattle.sqlite.proofs.Callers.{IsPlain, unchanged_then}
+use Rattle.sqlite.proofs.Callers.{unchanged_then}
 use Rattle.desk_model.specs.Tables.{Tables}
 use Rattle.desk_model.specs.declared.command.Fault.{Fault}
 use Rattle.desk_model.specs.declared.command.Fault.TheVariants.{Memory}
 use Rattle.desk_access.specs.Seen.{Kept, Looked, OfRows, Same}
 use Rattle.desk_access.proofs.Chains.{same_self}
 use Rattle.desk_sql_layout.specs.Held.{AreOrderly, Holds, seen_of}
-use Rattle.desk_sql_layout.specs.Layout.{desk_schema}
-use Rattle.desk_sql_layout.specs.Causes.{AreWritten, HasCauseIf, IsAsked, IsRow}
+use Rattle.desk_sql_layout.specs.Desk.{HasDesk}
+use Rattle.desk_sql_layout.specs.Causes.{AreWritten, HasCauseIf, IsAsked, IsPlainText, IsRow}
 use Rattle.desk_sql_lookup.specs.LookUps.{LooksUp, LooksUpGiven}
 use Rattle.desk_sql_layout.specs.Queried.{Queries, ReadsQuery}
 use Rattle.desk_sql_layout.proofs.Calls.{shown_open, shown_unchanged}
-use Rattle.desk_sql_layout.proofs.Causes.{any_cause, cause_after, memory_cause, no_days, rows_cause}
+use Rattle.desk_sql_layout.proofs.Causes.{any_cause, cause_after, memory_cause, no_days}
+use Rattle.desk_sql_layout.proofs.Causes.{plain_text, rows_cause}
 use Rattle.desk_sql_layout.proofs.Finding.{Finds, FindsRows}
 use Rattle.desk_sql_layout.proofs.Chains.{same_then_kept, same_then_same}
 
@@ -33,8 +33,8 @@ module _ {S V : Type 0} (g : Ghosts S) {sql : List ℕ} {params : Row} (old new 
     {Shows : V → Type 0} {Shown_if : Tables → Type 0}
     (asks : Queries g sql params old new r Shows Shown_if)
     (asked : IsAsked sql params) where
-  plain : IsPlain (understood desk_schema sql)
-  plain = subst IsPlain (sym asked.is) asked.plain
+  plain : IsPlainText sql
+  plain = plain_text asked
 
   looked : Looked (seen_of (state g old)) (seen_of (state g new)) r
   looked = go r (asks.ok plain) (asks.err plain)
@@ -50,7 +50,7 @@ module _ {S V : Type 0} (g : Ghosts S) {sql : List ℕ} {params : Row} (old new 
   -- what it found of the tables, from what it shows of the query
   queried : (If : Tables → Type 0) (Is : V → Tables → Type 0)
       → ((v : V) → Shows v → IsTrue (state g old).is_open)
-      → ((v : V) → Shows v → old.schema ≡ desk_schema → IsUnchanged (state g old) (state g new))
+      → ((v : V) → Shows v → HasDesk old.schema → IsUnchanged (state g old) (state g new))
       → ((v : V) (t : Tables) → Shows v → Holds t (state g old).now → Is v t)
       → IfErr r (HasCauseIf If (state g old) (state g new)) → LooksUpGiven g If old new r Is
   queried If Is opened still right cause = record {
@@ -69,17 +69,17 @@ module _ {S V : Type 0} (g : Ghosts S) {sql : List ℕ} {params : Row} (old new 
           (λ v. Same (seen_of (state g old)) (seen_of (state g new))
           × (HasCleanDisk (state g new) → Shows v))
           → OnOk r (HasCleanDisk (state g new) → IsTrue (state g old).is_open
-          → old.schema ≡ desk_schema → IsUnchanged (state g old) (state g new))
+          → HasDesk old.schema → IsUnchanged (state g old) (state g new))
       go (Ok v) it = λ clean is schema. still v (it.1 clean) schema
       go (Err e) it = tt
 
 module _ {S : Type 0} (g : Ghosts S) {sql : List ℕ} {params : Row} (old new : Held S) where
   shown_still : (rows : List Row) → IsAsked sql params
       → Shown sql params (state g old) (state g new) rows
-      → old.schema ≡ desk_schema → IsUnchanged (state g old) (state g new)
+      → HasDesk old.schema → IsUnchanged (state g old) (state g new)
   shown_still rows asked shown schema =
       shown_unchanged sql params (state g old) (state g new) rows schema
-      (subst IsPlain (sym asked.is) asked.plain) shown
+      (plain_text asked) shown
 
   -- the rows of a query
   pub query_finds : {Is : Tables → List Row → Type 0} → Finds sql params Is
@@ -260,7 +260,7 @@ module _ {S A : Type 0} (g : Ghosts S) (a b c : Held S)
         unchanged = λ clean opened schema.
             let one = first.unchanged (next.kept.kept.spared.honest clean) opened schema in
             let two = next.unchanged clean one.0.is_open
-            (ap (λ (d : Database). d.schema) one.0.now_is ∙ schema) in
+            (subst (λ (d : Database). HasDesk d.schema) (sym one.0.now_is) schema) in
             unchanged_then (state g a) (state g b) (state g c) one two;
         cause = tt;
         limit = next.limit ∙ first.limit;

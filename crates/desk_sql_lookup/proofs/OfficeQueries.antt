@@ -7,7 +7,6 @@ use Rattle.desk_base.proofs.Numbers.{numbers_equal}
 use Rattle.desk_base.proofs.Texts.{texts_equal}
 use Rattle.sqlite_sql.specs.Term.{col}
 use Rattle.sqlite_tied.specs.Compute.{everything}
-use Rattle.sqlite.specs.Listing.{understood}
 use Rattle.desk_sql_layout.specs.Shown.{is_conclusion_in, text_cells}
 use Rattle.desk_model.specs.Keys.{is_adoption, is_adoption_in, is_conclusion, is_rule_at}
 use Rattle.desk_model.specs.declared.row.AdoptionRow.{AdoptionRow}
@@ -38,8 +37,11 @@ conclusion_text = codes
 conclusion_is : IsSelect conclusion_text 2 10 (same 1 0 ∷ same 2 1 ∷ [])
     (col 1 3 ∷ []) (order_by (1 ∷ 2 ∷ []))
     (codes "expression" ∷ [])
-unfolding understood everything
-conclusion_is = record { is = (refl, refl); plain = (refl, refl); suits = (refl, refl) }
+unfolding everything
+conclusion_is = record {
+  from = λ at not_null. (refl, refl, refl);
+  is = λ at not_null. record { is = refl; plain = (refl, refl); suits = (refl, refl) };
+}
 
 pub conclusion_finds : (document : ℕ) (id : List ℕ)
     → FindsRows conclusion_text (number document ∷ Text id ∷ [])
@@ -62,8 +64,11 @@ adoption_text = codes
 adoption_is : IsSelect adoption_text 2 12 (same 1 0 ∷ same 2 1 ∷ []) (col 1 3 ∷ [])
     (order_by (1 ∷ 2 ∷ []))
     (codes "licence" ∷ [])
-unfolding understood everything
-adoption_is = record { is = (refl, refl); plain = (refl, refl); suits = (refl, refl) }
+unfolding everything
+adoption_is = record {
+  from = λ at not_null. (refl, refl, refl);
+  is = λ at not_null. record { is = refl; plain = (refl, refl); suits = (refl, refl) };
+}
 
 pub adoption_finds : (document : ℕ) (reference : List ℕ)
     → FindsRows adoption_text (number document ∷ Text reference ∷ [])
@@ -86,8 +91,11 @@ conclusions_text = codes
 conclusions_is : IsSelect conclusions_text 1 10 (same 1 0 ∷ [])
     (col 1 1 ∷ col 1 2 ∷ col 1 3 ∷ []) (order_by (1 ∷ 2 ∷ []))
     (codes "document" ∷ codes "package" ∷ codes "expression" ∷ [])
-unfolding understood everything
-conclusions_is = record { is = (refl, refl); plain = (refl, refl); suits = (refl, refl) }
+unfolding everything
+conclusions_is = record {
+  from = λ at not_null. (refl, refl, refl);
+  is = λ at not_null. record { is = refl; plain = (refl, refl); suits = (refl, refl) };
+}
 
 pub conclusions_finds : (document : ℕ) → FindsRows conclusions_text (number document ∷ [])
     conclusion_cells (λ t. filter (is_conclusion_in document) t.conclusion)
@@ -106,8 +114,11 @@ references_text = codes
 
 references_is : IsSelect references_text 1 12 (same 1 0 ∷ []) (col 1 2 ∷ []) (order_by (1 ∷ 2 ∷ []))
     (codes "reference" ∷ [])
-unfolding understood everything
-references_is = record { is = (refl, refl); plain = (refl, refl); suits = (refl, refl) }
+unfolding everything
+references_is = record {
+  from = λ at not_null. (refl, refl, refl);
+  is = λ at not_null. record { is = refl; plain = (refl, refl); suits = (refl, refl) };
+}
 
 pub references_finds : (document : ℕ) → FindsRows references_text (number document ∷ [])
     (λ (x : AdoptionRow). text_cells x.reference) (λ t. filter (is_adoption_in document) t.adoption)
@@ -127,8 +138,11 @@ rule_text = codes
 rule_is : IsSelect rule_text 3 2 (same 1 0 ∷ same 2 1 ∷ same 3 2 ∷ [])
     (col 1 1 ∷ col 1 2 ∷ col 1 3 ∷ col 1 4 ∷ col 1 5 ∷ []) (order_by (1 ∷ 2 ∷ 3 ∷ []))
     (codes "revision" ∷ codes "term" ∷ codes "form" ∷ codes "spelled" ∷ codes "codes" ∷ [])
-unfolding understood everything
-rule_is = record { is = (refl, refl); plain = (refl, refl); suits = (refl, refl) }
+unfolding everything
+rule_is = record {
+  from = λ at not_null. (refl, refl, refl);
+  is = λ at not_null. record { is = refl; plain = (refl, refl); suits = (refl, refl) };
+}
 
 rule_key : (revision : ℕ) (term form : List ℕ) (x : RuleRow)
     → is_rule_at revision term form x ≡ true

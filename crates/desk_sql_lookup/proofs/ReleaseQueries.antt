@@ -4,7 +4,6 @@ use Rattle.std.specs.Prelude.{bytes_eq}
 use Rattle.sqlite_value.specs.declared.value.Value.TheVariants.{Text}
 use Rattle.sqlite_sql.specs.Term.{col}
 use Rattle.sqlite_tied.specs.Compute.{everything}
-use Rattle.sqlite.specs.Listing.{understood}
 use Rattle.desk_model.specs.Keys.{is_attached_to, is_release}
 use Rattle.desk_sql_layout.specs.Cells.{attached_cells, frozen_cells, release_cells}
 use Rattle.desk_sql_layout.proofs.Casts.{same}
@@ -31,8 +30,11 @@ release_text = codes
 release_is : IsSelect release_text 1 14 (same 1 0 ∷ [])
     (col 1 1 ∷ col 1 2 ∷ col 1 3 ∷ col 1 4 ∷ col 1 5 ∷ []) (order_by (1 ∷ []))
     (codes "name" ∷ codes "place" ∷ codes "form" ∷ codes "state" ∷ codes "revision" ∷ [])
-unfolding understood everything
-release_is = record { is = (refl, refl); plain = (refl, refl); suits = (refl, refl) }
+unfolding everything
+release_is = record {
+  from = λ at not_null. (refl, refl, refl);
+  is = λ at not_null. record { is = refl; plain = (refl, refl); suits = (refl, refl) };
+}
 
 pub release_finds : (name : List ℕ) → FindsRows release_text (Text name ∷ [])
     release_cells (λ t. filter (is_release name) t.releases)
@@ -52,8 +54,11 @@ attached_text = codes
 attached_is : IsSelect attached_text 1 17 (same 1 0 ∷ []) (col 1 1 ∷ col 1 2 ∷ [])
     (order_by (1 ∷ 2 ∷ []))
     (codes "release" ∷ codes "document" ∷ [])
-unfolding understood everything
-attached_is = record { is = (refl, refl); plain = (refl, refl); suits = (refl, refl) }
+unfolding everything
+attached_is = record {
+  from = λ at not_null. (refl, refl, refl);
+  is = λ at not_null. record { is = refl; plain = (refl, refl); suits = (refl, refl) };
+}
 
 pub attached_finds : (release : List ℕ) → FindsRows attached_text (Text release ∷ [])
     attached_cells (λ t. filter (is_attached_to release) t.attached)
@@ -71,8 +76,11 @@ attached_count_text = codes "SELECT document FROM attached WHERE release = ?1"
 
 attached_count_is : IsSelect attached_count_text 1 17 (same 1 0 ∷ []) (col 1 2 ∷ []) (order_by [])
     (codes "document" ∷ [])
-unfolding understood everything
-attached_count_is = record { is = (refl, refl); plain = (refl, refl); suits = (refl, refl) }
+unfolding everything
+attached_count_is = record {
+  from = λ at not_null. (refl, refl, refl);
+  is = λ at not_null. record { is = refl; plain = (refl, refl); suits = (refl, refl) };
+}
 
 pub attached_count_finds : (release : List ℕ) → Finds attached_count_text (Text release ∷ [])
     (λ t rows. length rows ≡ length (filter (is_attached_to release) t.attached))
@@ -91,8 +99,11 @@ frozen_text = codes
 frozen_is : IsSelect frozen_text 1 21 (same 1 0 ∷ [])
     (col 1 1 ∷ col 1 2 ∷ col 1 3 ∷ col 1 4 ∷ col 1 5 ∷ []) (order_by (1 ∷ 2 ∷ 3 ∷ 4 ∷ []))
     (codes "release" ∷ codes "document" ∷ codes "package" ∷ codes "term" ∷ codes "rule" ∷ [])
-unfolding understood everything
-frozen_is = record { is = (refl, refl); plain = (refl, refl); suits = (refl, refl) }
+unfolding everything
+frozen_is = record {
+  from = λ at not_null. (refl, refl, refl);
+  is = λ at not_null. record { is = refl; plain = (refl, refl); suits = (refl, refl) };
+}
 
 pub frozen_finds : (release : List ℕ) → FindsRows frozen_text (Text release ∷ [])
     frozen_cells (λ t. filter (λ row. bytes_eq row.release release) t.frozen)
@@ -111,8 +122,11 @@ releases_text = codes "SELECT name, place, form, state, revision FROM releases O
 releases_is : IsSelect releases_text 0 14 []
     (col 1 1 ∷ col 1 2 ∷ col 1 3 ∷ col 1 4 ∷ col 1 5 ∷ []) (order_by (1 ∷ []))
     (codes "name" ∷ codes "place" ∷ codes "form" ∷ codes "state" ∷ codes "revision" ∷ [])
-unfolding understood everything
-releases_is = record { is = (refl, refl); plain = (refl, refl); suits = (refl, refl) }
+unfolding everything
+releases_is = record {
+  from = λ at not_null. (refl, refl, refl);
+  is = λ at not_null. record { is = refl; plain = (refl, refl); suits = (refl, refl) };
+}
 
 pub releases_finds : FindsRows releases_text [] release_cells (λ t. t.releases)
 releases_finds =

@@ -3,7 +3,6 @@ use Rattle.std.proofs.Common.{ℕ, List, [], ◌∷◌, filter, codes, refl}
 use Rattle.sqlite_value.specs.declared.value.Value.TheVariants.{Text}
 use Rattle.sqlite_sql.specs.Term.{col}
 use Rattle.sqlite_tied.specs.Compute.{everything}
-use Rattle.sqlite.specs.Listing.{understood}
 use Rattle.desk_sql_layout.specs.Shown.{extracted_body_cells, text_cells}
 use Rattle.desk_model.specs.Keys.{is_extracted, is_revision}
 use Rattle.desk_model.specs.declared.row.CatalogueRow.{CatalogueRow}
@@ -22,8 +21,11 @@ catalogue_text = codes "SELECT body FROM catalogue WHERE revision = ?1 ORDER BY 
 
 catalogue_is : IsSelect catalogue_text 1 1 (same 0 0 ∷ []) (col 1 2 ∷ []) (order_by (0 ∷ []))
     (codes "body" ∷ [])
-unfolding understood everything
-catalogue_is = record { is = (refl, refl); plain = (refl, refl); suits = (refl, refl) }
+unfolding everything
+catalogue_is = record {
+  from = λ at not_null. (refl, refl, refl);
+  is = λ at not_null. record { is = refl; plain = (refl, refl); suits = (refl, refl) };
+}
 
 pub catalogue_finds : (n : ℕ) → FindsRows catalogue_text (number n ∷ [])
     (λ (x : CatalogueRow). text_cells x.body) (λ t. filter (is_revision n) t.catalogue)
@@ -42,8 +44,11 @@ extracted_text = codes
 extracted_is : IsSelect extracted_text 2 8 (same 1 0 ∷ same 2 1 ∷ []) (col 1 3 ∷ [])
     (order_by (1 ∷ 2 ∷ []))
     (codes "body" ∷ [])
-unfolding understood everything
-extracted_is = record { is = (refl, refl); plain = (refl, refl); suits = (refl, refl) }
+unfolding everything
+extracted_is = record {
+  from = λ at not_null. (refl, refl, refl);
+  is = λ at not_null. record { is = refl; plain = (refl, refl); suits = (refl, refl) };
+}
 
 pub extracted_finds : (document : ℕ) (reference : List ℕ)
     → FindsRows extracted_text (number document ∷ Text reference ∷ [])

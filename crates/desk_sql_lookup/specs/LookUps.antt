@@ -6,8 +6,8 @@ use Rattle.sqlite.specs.State.{HasCleanDisk, IsUnchanged}
 use Rattle.desk_model.specs.Tables.{Tables}
 use Rattle.desk_model.specs.declared.command.Fault.{Fault}
 use Rattle.desk_access.specs.Seen.{Looked, OfRows}
+use Rattle.desk_sql_layout.specs.Desk.{HasDesk}
 use Rattle.desk_sql_layout.specs.Held.{seen_of}
-use Rattle.desk_sql_layout.specs.Layout.{desk_schema}
 use Rattle.desk_sql_layout.specs.Causes.{HasCauseIf}
 
 -- A look-up over a connection. `Is` says what was found of the tables, and `Given` what its caller
@@ -19,7 +19,7 @@ pub record LooksUpGiven {S A : Type 0} (g : Ghosts S) (Given : Tables → Type 0
   pub kept : Looked (seen_of (state g old)) (seen_of (state g new)) result
   -- an answer leaves everything as it was
   pub unchanged : OnOk result (HasCleanDisk (state g new) → IsTrue (state g old).is_open
-      → old.schema ≡ desk_schema → IsUnchanged (state g old) (state g new))
+      → HasDesk old.schema → IsUnchanged (state g old) (state g new))
   pub cause : IfErr result (HasCauseIf Given (state g old) (state g new))
   -- no limit is set on the steps of a query
   pub limit : new.step_limit ≡ old.step_limit

@@ -10,6 +10,7 @@ use Rattle.desk_sql_layout.specs.declared.rows.Waiver.{Waiver}
 abbrev pub AreSteps : List ChangeRow → Type 0
 AreSteps = IsAscending (λ a b. (a.step == b.step) ≡ false)
 
+-- the waiver of a change: its step and its last day; asked only of changes that have one
 abbrev pub waiver_of : ChangeRow → Waiver
 waiver_of row = record { step = row.step; last_day = unwrap_or row.last_day [] }
 

@@ -96,7 +96,7 @@ fn select_both<S: Alter>(
     Ok((changes, waivers))
 }
 
-/// The last day of a step's waiver, if that is the first of these, and the waivers that are left.
+/// The last day of a step's waiver, if that is the first of these, and the remaining waivers.
 fn take_waiver(waivers: &[Waiver], step: u32) -> (Option<Day>, &[Waiver])
     ensures { (result.0, result.1.now) ≡ taken step waivers.now }
 {
@@ -106,7 +106,7 @@ fn take_waiver(waivers: &[Waiver], step: u32) -> (Option<Day>, &[Waiver])
     }
 }
 
-/// Changes, whose last days are in waivers in the order of their steps.
+/// Changes, with their last days from waivers in the order of steps.
 fn with_waivers(alloc: Global, rows: &[Row], waivers: &[Waiver]) -> Result<Vec<ChangeRow>, Fault>
     ensures value { IfOk result (λ found. (xs : List Change) → AreSteps xs
         → rows.now ≡ map change_cells xs

@@ -2,14 +2,14 @@
 //! `desk_access::Store` that reads rows, a function over a connection.
 //!
 //! Each statement is a SELECT over one table: the rows with given values, or values in a range, in
-//! named columns, in the order of the table's key unless they are only counted. Anything else that
-//! is asked for is found from these rows. A connection shows the rows of the tables that its
-//! database holds, in whatever way it holds them. `LooksUp` (`specs/LookUps.antt`) says what each
-//! look-up does: what it finds is true of the rows (`found`), it leaves them as they were (`kept`)
-//! and, if it answers, also the whole database (`unchanged`), and no transaction is open after it
-//! if none was before (`mode`).
+//! named columns, in the order of the table's key unless they are only counted. Everything else is
+//! derived from these rows. A connection shows the rows of the tables that its database holds,
+//! however it holds them. `LooksUp` (`specs/LookUps.antt`) says what each look-up does: what it
+//! finds is true of the rows (`found`); it leaves them unchanged (`kept`) and, if it answers, the
+//! whole database too (`unchanged`); and no transaction is open after it if none was before
+//! (`mode`).
 //!
-//! Its `cause` says when it fails: only as a query of the tables does (`HasCause` of
+//! Its `cause` says when it fails: only if a query of the tables would (`HasCause` of
 //! `desk_sql_layout`). `limit` says that the look-up sets no limit on the steps of a query.
 //!
 //! Documents, duties and revisions are numbered from 1, and the caller says how many there are.

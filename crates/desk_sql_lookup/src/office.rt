@@ -48,7 +48,7 @@ pub fn conclusions_in<S: Alter>(
     )
 }
 
-/// The licence as which a reference of a document is adopted.
+/// The licence that a reference of a document is adopted as.
 pub fn adoption<S: Alter>(
     alloc: Global,
     conn: &mut Connection<S>,

@@ -3,11 +3,12 @@ use Rattle.std.proofs.Common.{◌≡◌, ◌⊎◌, ◌∙◌, inl, inr, false, 
 use Rattle.std.specs.Prelude.{OnOk}
 use Rattle.std.specs.Result.{IsErr}
 use Rattle.sqlite_trees.specs.Tree.{Trees}
-use Rattle.sqlite.specs.Effect.{Database}
+use Rattle.sqlite.specs.Effect.{Database, IsDatabase}
 use Rattle.sqlite.specs.declared.error.Error.{Error}
 use Rattle.sqlite.specs.State.{State, HasCleanDisk, IsRolledBack, KeepsCommit, Shows, Survives}
 use Rattle.sqlite.specs.Steps.{FailsToCommit}
 use Rattle.sqlite.proofs.StateLemmas.{survives_then}
+use Rattle.desk_model.specs.Tables.{tables}
 use Rattle.desk_model.specs.declared.command.Fault.{Fault}
 use Rattle.desk_model.specs.declared.command.Fault.TheVariants.{Memory, Store}
 use Rattle.desk_model.specs.declared.command.StoreFault.TheVariants.{Database as DatabaseFault, Rows}
@@ -17,14 +18,15 @@ use Rattle.desk_beside.specs.declared.beside.Audited.TheVariants as audited
 use Rattle.desk_beside.specs.declared.beside.Beside.{Beside}
 use Rattle.desk_sql_layout.specs.Held.{HasRows}
 use Rattle.desk_sql_layout.proofs.Clean.{clean_before}
-use Rattle.desk_sql_adopt.specs.Older.{IsOlderContent, migrated, older_schema}
+use Rattle.desk_sql_adopt.specs.Older.{HasOlder, HoldsOlder, IsOlderContent, migrated}
 use Rattle.desk_sql_adopt.specs.Reading.{HasStayed, IsSpared}
 use Rattle.desk_sql_adopt.specs.declared.older.OlderVersion.{OlderVersion}
 use Rattle.desk_sql_adopt.specs.declared.older.OlderContent.TheVariants as content
 use Rattle.desk_sql_adopt.proofs.Spared.{spared_then}
 use Rattle.desk_snapshot.specs.declared.fault.AuditReport.{AuditReport}
 use Rattle.desk_snapshot.specs.declared.fault.AuditReport.TheVariants.{Sound, Unsound}
-use Rattle.desk_sql_migrate.specs.Migrating.{Ends, IsLeft, IsReason, IsReportOn, IsUndone, Leaves}
+use Rattle.desk_sql_migrate.specs.Migrating.{Ends, InOlderHistory, IsFault, IsLeft, IsReason}
+use Rattle.desk_sql_migrate.specs.Migrating.{IsReportOn, IsUndone, Leaves}
 use Rattle.desk_sql_migrate.specs.Migrating.{LeavesMigrated, LeavesSome, Migrated, Prepared}
 use Rattle.desk_sql_migrate.specs.Migrating.{IsKeptBeside, IsKeptIfSound, outcome_of, told_of}
 use Rattle.desk_sql_migrate.specs.Steps.{Becomes}
@@ -93,8 +95,8 @@ module _ (old last final : State) (settled : IsTrue old.is_open → old.now ≡ 
         committed = λ clean is. committed_back (before clean) (undone clean) is;
       }
 
-  module _ (version : OlderVersion) (told : AuditReport)
-      (prepared : HasCleanDisk last → Prepared version told old last)
+  module _ (live : IsTrue old.is_open → IsDatabase old.now) (version : OlderVersion)
+      (told : AuditReport) (prepared : HasCleanDisk last → Prepared version told old last)
       (next : Survives last final (λ db. db ≡ last.now.trees)) where
     before : HasCleanDisk final → HasCleanDisk last
     before = clean_before last final (λ db. db ≡ last.now.trees) next
@@ -106,13 +108,13 @@ module _ (old last final : State) (settled : IsTrue old.is_open → old.now ≡ 
           was_open = it.was_open;
           db = last.now;
           rows = it.rows;
-          sound = λ has. subst (IsReportOn last.now) is (it.report has);
+          sound = λ has. subst (IsReportOn last.now) is (it.report has (live it.was_open));
           is = same;
         }) first next
 
     pub committed_as : (told ≡ Sound)
         → (HasCleanDisk final → Shows last final last.now last.now false) → HasCleanDisk final
-        → (IsTrue old.is_open → old.now.schema ≡ older_schema version) → Migrated version old final
+        → (IsTrue old.is_open → HasOlder version old.now.schema) → Migrated version old final
     committed_as is shows clean has =
         let it = prepared (before clean) in
         let so = shows clean in
@@ -123,7 +125,7 @@ module _ (old last final : State) (settled : IsTrue old.is_open → old.now ≡ 
           rows = λ rows given. subst (HasRows (migrated version rows)) (sym so.now_is)
               (it.rows rows given);
           sound = subst (λ (db : Database). IsReportOn db Sound) (sym so.now_is)
-              (subst (IsReportOn last.now) is (it.report (has it.was_open)));
+              (subst (IsReportOn last.now) is (it.report (has it.was_open) (live it.was_open)));
         }
 
     moves : (e : Error) → FailsToCommit last final e → IsTrue last.in_transaction
@@ -158,7 +160,7 @@ module _ (a b c : State) (stayed : HasStayed a b) (version : OlderVersion) where
           was_open = stayed.0.was_open clean it.was_open;
           db = it.db;
           rows = subst (λ (d : Database). Becomes version d it.db) now it.rows;
-          sound = λ has. it.sound (ap (λ (d : Database). d.schema) now ∙ has);
+          sound = λ has. it.sound (subst (λ (d : Database). HasOlder version d.schema) (sym now) has);
           is = it.is;
         },
       )
@@ -234,6 +236,34 @@ module _ (a b c : State) (stayed : HasStayed a b) (version : OlderVersion) where
   kept_by (Ok (audited.Unsound f)) it = tt
   kept_by (Err f) it = tt
 
+  -- an older version of a history is taken for what it is
+  abbrev pub IsTold : Type 0
+  IsTold = (other : OlderVersion) → InOlderHistory other (λ w h. version ≡ other) a b
+
+  history_by : (r : Result Audited Fault) → Leaves version b c (told_of r) → IsTold
+      → IfOk (outcome_of version r) (λ made. (other : OlderVersion)
+      → InOlderHistory other (λ w h. made.0 ≡ other) a c)
+  history_by (Ok (audited.Sound kept)) left told = λ other w right clean is h ok holds.
+      told other w right (clean_first version b c (Ok (audited.Sound kept)) left clean) is h ok
+      holds
+  history_by (Ok (audited.Unsound f)) left told = tt
+  history_by (Err f) left told = tt
+
+  faults_by : (r : Result Audited Fault) → Leaves version b c (told_of r) → IsTold
+      → IfOk r (λ found. InOlderHistory version (λ w h. report_of found ≡ Sound) b c)
+      → IfErr (outcome_of version r) (λ fault. (other : OlderVersion)
+      → InOlderHistory other (λ w h. IsFault fault) a c)
+  faults_by (Ok (audited.Sound kept)) left told sound = tt
+  faults_by (Ok (audited.Unsound f)) left told sound = λ other w right clean is h ok holds.
+      let before = clean_first version b c (Ok (audited.Unsound f)) left clean in
+      let opened = stayed.1 before is in
+      let same = told other w right before is h ok holds in
+      let here = subst (λ (d : Database). HoldsOlder version (tables w h) d)
+      (sym (same_now before opened))
+      (subst (λ v. HoldsOlder v (tables w h) a.now) (sym same) holds) in
+      absurd (let no = sound w right clean opened h ok here in cc)
+  faults_by (Err f) left told sound = λ other w right clean is h ok holds. tt
+
   -- a stop leaves what was committed
   abbrev pub StopsAt : Trees → Type 0
   StopsAt given = (trees : Trees) → c.may_leave trees → trees ≡ given
@@ -259,15 +289,28 @@ module _ (a b c : State) (stayed : HasStayed a b) (version : OlderVersion) where
     pub kept_first : IfOk r (IsKeptIfSound c.now) → IfOk o (λ made. IsKeptBeside c.now made.1)
     kept_first it = subst (λ o. IfOk o (λ made. IsKeptBeside c.now made.1)) (sym is) (kept_by r it)
 
+    pub history_first : IsTold → IfOk o (λ made. (other : OlderVersion)
+        → InOlderHistory other (λ w h. made.0 ≡ other) a c)
+    history_first told = subst (λ o. IfOk o (λ made. (other : OlderVersion)
+        → InOlderHistory other (λ w h. made.0 ≡ other) a c)) (sym is) (history_by r left told)
+
+    pub faults_first : IsTold
+        → IfOk r (λ found. InOlderHistory version (λ w h. report_of found ≡ Sound) b c)
+        → IfErr o (λ fault. (other : OlderVersion)
+        → InOlderHistory other (λ w h. IsFault fault) a c)
+    faults_first told sound = subst (λ o. IfErr o (λ fault. (other : OlderVersion)
+        → InOlderHistory other (λ w h. IsFault fault) a c)) (sym is)
+        (faults_by r left told sound)
+
     module _ (found : HasCleanDisk b → IsOlderContent a (content.Older version))
-        (ends : HasCleanDisk c → (IsTrue b.is_open → b.now.schema ≡ older_schema version)
+        (ends : HasCleanDisk c → (IsTrue b.is_open → HasOlder version b.now.schema)
         → IfOk r (λ found. Ends version b c (report_of found))) (clean : HasCleanDisk c) where
       before_it : HasCleanDisk b
       before_it = clean_first version b c r left clean
 
       so_ended : IfOk r (λ found. Ends version b c (report_of found))
-      so_ended = ends clean (λ is. ap (λ (d : Database). d.schema) (same_now before_it is)
-          ∙ (found before_it).1)
+      so_ended = ends clean (λ is. subst (λ (d : Database). HasOlder version d.schema)
+          (sym (same_now before_it is)) (found before_it).1)
 
       pub reason_first : IfErr o (IsReason a)
       reason_first = subst (λ o. IfErr o (IsReason a)) (sym is)

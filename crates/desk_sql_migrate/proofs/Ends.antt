@@ -1,15 +1,12 @@
 -- How a migration ends: with a report on its rows, committed or dropped.
-use Rattle.std.proofs.Common.{◌≡◌, ◌≢◌, ◌∙◌, ℕ, List, [], ◌∷◌, map, filter, Bool, true, false, not}
-use Rattle.std.proofs.Common.{IsTrue, Ok, Err, Result, IfOk, IfErr, refl, sym, ap, subst, arith}
-use Rattle.std.specs.Prelude.{◌==◌, if◌then◌else◌, OnOk}
+use Rattle.std.proofs.Common.{◌≡◌, ℕ, List, [], ◌∷◌, map, filter, Bool, true, false, not}
+use Rattle.std.proofs.Common.{refl, sym, ap, subst, arith}
+use Rattle.std.specs.Prelude.{◌==◌, if◌then◌else◌}
 use Rattle.std.specs.List.{list_all}
 use Rattle.std.proofs.lemmas.Bool.{and_parts}
 use Rattle.std.proofs.lemmas.Bool.Decides.{nat_tests}
-use Rattle.sqlite_value.specs.Order.{Row, column}
-use Rattle.sqlite_trees.specs.Tree.{Trees}
-use Rattle.sqlite_trees.proofs.ListLemmas.{map-map}
+use Rattle.sqlite_value.specs.Order.{Row}
 use Rattle.sqlite.specs.Effect.{Database}
-use Rattle.sqlite.specs.State.{State, HasCleanDisk, Survives}
 use Rattle.desk_base.specs.Profiles.{profile_number}
 use Rattle.desk_model.specs.Readings.{Readings}
 use Rattle.desk_model.specs.Tables.{Tables}
@@ -17,10 +14,10 @@ use Rattle.desk_model.specs.declared.row.ChangeRow.{ChangeRow}
 use Rattle.desk_model.specs.declared.row.DocumentRow.{DocumentRow}
 use Rattle.desk_model.specs.Moves.{is_waiver}
 use Rattle.desk_sql_layout.specs.Cells.{number, document_cells, reading_cells, waiver_cells}
-use Rattle.desk_sql_layout.specs.Held.{HasRows, Holds, rows_of}
+use Rattle.desk_sql_layout.specs.Held.{Holds, labelled, rows_of}
 use Rattle.desk_sql_layout.specs.Layout.{desk_schema}
 use Rattle.desk_sql_layout.specs.Stored.{AllStored}
-use Rattle.desk_sql_adopt.specs.Older.{HoldsOlder, first_readings, migrated, older_rows}
+use Rattle.desk_sql_adopt.specs.Older.{HoldsOlder, first_readings, older_rows}
 use Rattle.desk_sql_adopt.specs.declared.older.OlderVersion.{OlderVersion}
 use Rattle.desk_sql_adopt.specs.declared.older.OlderVersion.TheVariants.{One, Two}
 use Rattle.desk_snapshot.specs.Reports.{IsReport, Meets}
@@ -77,12 +74,12 @@ module _ (t : Tables) (db : Database) where
   same_rows : (version : OlderVersion) (readings waivers : List Row)
       → readings ≡ map reading_cells t.document
       → waivers ≡ map waiver_cells (filter is_waiver t.changes)
-      → AllStored desk_schema (with_these readings waivers) db.trees
-      → AllStored desk_schema (rows_of t) db.trees
+      → AllStored desk_schema (with_these readings waivers) (labelled db)
+      → AllStored desk_schema (rows_of t) (labelled db)
   same_rows version readings waivers is_readings is_waivers stored =
-      subst (λ w. AllStored desk_schema (with_these (map reading_cells t.document) w) db.trees)
+      subst (λ w. AllStored desk_schema (with_these (map reading_cells t.document) w) (labelled db))
       is_waivers
-      (subst (λ r. AllStored desk_schema (with_these r waivers) db.trees) is_readings stored)
+      (subst (λ r. AllStored desk_schema (with_these r waivers) (labelled db)) is_readings stored)
 
 pub holds_migrated : (version : OlderVersion) (t : Tables) (old new : Database)
     → HoldsOlder version t old → Becomes version old new → Holds t new

@@ -1,5 +1,5 @@
 -- What is kept beside rows is taken from the snapshot that is audited.
-use Rattle.std.proofs.Common.{◌≡◌, Ok, Err, Result, IfOk, ap, subst, sym}
+use Rattle.std.proofs.Common.{Ok, Err, Result, IfOk, ap, subst, sym}
 use Rattle.sqlite.specs.Effect.{Database}
 use Rattle.sqlite.specs.State.{State, HasCleanDisk}
 use Rattle.desk_model.specs.Tables.{Tables}

@@ -1,3 +1,7 @@
+mod TwoTables
+mod Copying
+mod Declaring
+mod Growing
 mod Gained
 mod Rows
 mod Whole

@@ -9,7 +9,7 @@ use Rattle.desk_model.specs.Tables.{tables}
 use Rattle.desk_model.specs.declared.command.Command.{Command}
 use Rattle.desk_model.specs.declared.command.Fault.{Fault}
 use Rattle.desk_sql_layout.specs.Held.{HasRows, Holds}
-use Rattle.desk_sql_layout.specs.Layout.{desk_schema}
+use Rattle.desk_sql_layout.specs.Desk.{HasDesk}
 use Rattle.desk_sql_layout.proofs.Clean.{clean_before}
 use Rattle.desk_sql_write.proofs.Inside.{survives_both}
 use Rattle.desk_sql_adopt.specs.Older.{HoldsOlder, migrated}
@@ -24,7 +24,7 @@ use Rattle.desk_sql_migrate.proofs.Ends.{holds_migrated}
 
 module _ (version : OlderVersion) (a b c : State) (up : Upgrades version a b (Ok tt)) where
   pub prepared : (r : Result AuditReport Fault) → HasAsked b c r
-      → (HasCleanDisk c → b.now.schema ≡ desk_schema → IfOk r (IsReportOn b.now))
+      → (HasCleanDisk c → HasDesk b.now.schema → IfOk r (IsReportOn b.now))
       → Prepares version a c r
   prepared (Ok told) asked report = λ clean inside.
       let u = up.done (clean_before b c (λ _. ⊥) asked.0 clean) inside in
@@ -36,8 +36,8 @@ module _ (version : OlderVersion) (a b c : State) (up : Upgrades version a b (Ok
             (record { was_open = λ _. same.0.was_open; committed = λ _. same.0.committed_is });
         rows = λ rows given. subst (HasRows (migrated version rows)) (sym same.0.now_is)
             (u.rows rows given);
-        report = λ has. subst (λ (db : Database). IsReportOn db told) (sym same.0.now_is)
-            (report clean (u.declared has));
+        report = λ has sound. subst (λ (db : Database). IsReportOn db told) (sym same.0.now_is)
+            (report clean (u.declared has sound));
       }
   prepared (Err e) asked report = λ clean inside. keeps_then a b c
       (up.done (clean_before b c (λ _. ⊥) asked.survives clean) inside).kept (asked.kept clean)

@@ -3,11 +3,12 @@ use Rattle.std.proofs.Common.{◌≡◌, true, false, IsTrue, Ok, sym, subst}
 use Rattle.desk_sql_layout.proofs.Clean.{clean_before}
 use Rattle.sqlite_trees.specs.declared.store.Store.{Ghosts}
 use Rattle.sqlite.specs.declared.error.Error.{Error}
+use Rattle.sqlite.specs.Effect.{IsDatabase}
 use Rattle.sqlite.specs.Held.{Held, state}
 use Rattle.sqlite.specs.State.{HasCleanDisk, IsRolledBack, KeepsCommit, Shows, Survives}
 use Rattle.sqlite.specs.Steps.{FailsToCommit}
 use Rattle.sqlite.proofs.Callers.{survives_begin}
-use Rattle.desk_sql_adopt.specs.Older.{older_schema}
+use Rattle.desk_sql_adopt.specs.Older.{HasOlder}
 use Rattle.desk_sql_adopt.specs.Reading.{IsSpared}
 use Rattle.desk_sql_adopt.specs.declared.older.OlderVersion.{OlderVersion}
 use Rattle.desk_snapshot.specs.declared.fault.AuditFault.{AuditFault}
@@ -39,7 +40,8 @@ module _ {S : Type 0} (g : Ghosts S) (first last : Held S) {begun : Held S}
       subst (λ h. IsSpared (state g first) (state g h)) same
       (dropped (state g first) (state g last) (state g final) settled since so next undone)
 
-  module _ (version : OlderVersion) (told : AuditReport)
+  module _ (live : IsTrue (state g first).is_open → IsDatabase (state g first).now)
+      (version : OlderVersion) (told : AuditReport)
       (made : HasCleanDisk (state g last) → IsTrue (state g begun).in_transaction
       → Prepared version told (state g begun) (state g last)) where
     prepared : HasCleanDisk (state g last) → Prepared version told (state g first) (state g last)
@@ -58,7 +60,7 @@ module _ {S : Type 0} (g : Ghosts S) (first last : Held S) {begun : Held S}
 
     -- the schema that was shown first
     abbrev pub IsOlder : Type 0
-    IsOlder = IsTrue (state g first).is_open → (state g first).now.schema ≡ older_schema version
+    IsOlder = IsTrue (state g first).is_open → HasOlder version (state g first).now.schema
 
     -- it was to be committed
     module _ (sound : told ≡ Sound)
@@ -69,7 +71,7 @@ module _ {S : Type 0} (g : Ghosts S) (first last : Held S) {begun : Held S}
           → Ends version (state g first) (state g given) told
       committed_since shows clean has =
           let ends = committed_as (state g first) (state g last) (state g final) settled since kept
-          version told prepared next sound shows
+          live version told prepared next sound shows
           (subst (λ h. HasCleanDisk (state g h)) (sym same) clean) has in
           subst (λ h. Ends version (state g first) (state g h) told) same
           (subst (Ends version (state g first) (state g final)) (sym sound) ends)
@@ -77,7 +79,7 @@ module _ {S : Type 0} (g : Ghosts S) (first last : Held S) {begun : Held S}
       pub left_since : Leaves version (state g first) (state g given) (Ok told)
       left_since =
           let left = left_committed (state g first) (state g last) (state g final) settled since
-          kept version told prepared next sound in
+          kept live version told prepared next sound in
           subst (λ h. Leaves version (state g first) (state g h) (Ok told)) same
           (subst (λ told. Leaves version (state g first) (state g final) (Ok told)) (sym sound)
           left)
@@ -88,8 +90,8 @@ module _ {S : Type 0} (g : Ghosts S) (first last : Held S) {begun : Held S}
       failed_since e fails =
           subst (λ h. IsUndone (LeavesMigrated version (state g first)) (state g first) (state g h))
           same
-          (commit_failed (state g first) (state g last) (state g final) settled since kept version
-          told prepared next sound e fails)
+          (commit_failed (state g first) (state g last) (state g final) settled since kept live
+          version told prepared next sound e fails)
 
     -- it was dropped, because the rows weren't sound
     module _ {f : AuditFault} (unsound : told ≡ Unsound f)
@@ -102,7 +104,7 @@ module _ {S : Type 0} (g : Ghosts S) (first last : Held S) {begun : Held S}
           let ends : Ends version (state g first) (state g given) (Unsound f) = (
             (state g last).now,
             it.rows,
-            subst (IsReportOn (state g last).now) unsound (it.report (has it.was_open)),
+            subst (IsReportOn (state g last).now) unsound (it.report (has it.was_open) (live it.was_open)),
           ) in
           subst (Ends version (state g first) (state g given)) (sym unsound) ends
 

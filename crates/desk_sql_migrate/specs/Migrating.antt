@@ -1,7 +1,7 @@
 -- What a migration makes of a database, and why it is refused.
 use Rattle.std.specs.Prelude.{◌≡◌, ◌⊎◌, List, IsTrue, Result, Ok, Err}
 use Rattle.sqlite_trees.specs.Tree.{Trees}
-use Rattle.sqlite.specs.Effect.{Database}
+use Rattle.sqlite.specs.Effect.{Database, IsDatabase}
 use Rattle.sqlite.specs.State.{State, HasCleanDisk, KeepsCommit, Survives}
 use Rattle.desk_model.specs.Answers.{IsHistory}
 use Rattle.desk_model.specs.Readings.{Readings}
@@ -15,7 +15,7 @@ use Rattle.desk_beside.specs.Beside.{HasNumbers, IsBeside, report_of}
 use Rattle.desk_beside.specs.declared.beside.Audited.{Audited}
 use Rattle.desk_beside.specs.declared.beside.Audited.TheVariants as audited
 use Rattle.desk_beside.specs.declared.beside.Beside.{Beside}
-use Rattle.desk_sql_adopt.specs.Older.{HoldsOlder, IsOlderContent, older_schema}
+use Rattle.desk_sql_adopt.specs.Older.{HasOlder, HoldsOlder, IsOlderContent}
 use Rattle.desk_sql_adopt.specs.Reading as reading
 use Rattle.desk_sql_adopt.specs.declared.older.OlderVersion.{OlderVersion}
 use Rattle.desk_sql_adopt.specs.declared.older.OlderContent.{OlderContent}
@@ -45,6 +45,7 @@ IsReportOn db told = (s : Snapshot) × IsSnapshot s db × HasNumbersIfSound s to
 abbrev pub IsKeptBeside : Database → Beside → Type 0
 IsKeptBeside db kept = (t : Tables) → Holds t db → IsBeside kept t
 
+-- this is true if the audit found the rows sound
 abbrev pub IsKeptIfSound : Database → Audited → Type 0
 IsKeptIfSound db (audited.Sound kept) = IsKeptBeside db kept
 IsKeptIfSound db (audited.Unsound f) = Unit {0}
@@ -61,8 +62,9 @@ pub record Prepared (version : OlderVersion) (told : AuditReport) (old new : Sta
   pub inside : IsTrue new.in_transaction
   pub kept : KeepsCommit old new
   pub rows : Becomes version old.now new.now
-  pub report : old.now.schema ≡ older_schema version → IsReportOn new.now told
+  pub report : HasOlder version old.now.schema → IsDatabase old.now → IsReportOn new.now told
 
+-- the same by the result: done, or after a fault nothing was committed
 abbrev pub Prepares : OlderVersion → State → State → Result AuditReport Fault → Type 0
 Prepares version old new (Ok told) = HasCleanDisk new → IsTrue old.in_transaction
     → Prepared version told old new
@@ -88,7 +90,7 @@ pub record LeavesMigrated (version : OlderVersion) (old : State) (trees : Trees)
   pub was_open : IsTrue old.is_open
   pub db : Database
   pub rows : Becomes version old.now db
-  pub sound : old.now.schema ≡ older_schema version → IsReportOn db report.Sound
+  pub sound : HasOlder version old.now.schema → IsReportOn db report.Sound
   pub is : trees ≡ db.trees
 
 -- The connection shows what it showed, as far as it still shows anything, although a stop may leave

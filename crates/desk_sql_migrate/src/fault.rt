@@ -8,8 +8,8 @@ use thiserror::Error;
 /// the database gives.
 #[derive(Clone, Copy, Debug, Drop, PartialEq, Eq, Error)]
 pub enum MigrateFault {
-    /// The database gives no version, or a table of the older version that it gives doesn't exist
-    /// as it is declared, or there is something besides these tables.
+    /// The database gives no version, or a table of the older version that it gives isn't there as
+    /// it is declared.
     #[error("NotADesk")]
     NotADesk,
     /// The tables are of a version that isn't an older one.

@@ -7,9 +7,9 @@ ghost use Rattle.desk_model.specs.Answers.{IsHistory};
 ghost use Rattle.desk_model.specs.Readings.{Readings};
 ghost use Rattle.desk_model.specs.Tables.{tables};
 ghost use Rattle.desk_model.specs.declared.command.Command.{Command};
+ghost use Rattle.desk_sql_layout.specs.Desk.{HasDesk};
 ghost use Rattle.desk_sql_layout.specs.Held.{Holds};
-ghost use Rattle.desk_sql_layout.specs.Layout.{desk_schema};
-ghost use Rattle.desk_sql_adopt.specs.Older.{HoldsOlder, IsOlderContent, older_schema};
+ghost use Rattle.desk_sql_adopt.specs.Older.{HasOlder, HoldsOlder, IsOlderContent};
 ghost use Rattle.desk_sql_adopt.specs.Reading.{HasStayed};
 ghost use Rattle.desk_sql_adopt.specs.declared.older.OlderVersion.{OlderVersion as Version};
 ghost use Rattle.desk_sql_scan.specs.Asked.{HasAsked};
@@ -33,7 +33,7 @@ use std::alloc::Global;
 fn audit_inside<S: Alter>(alloc: Global, tx: &mut Transaction<'_, S>) -> Result<Audited, Fault>
     ensures same_reference { tx.new.conn.ghost_name ≡ tx.old.conn.ghost_name }
     ensures told { HasCleanDisk (state S.Store tx.new.conn.now)
-        → (state S.Store tx.old.conn.now).now.schema ≡ desk_schema
+        → HasDesk (state S.Store tx.old.conn.now).now.schema
         → IfOk result (λ found. IsReportOn (state S.Store tx.old.conn.now).now
         (report_of found)) }
     ensures sound { IfOk result (λ found. HasCleanDisk (state S.Store tx.new.conn.now)
@@ -86,7 +86,7 @@ fn write<S: Alter>(
     requires { conn.old.in_transaction ≡ false }
     ensures ends { HasCleanDisk (state S.Store conn.new)
         → (IsTrue (state S.Store conn.old).is_open
-        → (state S.Store conn.old).now.schema ≡ older_schema version)
+        → HasOlder version (state S.Store conn.old).now.schema)
         → IfOk result (λ found. Ends version (state S.Store conn.old) (state S.Store conn.new)
         (report_of found)) }
     ensures sound { IfOk result (λ found. InOlderHistory version (λ w h.
@@ -101,6 +101,7 @@ fn write<S: Alter>(
     ensures mode { conn.new.in_transaction ≡ false }
 {
     let _settled = conn.is_autocommit();
+    let _live = conn.schema();
     let mut tx = conn.transaction();
     let found = prepare(alloc, &mut tx, version)?;
     match found {
@@ -166,13 +167,13 @@ fn outcome(
 /// version and what a store keeps beside the migrated rows.
 ///
 /// One transaction declares the missing tables and records the new version and, for version 1,
-/// profile 1 for each document. The database is refused as `NotADesk` if no table `meta` has a
-/// column `version`, or if that gives version 1 or 2 and the tables of this version don't exist as
-/// they are declared; as `BadVersion` if it gives another version; as `Unsound` with `BadMeta` if
-/// it doesn't give a single version; and as `Unsound` if the migrated tables wouldn't be sound,
-/// with the first condition that they don't meet. After a refusal the database is as it was. After
-/// a fault it shows what it showed, although a stop may leave the migrated tables. After `Ok` a
-/// stop leaves the migrated tables and no others.
+/// profile 1 for each document. The database may have other tables, indexes and views. It is
+/// refused as `NotADesk` if no table `meta` has a column `version`, or if that gives version 1 or 2
+/// and a table of this version isn't there as it is declared; as `BadVersion` if it gives another
+/// version; as `Unsound` with `BadMeta` if it doesn't give a single version; and as `Unsound` if
+/// the migrated tables wouldn't be sound, with the first condition that they don't meet. After a
+/// refusal the database is as it was. After a fault it shows what it showed, although a stop may
+/// leave the migrated tables. After `Ok` a stop leaves the migrated tables and no others.
 pub fn migrate_tables<S: Alter>(
     alloc: Global,
     conn: &mut Connection<S>,

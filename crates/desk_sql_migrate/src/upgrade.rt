@@ -3,7 +3,7 @@
 ghost use Rattle.std.specs.Prelude.{◌≡◌};
 ghost use Rattle.sqlite.specs.Held.{state};
 ghost use Rattle.desk_sql_layout.specs.Layout.{desk_schema};
-ghost use Rattle.desk_sql_adopt.specs.Older.{older_schema};
+ghost use Rattle.desk_sql_adopt.specs.Older.{older_tables};
 ghost use Rattle.desk_sql_migrate.specs.Steps.{Gains, Upgrades, with_no_readings, with_no_waivers, with_readings, with_version, without_version};
 
 use desk_model::Fault;
@@ -14,7 +14,7 @@ use sqlite::{Alter, Transaction};
 /// Declares the table of profiles besides the tables of version 1.
 fn declare_readings<S: Alter>(tx: &mut Transaction<'_, S>) -> Result<(), Fault>
     ensures same_reference { tx.new.conn.ghost_name ≡ tx.old.conn.ghost_name }
-    ensures gained { Gains (older_schema OlderVersion.One) (older_schema OlderVersion.Two)
+    ensures gained { Gains (older_tables OlderVersion.One) (older_tables OlderVersion.Two)
         with_no_readings
         (state S.Store tx.old.conn.now) (state S.Store tx.new.conn.now) result }
 {
@@ -24,7 +24,7 @@ fn declare_readings<S: Alter>(tx: &mut Transaction<'_, S>) -> Result<(), Fault>
 /// Declares the table of last days besides the tables of version 2.
 fn declare_waivers<S: Alter>(tx: &mut Transaction<'_, S>) -> Result<(), Fault>
     ensures same_reference { tx.new.conn.ghost_name ≡ tx.old.conn.ghost_name }
-    ensures gained { Gains (older_schema OlderVersion.Two) desk_schema with_no_waivers
+    ensures gained { Gains (older_tables OlderVersion.Two) desk_schema.tables with_no_waivers
         (state S.Store tx.old.conn.now) (state S.Store tx.new.conn.now) result }
 {
     execute(tx, WAIVER_TABLE, &[])
@@ -33,7 +33,7 @@ fn declare_waivers<S: Alter>(tx: &mut Transaction<'_, S>) -> Result<(), Fault>
 /// Records profile 1 for each document.
 fn note_readings<S: Alter>(tx: &mut Transaction<'_, S>) -> Result<(), Fault>
     ensures same_reference { tx.new.conn.ghost_name ≡ tx.old.conn.ghost_name }
-    ensures gained { Gains desk_schema desk_schema with_readings
+    ensures gained { Gains desk_schema.tables desk_schema.tables with_readings
         (state S.Store tx.old.conn.now) (state S.Store tx.new.conn.now) result }
 {
     execute(
@@ -46,7 +46,7 @@ fn note_readings<S: Alter>(tx: &mut Transaction<'_, S>) -> Result<(), Fault>
 /// Removes the version.
 fn drop_version<S: Alter>(tx: &mut Transaction<'_, S>) -> Result<(), Fault>
     ensures same_reference { tx.new.conn.ghost_name ≡ tx.old.conn.ghost_name }
-    ensures gained { Gains desk_schema desk_schema without_version
+    ensures gained { Gains desk_schema.tables desk_schema.tables without_version
         (state S.Store tx.old.conn.now) (state S.Store tx.new.conn.now) result }
 {
     execute(tx, "DELETE FROM meta", &[])
@@ -55,7 +55,7 @@ fn drop_version<S: Alter>(tx: &mut Transaction<'_, S>) -> Result<(), Fault>
 /// Records version 3.
 fn note_version<S: Alter>(tx: &mut Transaction<'_, S>) -> Result<(), Fault>
     ensures same_reference { tx.new.conn.ghost_name ≡ tx.old.conn.ghost_name }
-    ensures gained { Gains desk_schema desk_schema with_version
+    ensures gained { Gains desk_schema.tables desk_schema.tables with_version
         (state S.Store tx.old.conn.now) (state S.Store tx.new.conn.now) result }
 {
     execute(tx, "INSERT INTO meta VALUES (3)", &[])
@@ -64,7 +64,8 @@ fn note_version<S: Alter>(tx: &mut Transaction<'_, S>) -> Result<(), Fault>
 /// Replaces the version by 3.
 fn renew_version<S: Alter>(tx: &mut Transaction<'_, S>) -> Result<(), Fault>
     ensures same_reference { tx.new.conn.ghost_name ≡ tx.old.conn.ghost_name }
-    ensures gained { Gains desk_schema desk_schema (λ rows. with_version (without_version rows))
+    ensures gained { Gains desk_schema.tables desk_schema.tables
+        (λ rows. with_version (without_version rows))
         (state S.Store tx.old.conn.now) (state S.Store tx.new.conn.now) result }
 {
     drop_version(tx)?;
@@ -84,7 +85,7 @@ fn upgrade_second<S: Alter>(tx: &mut Transaction<'_, S>) -> Result<(), Fault>
 /// Declares the tables that version 1 lacks.
 fn declare_both<S: Alter>(tx: &mut Transaction<'_, S>) -> Result<(), Fault>
     ensures same_reference { tx.new.conn.ghost_name ≡ tx.old.conn.ghost_name }
-    ensures gained { Gains (older_schema OlderVersion.One) desk_schema
+    ensures gained { Gains (older_tables OlderVersion.One) desk_schema.tables
         (λ rows. with_no_waivers (with_no_readings rows))
         (state S.Store tx.old.conn.now) (state S.Store tx.new.conn.now) result }
 {
@@ -95,7 +96,7 @@ fn declare_both<S: Alter>(tx: &mut Transaction<'_, S>) -> Result<(), Fault>
 /// Writes the rows that version 1 lacks.
 fn note_both<S: Alter>(tx: &mut Transaction<'_, S>) -> Result<(), Fault>
     ensures same_reference { tx.new.conn.ghost_name ≡ tx.old.conn.ghost_name }
-    ensures gained { Gains desk_schema desk_schema
+    ensures gained { Gains desk_schema.tables desk_schema.tables
         (λ rows. with_version (without_version (with_readings rows)))
         (state S.Store tx.old.conn.now) (state S.Store tx.new.conn.now) result }
 {

@@ -9,7 +9,6 @@ use Rattle.sqlite_value.proofs.OrderLemmas.{value_cmp-Int, value_cmp-Text, then-
 use Rattle.sqlite_sql.specs.Term.{col}
 use Rattle.sqlite_resolve.specs.Compile.{first, returning}
 use Rattle.sqlite_tied.specs.Compute.{everything}
-use Rattle.sqlite.specs.Listing.{understood}
 use Rattle.desk_history.specs.Laws.{AreSortedAsListed, revision_below}
 use Rattle.desk_snapshot.specs.Tables.{catalogue_stored, rule_stored}
 use Rattle.desk_sql_layout.proofs.Selects.{order_by}
@@ -28,10 +27,13 @@ abbrev pub meta_text : List ℕ
 meta_text = codes "SELECT version FROM meta ORDER BY version"
 
 meta_is : IsBareSelect meta_text 0 0 [] (col 1 0 ∷ []) (order_by (0 ∷ [])) (codes "version" ∷ [])
-unfolding first returning understood everything
+unfolding first returning everything
 meta_is = record {
   bare = λ schema base. refl;
-  select = record { is = (refl, refl); plain = (refl, refl); suits = (refl, refl) };
+  select = record {
+    from = λ at not_null. (refl, refl, refl);
+    is = λ at not_null. record { is = refl; plain = (refl, refl); suits = (refl, refl) };
+  };
 }
 
 pub meta_read : {S : Type 0} (g : Ghosts S)
@@ -52,10 +54,13 @@ catalogue_text = codes "SELECT revision, body FROM catalogue ORDER BY revision"
 
 catalogue_is : IsBareSelect catalogue_text 0 1 [] (col 1 0 ∷ col 1 2 ∷ []) (order_by (0 ∷ []))
     (codes "revision" ∷ codes "body" ∷ [])
-unfolding first returning understood everything
+unfolding first returning everything
 catalogue_is = record {
   bare = λ schema base. refl;
-  select = record { is = (refl, refl); plain = (refl, refl); suits = (refl, refl) };
+  select = record {
+    from = λ at not_null. (refl, refl, refl);
+    is = λ at not_null. record { is = refl; plain = (refl, refl); suits = (refl, refl) };
+  };
 }
 
 pub catalogue_read : {S : Type 0} (g : Ghosts S)
@@ -80,10 +85,13 @@ rule_text = codes
 rule_is : IsBareSelect rule_text 0 2 [] (col 1 1 ∷ col 1 2 ∷ col 1 3 ∷ col 1 4 ∷ col 1 5 ∷ [])
     (sorted_by (1 ∷ 2 ∷ 3 ∷ [])) (codes "revision" ∷ codes "term" ∷ codes "form" ∷ codes "spelled"
     ∷ codes "codes" ∷ [])
-unfolding first returning understood everything
+unfolding first returning everything
 rule_is = record {
   bare = λ schema base. refl;
-  select = record { is = (refl, refl); plain = (refl, refl); suits = (refl, refl) };
+  select = record {
+    from = λ at not_null. (refl, refl, refl);
+    is = λ at not_null. record { is = refl; plain = (refl, refl); suits = (refl, refl) };
+  };
 }
 
 pub rule_read : {S : Type 0} (g : Ghosts S)

@@ -9,7 +9,6 @@ use Rattle.sqlite_value.proofs.OrderLemmas.{value_cmp-Int, value_cmp-Text, then-
 use Rattle.sqlite_sql.specs.Term.{col}
 use Rattle.sqlite_resolve.specs.Compile.{first, returning}
 use Rattle.sqlite_tied.specs.Compute.{everything}
-use Rattle.sqlite.specs.Listing.{understood}
 use Rattle.desk_history.specs.Laws.{AreSortedAsListed, document_below}
 use Rattle.desk_snapshot.specs.Orders.{reading_order, package_order}
 use Rattle.desk_snapshot.specs.Tables.{document_stored, reading_stored, package_stored, extracted_stored}
@@ -31,10 +30,13 @@ document_text = codes "SELECT number, namespace, bytes FROM document ORDER BY nu
 
 document_is : IsBareSelect document_text 0 4 [] (col 1 0 ∷ col 1 2 ∷ col 1 3 ∷ [])
     (order_by (0 ∷ [])) (codes "number" ∷ codes "namespace" ∷ codes "bytes" ∷ [])
-unfolding first returning understood everything
+unfolding first returning everything
 document_is = record {
   bare = λ schema base. refl;
-  select = record { is = (refl, refl); plain = (refl, refl); suits = (refl, refl) };
+  select = record {
+    from = λ at not_null. (refl, refl, refl);
+    is = λ at not_null. record { is = refl; plain = (refl, refl); suits = (refl, refl) };
+  };
 }
 
 pub document_read : {S : Type 0} (g : Ghosts S)
@@ -60,10 +62,13 @@ reading_text = codes "SELECT document, profile FROM reading ORDER BY document"
 
 reading_is : IsBareSelect reading_text 0 27 [] (col 1 0 ∷ col 1 2 ∷ []) (order_by (0 ∷ []))
     (codes "document" ∷ codes "profile" ∷ [])
-unfolding first returning understood everything
+unfolding first returning everything
 reading_is = record {
   bare = λ schema base. refl;
-  select = record { is = (refl, refl); plain = (refl, refl); suits = (refl, refl) };
+  select = record {
+    from = λ at not_null. (refl, refl, refl);
+    is = λ at not_null. record { is = refl; plain = (refl, refl); suits = (refl, refl) };
+  };
 }
 
 pub reading_read : {S : Type 0} (g : Ghosts S)
@@ -89,10 +94,13 @@ package_is : IsBareSelect package_text 0 6 []
     (col 1 1 ∷ col 1 2 ∷ col 1 3 ∷ col 1 4 ∷ col 1 5 ∷ col 1 6 ∷ col 1 7 ∷ [])
     (sorted_by (1 ∷ 2 ∷ [])) (codes "document" ∷ codes "id" ∷ codes "name" ∷ codes "version"
     ∷ codes "concluded" ∷ codes "copyright" ∷ codes "shipped" ∷ [])
-unfolding first returning understood everything
+unfolding first returning everything
 package_is = record {
   bare = λ schema base. refl;
-  select = record { is = (refl, refl); plain = (refl, refl); suits = (refl, refl) };
+  select = record {
+    from = λ at not_null. (refl, refl, refl);
+    is = λ at not_null. record { is = refl; plain = (refl, refl); suits = (refl, refl) };
+  };
 }
 
 pub package_read : {S : Type 0} (g : Ghosts S)
@@ -133,10 +141,13 @@ extracted_text = codes
 
 extracted_is : IsBareSelect extracted_text 0 8 [] (col 1 1 ∷ col 1 2 ∷ col 1 3 ∷ [])
     (sorted_by (1 ∷ 2 ∷ [])) (codes "document" ∷ codes "reference" ∷ codes "body" ∷ [])
-unfolding first returning understood everything
+unfolding first returning everything
 extracted_is = record {
   bare = λ schema base. refl;
-  select = record { is = (refl, refl); plain = (refl, refl); suits = (refl, refl) };
+  select = record {
+    from = λ at not_null. (refl, refl, refl);
+    is = λ at not_null. record { is = refl; plain = (refl, refl); suits = (refl, refl) };
+  };
 }
 
 pub extracted_read : {S : Type 0} (g : Ghosts S)

@@ -9,7 +9,6 @@ use Rattle.sqlite_trees.proofs.ListLemmas.{ascending-filter}
 use Rattle.sqlite_sql.specs.Term.{col}
 use Rattle.sqlite_resolve.specs.Compile.{first, returning}
 use Rattle.sqlite_tied.specs.Compute.{everything}
-use Rattle.sqlite.specs.Listing.{understood}
 use Rattle.desk_history.specs.Laws.{duty_below}
 use Rattle.desk_snapshot.specs.Orders.{change_order, waiver_order}
 use Rattle.desk_snapshot.specs.Tables.{duty_stored, change_stored, waiver_stored}
@@ -35,10 +34,13 @@ duty_is : IsBareSelect duty_text 0 23 []
     (col 1 0 ∷ col 1 2 ∷ col 1 3 ∷ col 1 4 ∷ col 1 5 ∷ col 1 6 ∷ col 1 7 ∷ col 1 8 ∷ [])
     (order_by (0 ∷ [])) (codes "number" ∷ codes "release" ∷ codes "document" ∷ codes "package"
     ∷ codes "term" ∷ codes "code" ∷ codes "rule" ∷ codes "state" ∷ [])
-unfolding first returning understood everything
+unfolding first returning everything
 duty_is = record {
   bare = λ schema base. refl;
-  select = record { is = (refl, refl); plain = (refl, refl); suits = (refl, refl) };
+  select = record {
+    from = λ at not_null. (refl, refl, refl);
+    is = λ at not_null. record { is = refl; plain = (refl, refl); suits = (refl, refl) };
+  };
 }
 
 pub duty_read : {S : Type 0} (g : Ghosts S)
@@ -69,10 +71,13 @@ change_text = codes "SELECT duty, step, day, word, body FROM change ORDER BY +du
 change_is : IsBareSelect change_text 0 25 [] (col 1 1 ∷ col 1 2 ∷ col 1 3 ∷ col 1 4 ∷ col 1 5 ∷ [])
     (sorted_by (1 ∷ 2 ∷ [])) (codes "duty" ∷ codes "step" ∷ codes "day" ∷ codes "word"
     ∷ codes "body" ∷ [])
-unfolding first returning understood everything
+unfolding first returning everything
 change_is = record {
   bare = λ schema base. refl;
-  select = record { is = (refl, refl); plain = (refl, refl); suits = (refl, refl) };
+  select = record {
+    from = λ at not_null. (refl, refl, refl);
+    is = λ at not_null. record { is = refl; plain = (refl, refl); suits = (refl, refl) };
+  };
 }
 
 pub change_read : {S : Type 0} (g : Ghosts S)
@@ -102,10 +107,13 @@ waiver_text = codes "SELECT duty, step, last_day FROM waiver ORDER BY +duty, ste
 
 waiver_is : IsBareSelect waiver_text 0 28 [] (col 1 1 ∷ col 1 2 ∷ col 1 3 ∷ [])
     (sorted_by (1 ∷ 2 ∷ [])) (codes "duty" ∷ codes "step" ∷ codes "last_day" ∷ [])
-unfolding first returning understood everything
+unfolding first returning everything
 waiver_is = record {
   bare = λ schema base. refl;
-  select = record { is = (refl, refl); plain = (refl, refl); suits = (refl, refl) };
+  select = record {
+    from = λ at not_null. (refl, refl, refl);
+    is = λ at not_null. record { is = refl; plain = (refl, refl); suits = (refl, refl) };
+  };
 }
 
 pub waiver_read : {S : Type 0} (g : Ghosts S)

@@ -7,7 +7,8 @@ use Rattle.sqlite_trees.specs.Tree.{IsTable, rowid}
 use Rattle.sqlite_trees.specs.View.{is_int}
 use Rattle.sqlite_schema.specs.declared.schema.Table.{Table}
 use Rattle.sqlite.specs.Effect.{Database, IsDatabase}
-use Rattle.desk_sql_layout.specs.Held.{HasRows}
+use Rattle.desk_sql_layout.specs.Desk.{HasDesk}
+use Rattle.desk_sql_layout.specs.Held.{HasRows, labelled}
 use Rattle.desk_sql_layout.specs.Layout as d
 use Rattle.desk_sql_layout.specs.Stored.{cells, AreStored}
 use Rattle.desk_snapshot.specs.declared.snapshot.Snapshot.{Snapshot}
@@ -18,8 +19,8 @@ it_is : (table : Table) (rows stored : List Row)
     → IsPermutation rows (map (cells table) stored) → AreStored table rows stored
 it_is table rows stored stand shown = record { rising = stand.0; keyed = stand.1; same = shown }
 
-pub has_rows : (s : Snapshot) (db : Database) → db.schema ≡ d.desk_schema → IsDatabase db
-    → AreTables d.desk_schema db.trees → IsSnapshot s db → HasRows (stored_rows s) db
+pub has_rows : (s : Snapshot) (db : Database) → HasDesk db.schema → IsDatabase db
+    → AreTables d.desk_schema (labelled db) → IsSnapshot s db → HasRows (stored_rows s) db
 has_rows s db declared sound (meta, (catalogue, (rule, (document, (packages, (extracted, (conclusion, (adoption, (releases, (attached, (choice, (frozen, (duty, (changes, (reading, (waiver, end)))))))))))))))) it = record {
   declared = declared;
   sound = sound;

@@ -8,7 +8,6 @@ use Rattle.sqlite_value.proofs.OrderLemmas.{value_cmp-Int, value_cmp-Text, then-
 use Rattle.sqlite_sql.specs.Term.{col}
 use Rattle.sqlite_resolve.specs.Compile.{first, returning}
 use Rattle.sqlite_tied.specs.Compute.{everything}
-use Rattle.sqlite.specs.Listing.{understood}
 use Rattle.desk_snapshot.specs.Orders.{conclusion_order}
 use Rattle.desk_snapshot.specs.Tables.{conclusion_stored, adoption_stored}
 use Rattle.desk_sql_scan.specs.Cells.{stored_conclusion_cells, stored_adoption_cells}
@@ -28,10 +27,13 @@ conclusion_text = codes
 
 conclusion_is : IsBareSelect conclusion_text 0 10 [] (col 1 1 ∷ col 1 2 ∷ col 1 3 ∷ [])
     (sorted_by (1 ∷ 2 ∷ [])) (codes "document" ∷ codes "package" ∷ codes "expression" ∷ [])
-unfolding first returning understood everything
+unfolding first returning everything
 conclusion_is = record {
   bare = λ schema base. refl;
-  select = record { is = (refl, refl); plain = (refl, refl); suits = (refl, refl) };
+  select = record {
+    from = λ at not_null. (refl, refl, refl);
+    is = λ at not_null. record { is = refl; plain = (refl, refl); suits = (refl, refl) };
+  };
 }
 
 pub conclusion_read : {S : Type 0} (g : Ghosts S)
@@ -61,10 +63,13 @@ adoption_text = codes
 
 adoption_is : IsBareSelect adoption_text 0 12 [] (col 1 1 ∷ col 1 2 ∷ col 1 3 ∷ [])
     (sorted_by (1 ∷ 2 ∷ [])) (codes "document" ∷ codes "reference" ∷ codes "licence" ∷ [])
-unfolding first returning understood everything
+unfolding first returning everything
 adoption_is = record {
   bare = λ schema base. refl;
-  select = record { is = (refl, refl); plain = (refl, refl); suits = (refl, refl) };
+  select = record {
+    from = λ at not_null. (refl, refl, refl);
+    is = λ at not_null. record { is = refl; plain = (refl, refl); suits = (refl, refl) };
+  };
 }
 
 pub adoption_read : {S : Type 0} (g : Ghosts S)

@@ -12,13 +12,16 @@ use Rattle.sqlite_sql.specs.Term.{Term}
 use Rattle.sqlite_sql.specs.Query.{key_cmp, output}
 use Rattle.sqlite_typing.specs.Types.{accepts_program}
 use Rattle.sqlite_schema.specs.declared.schema.Table.{Table}
+use Rattle.sqlite_rules.specs.Lists.{Has}
+use Rattle.sqlite_rules.proofs.ListLemmas.{has_got}
 use Rattle.sqlite.specs.Effect.{Database, Reads}
 use Rattle.sqlite.specs.Listing.{understood}
 use Rattle.sqlite.proofs.Callers.{command_of}
 use Rattle.desk_model.specs.Tables.{Tables}
 use Rattle.desk_model.specs.declared.command.Fault.{Fault}
 use Rattle.desk_sql_layout.specs.Layout.{desk_schema}
-use Rattle.desk_sql_layout.specs.Held.{AreOrderly, HasRows, Holds, rows_of}
+use Rattle.desk_sql_layout.specs.Desk.{HasDesk}
+use Rattle.desk_sql_layout.specs.Held.{AreOrderly, HasRows, Holds, labelled, rows_of}
 use Rattle.desk_sql_layout.specs.Stored.{cells}
 use Rattle.desk_sql_layout.proofs.Queries.{query_on, env}
 use Rattle.desk_sql_layout.specs.Causes.{AreWritten, IsRow}
@@ -54,6 +57,9 @@ module _ {S : Type 0} (g : Ghosts S) (table : Table) (place : ℕ)
   abbrev this : Table
   this = as_declared table
 
+  there : Has desk_schema.tables this
+  there = has_got desk_schema.tables place this listed
+
   -- those that are held are in order
   abbrev pub Rise : Tables → Type 0
   Rise t = IsAscending (λ a b. is_lt (order (stored_of b) (stored_of a)) ≡ false) (xs t)
@@ -65,7 +71,7 @@ module _ {S : Type 0} (g : Ghosts S) (table : Table) (place : ℕ)
 
   same : (t : Tables) (db : Database) → Holds t db
       → IsPermutation (map (λ x. cells_of (stored_of x)) (xs t))
-      (map (cells this) (db.trees table.tree))
+      (map (cells this) (labelled db table.tree))
   same t db holds = (mine table.name table.tree table.columns table.key table.primary table.uniques
       table.orders place listed (λ x. cells_of (stored_of x)) (rows_of t) (xs t) (here t) db
       holds.rows).same
@@ -81,41 +87,41 @@ module _ {S : Type 0} (g : Ghosts S) (table : Table) (place : ℕ)
       (agrees : (a b : A) → key_cmp 0 (keys ps) (picked at (cells_of a)) (picked at (cells_of b))
       ≡ order a b)
       (apart : (t : Tables) (db : Database) → HasRows (rows_of t) db
-      → AreApart ps (db.trees table.tree)) where
+      → AreApart ps (labelled db table.tree)) where
     by_order : (a b : A) → key_cmp 0 (map (λ (k : Term × Key). k.1) by) (picked at (cells_of a))
         (picked at (cells_of b)) ≡ order a b
     by_order a b = subst (λ k. key_cmp 0 k (picked at (cells_of a)) (picked at (cells_of b))
         ≡ order a b) (sym keyed) (agrees a b)
 
-    module _ (db : Database) (shown : List Row)
-        (reads : Reads (command_of (understood desk_schema text)) db [] shown) where
+    module _ (db : Database) (desk : HasDesk db.schema) (shown : List Row)
+        (reads : Reads (command_of (understood db.schema text)) db [] shown) where
       raw : (rows : List A) → map (columns_of width) shown ≡ map cells_of rows
           → IsScan this cells_of order rows db
-      raw rows are = scanned table text names project ps by keyed (picked at) width it.select.is.0
-          acts wide db shown reads cells_of order by_order rows are
+      raw rows are = scanned table text names project ps by keyed (picked at) width there it.select
+          acts wide db desk shown reads cells_of order by_order rows are
 
       held : (rows : List A) → map (columns_of width) shown ≡ map cells_of rows → (t : Tables)
           → Holds t db → Rise t → rows ≡ map stored_of (xs t)
       held rows are t holds rise =
-          is_held table text names project ps by keyed (picked at) width it.select.is.0 acts wide db
-          shown reads cells_of order by_order rows are
+          is_held table text names project ps by keyed (picked at) width there it.select acts wide
+          db desk shown reads cells_of order by_order rows are
           (apart t db holds.rows) picks stored_of (xs t) (same t db holds) rise back inverse
 
       written : (t : Tables) → Holds t db → AreWritten t → AllByRecursion (AreCells cells_of) shown
       written t holds are =
-          all_written table text names project ps by keyed (picked at) width it.select.is.0 acts
-          wide db shown reads cells_of stored_of (xs t)
+          all_written table text names project ps by keyed (picked at) width there it.select acts
+          wide db desk shown reads cells_of stored_of (xs t)
           (same t db holds) (subst (AllByRecursion IsRow) (here t) (are.cells table.tree))
 
     table_read : (Is : List A → Tables → Type 0) → Tells Is
         → TellsRows g text width this cells_of order Is
     table_read Is tells old new r lists =
-        scan_told text (select_asks it) (select_asked it.select [] refl accepts)
-        (it.select.plain, it.select.is.1) width cells_of g old new r lists
+        scan_told text (select_asks it)
+        (select_asked it.select this there refl [] refl accepts) width cells_of g old new r lists
         (IsScan this cells_of order) Is
-        (λ rows db shown reads are. raw db shown reads rows are)
-        (λ rows db shown reads are t holds. tells rows t holds.orderly
-        (held db shown reads rows are t holds)) written
+        (λ rows db desk shown reads are. raw db desk shown reads rows are)
+        (λ rows db desk shown reads are t holds. tells rows t holds.orderly
+        (held db desk shown reads rows are t holds)) written
 
   -- by its rowid
   pub read_by_rowid : {text : List ℕ} {project : List Term} {names : List (List ℕ)}

@@ -9,7 +9,6 @@ use Rattle.sqlite_value.proofs.OrderLemmas.{value_cmp-Int, value_cmp-Text, then-
 use Rattle.sqlite_sql.specs.Term.{col}
 use Rattle.sqlite_resolve.specs.Compile.{first, returning}
 use Rattle.sqlite_tied.specs.Compute.{everything}
-use Rattle.sqlite.specs.Listing.{understood}
 use Rattle.desk_snapshot.specs.Orders.{release_order, attached_order, choice_order, frozen_order}
 use Rattle.desk_snapshot.specs.Tables.{release_stored, attached_stored, choice_stored, frozen_stored}
 use Rattle.desk_sql_scan.specs.Cells.{stored_release_cells, stored_attached_cells}
@@ -29,10 +28,13 @@ release_text = codes "SELECT name, place, form, state, revision FROM releases OR
 release_is : IsBareSelect release_text 0 14 []
     (col 1 1 ∷ col 1 2 ∷ col 1 3 ∷ col 1 4 ∷ col 1 5 ∷ []) (sorted_by (1 ∷ []))
     (codes "name" ∷ codes "place" ∷ codes "form" ∷ codes "state" ∷ codes "revision" ∷ [])
-unfolding first returning understood everything
+unfolding first returning everything
 release_is = record {
   bare = λ schema base. refl;
-  select = record { is = (refl, refl); plain = (refl, refl); suits = (refl, refl) };
+  select = record {
+    from = λ at not_null. (refl, refl, refl);
+    is = λ at not_null. record { is = refl; plain = (refl, refl); suits = (refl, refl) };
+  };
 }
 
 pub release_read : {S : Type 0} (g : Ghosts S)
@@ -59,10 +61,13 @@ attached_text = codes "SELECT release, document FROM attached ORDER BY +release,
 
 attached_is : IsBareSelect attached_text 0 17 [] (col 1 1 ∷ col 1 2 ∷ []) (sorted_by (1 ∷ 2 ∷ []))
     (codes "release" ∷ codes "document" ∷ [])
-unfolding first returning understood everything
+unfolding first returning everything
 attached_is = record {
   bare = λ schema base. refl;
-  select = record { is = (refl, refl); plain = (refl, refl); suits = (refl, refl) };
+  select = record {
+    from = λ at not_null. (refl, refl, refl);
+    is = λ at not_null. record { is = refl; plain = (refl, refl); suits = (refl, refl) };
+  };
 }
 
 pub attached_read : {S : Type 0} (g : Ghosts S)
@@ -89,10 +94,13 @@ choice_text = codes
 choice_is : IsBareSelect choice_text 0 19 [] (col 1 1 ∷ col 1 2 ∷ col 1 3 ∷ col 1 4 ∷ [])
     (sorted_by (1 ∷ 2 ∷ 3 ∷ 4 ∷ []))
     (codes "release" ∷ codes "document" ∷ codes "package" ∷ codes "term" ∷ [])
-unfolding first returning understood everything
+unfolding first returning everything
 choice_is = record {
   bare = λ schema base. refl;
-  select = record { is = (refl, refl); plain = (refl, refl); suits = (refl, refl) };
+  select = record {
+    from = λ at not_null. (refl, refl, refl);
+    is = λ at not_null. record { is = refl; plain = (refl, refl); suits = (refl, refl) };
+  };
 }
 
 pub choice_read : {S : Type 0} (g : Ghosts S)
@@ -125,10 +133,13 @@ frozen_text = codes
 frozen_is : IsBareSelect frozen_text 0 21 [] (col 1 1 ∷ col 1 2 ∷ col 1 3 ∷ col 1 4 ∷ col 1 5 ∷ [])
     (sorted_by (1 ∷ 2 ∷ 3 ∷ 4 ∷ []))
     (codes "release" ∷ codes "document" ∷ codes "package" ∷ codes "term" ∷ codes "rule" ∷ [])
-unfolding first returning understood everything
+unfolding first returning everything
 frozen_is = record {
   bare = λ schema base. refl;
-  select = record { is = (refl, refl); plain = (refl, refl); suits = (refl, refl) };
+  select = record {
+    from = λ at not_null. (refl, refl, refl);
+    is = λ at not_null. record { is = refl; plain = (refl, refl); suits = (refl, refl) };
+  };
 }
 
 pub frozen_read : {S : Type 0} (g : Ghosts S)

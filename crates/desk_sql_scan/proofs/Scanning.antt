@@ -23,20 +23,24 @@ use Rattle.sqlite_sql.specs.Query.{Query, Output, output, output_cmp, key_cmp}
 use Rattle.sqlite_sql.proofs.QueryLemmas.{output_cmp_total}
 use Rattle.sqlite_schema.specs.declared.schema.Table.{Table}
 use Rattle.sqlite_schema.specs.declared.command.Command.TheVariants.{Select}
+use Rattle.sqlite_rules.specs.Lists.{Has}
 use Rattle.sqlite_rules.proofs.ListLemmas.{all_from, all_has}
 use Rattle.sqlite_rules.proofs.ProbeLemmas.{has_mapped}
 use Rattle.sqlite.specs.Effect.{Database, Reads}
 use Rattle.sqlite.specs.Listing.{understood}
 use Rattle.sqlite.proofs.Callers.{command_of}
+use Rattle.desk_sql_layout.specs.Desk.{HasDesk}
+use Rattle.desk_sql_layout.specs.Held.{labelled}
 use Rattle.desk_sql_layout.specs.Layout.{desk_schema}
 use Rattle.desk_sql_layout.specs.Stored.{cells}
+use Rattle.desk_sql_layout.proofs.Declared.{entry, tree_is}
 use Rattle.desk_sql_layout.proofs.Edits.{has_permuted}
 use Rattle.desk_sql_layout.proofs.Orders.{from_sorted}
 use Rattle.desk_sql_layout.proofs.Queries.{query_on, env, selected, Selected}
 use Rattle.desk_sql_layout.proofs.Selects.{order_by, AreApart}
 use Rattle.desk_sql_layout.proofs.Ties.{keys, picked, sorted_from}
 use Rattle.desk_sql_layout.specs.Causes.{IsRow}
-use Rattle.desk_sql_layout.proofs.Selecting.{as_declared}
+use Rattle.desk_sql_layout.proofs.Selecting.{IsSelect, as_declared, command_here}
 use Rattle.desk_sql_scan.specs.Causes.{AreCells}
 use Rattle.desk_sql_scan.specs.Cells.{columns_of}
 use Rattle.desk_sql_scan.specs.Scans.{IsScan}
@@ -68,12 +72,15 @@ module _ (table : Table) where
   module _ (sql : List ℕ) (names : List (List ℕ)) (project : List Term) (ps : List ℕ)
       (by : List (Term × Key)) (keyed : map (λ (k : Term × Key). k.1) by ≡ keys ps)
       (pick : Row → Row) (width : ℕ)
-      (is : command_of (understood desk_schema sql)
-      ≡ Select (record { lets = []; body = query_on table.tree [] project by }) names)
+      (there : Has desk_schema.tables this) (it : IsSelect sql 0 table.tree [] project by names)
       (acts : (r : Row) → output (query_on table.tree [] project by) (env [] r)
       ≡ (pick (cells this r), cells this r))
       (wide : (r : Row) → columns_of width (cells this r) ≡ cells this r) (db : Database)
-      (shown : List Row) (reads : Reads (command_of (understood desk_schema sql)) db [] shown) where
+      (desk : HasDesk db.schema) (shown : List Row)
+      (reads : Reads (command_of (understood db.schema sql)) db [] shown) where
+    abbrev stored : List Row
+    stored = labelled db table.tree
+
     abbrev asked : Query
     asked = query_on table.tree [] project by
 
@@ -87,15 +94,28 @@ module _ (table : Table) where
     abbrev by_key : Row → Row → Ordering
     by_key a b = output_cmp asked (of_cells a) (of_cells b)
 
-    answer : Selected asked [] (db.trees table.tree) shown
-    answer =
-        let it : Reads (Select (record { lets = []; body = asked }) names) db [] shown =
-        subst (λ c. Reads c db [] shown) is reads in
-        selected table.tree [] project by db.trees [] shown (it.answer Null)
+    -- the tree of the table in this schema
+    abbrev real : ℕ
+    real = (entry db.schema desk this there).tree
 
-    outs_are : IsPermutation (map out (db.trees table.tree)) answer.ordered
+    answer : Selected asked [] stored shown
+    answer =
+        let read : Reads (Select (record { lets = []; body = query_on real [] project by }) names)
+        db [] shown = subst (λ c. Reads c db [] shown)
+        (command_here it this there refl db.schema desk) reads in
+        let found = selected real [] project by db.trees [] shown (read.answer Null) in
+        let at_real : Selected asked [] (db.trees real) shown = record {
+          ordered = found.ordered;
+          same = found.same;
+          sorted = found.sorted;
+          shown = found.shown;
+        } in
+        subst (λ l. Selected asked [] l shown)
+        (sym (ap db.trees (tree_is db.schema desk this there))) at_real
+
+    outs_are : IsPermutation (map out stored) answer.ordered
     outs_are = subst (λ l. IsPermutation (map out l) answer.ordered)
-        (filter_all (λ (r : Row). true) (db.trees table.tree) (each (db.trees table.tree)))
+        (filter_all (λ (r : Row). true) stored (each stored))
         answer.same
 
     -- the rows, each cut to its columns, which are all that it has
@@ -109,21 +129,20 @@ module _ (table : Table) where
         acts r in ap f e ∙ ap of_cells (wide r) ∙ sym e in
         let all : AllByRecursion (λ o. f o ≡ o) answer.ordered =
         all_from (λ o. f o ≡ o) answer.ordered (λ o there.
-        let x = has_mapped out (db.trees table.tree) o
-        (has_permuted (map out (db.trees table.tree)) answer.ordered o outs_are there) in
+        let x = has_mapped out stored o
+        (has_permuted (map out stored) answer.ordered o outs_are there) in
         subst (λ o. f o ≡ o) (sym x.2) (one x.0)) in
         ap (λ l. map of_cells (map (columns_of width) l)) answer.shown
         ∙ ap (map of_cells) (map-map (columns_of width) (λ (o : Output). o.1) answer.ordered)
         ∙ map-map of_cells (λ (o : Output). columns_of width o.1) answer.ordered
         ∙ fixed f answer.ordered all
 
-    pub rows_are : IsPermutation rows (map (cells this) (db.trees table.tree))
+    pub rows_are : IsPermutation rows (map (cells this) stored)
     rows_are =
         let second = λ (o : Output). o.1 in
-        let left : map second (map out (db.trees table.tree)) ≡ map (cells this) (db.trees
-        table.tree) = map-map second out (db.trees table.tree)
+        let left : map second (map out stored) ≡ map (cells this) stored = map-map second out stored
         ∙ map_same (λ r. second (out r)) (cells this) (λ r. ap second (acts r))
-        (db.trees table.tree) in
+        stored in
         let right : map second answer.ordered ≡ rows = sym (ap (map second) ordered_are)
         ∙ map-map second of_cells rows
         ∙ fixed (λ r. r) rows (all_from (λ r. r ≡ r) rows (λ r there. refl)) in
@@ -138,24 +157,23 @@ module _ (table : Table) where
         (subst (IsAscending (λ a b. is_lt (output_cmp asked b a) ≡ false)) (sym ordered_are) up)
 
     -- what is shown is in the table
-    shown_are : IsPermutation (map (cells this) (db.trees table.tree)) shown
+    shown_are : IsPermutation (map (cells this) stored) shown
     shown_are =
         let second = λ (o : Output). o.1 in
-        let left : map second (map out (db.trees table.tree)) ≡ map (cells this) (db.trees
-        table.tree) = map-map second out (db.trees table.tree)
+        let left : map second (map out stored) ≡ map (cells this) stored = map-map second out stored
         ∙ map_same (λ r. second (out r)) (cells this) (λ r. ap second (acts r))
-        (db.trees table.tree) in
+        stored in
         subst₂ (λ a b. IsPermutation a b) left (sym answer.shown)
         (IsPermutation-map second _ _ outs_are)
 
     -- it can be read, if the rows that are held are as a desk writes them
     pub all_written : {A X : Type 0} (cells_of : A → Row) (stored_of : X → A) (xs : List X)
         → IsPermutation (map (λ x. cells_of (stored_of x)) xs)
-        (map (cells this) (db.trees table.tree))
+        (map (cells this) stored)
         → AllByRecursion IsRow (map (λ x. cells_of (stored_of x)) xs)
         → AllByRecursion (AreCells cells_of) shown
     all_written {A} {X} cells_of stored_of xs same written =
-        let base = map (cells this) (db.trees table.tree) in
+        let base = map (cells this) stored in
         let f = λ (x : X). cells_of (stored_of x) in
         all_from (AreCells cells_of) shown (λ row there.
         let held = has_permuted (map f xs) base row same
@@ -168,7 +186,7 @@ module _ (table : Table) where
         (are : rows ≡ map cells_of found) where
       pub scanned : IsScan this cells_of order found db
       scanned = record {
-        shown = subst (λ l. IsPermutation l (map (cells this) (db.trees table.tree))) are rows_are;
+        shown = subst (λ l. IsPermutation l (map (cells this) stored)) are rows_are;
         ordered =
             let up = ascending_from_map (λ a b. is_lt (by_key b a) ≡ false) cells_of found
             (subst (IsAscending (λ a b. is_lt (by_key b a) ≡ false)) are rows_rise) in
@@ -177,20 +195,20 @@ module _ (table : Table) where
       }
 
       -- they are the rows that are held, if these are in order
-      module _ (apart : AreApart ps (db.trees table.tree))
+      module _ (apart : AreApart ps stored)
           (picks : (r : Row) → pick (cells this r) ≡ picked ps r) {X : Type 0} (stored_of : X → A)
           (xs : List X)
           (same : IsPermutation (map (λ x. cells_of (stored_of x)) xs)
-          (map (cells this) (db.trees table.tree)))
+          (map (cells this) stored))
           (sorted : IsAscending (λ a b. is_lt (order (stored_of b) (stored_of a)) ≡ false) xs)
           (back : Row → A) (inverse : (a : A) → back (cells_of a) ≡ a) where
         no_ties : IsAscending (λ a b. is_eq (by_key a b) ≡ false)
-            (map (cells this) (db.trees table.tree))
+            (map (cells this) stored)
         no_ties =
-            ascending-map (λ a b. is_eq (by_key a b) ≡ false) (cells this) (db.trees table.tree)
+            ascending-map (λ a b. is_eq (by_key a b) ≡ false) (cells this) stored
             (ascending_weaker (λ a b. is_eq (key_cmp 0 (keys ps) (picked ps a) (picked ps b))
             ≡ false) (λ a b. is_eq (by_key (cells this a) (cells this b)) ≡ false)
-            (λ a b h. rw (keyed, picks a, picks b) h) (db.trees table.tree) apart)
+            (λ a b h. rw (keyed, picks a, picks b) h) stored apart)
 
         abbrev wanted : List Row
         wanted = map (λ x. cells_of (stored_of x)) xs
@@ -207,7 +225,7 @@ module _ (table : Table) where
 
         pub is_held : found ≡ map stored_of xs
         is_held =
-            let base = map (cells this) (db.trees table.tree) in
+            let base = map (cells this) stored in
             let mine = sorted_is-sort_by by_key total base rows no_ties
             (IsPermutation-sym _ _ rows_are) (sorted_from by_key rows rows_rise) in
             let theirs = sorted_is-sort_by by_key total base wanted no_ties

@@ -1,18 +1,19 @@
 -- What a query for all rows of a table shows, of the database and of the tables that it holds.
-use Rattle.std.proofs.Common.{◌≡◌, ℕ, List, [], map, false, refl, sym, ap, subst, ◌∙◌, Ok, Err, Result, IfOk}
+use Rattle.std.proofs.Common.{◌≡◌, ℕ, List, [], map, refl, sym, subst, Ok, Err, Result, IfOk}
 use Rattle.std.specs.List.{AllByRecursion}
 use Rattle.std.proofs.lemmas.Result.{IfErr-weaker}
 use Rattle.sqlite_value.specs.Order.{Row}
 use Rattle.sqlite.specs.Effect.{Database, Reads}
-use Rattle.sqlite.specs.Listing.{understood, reads_listing}
+use Rattle.sqlite.specs.Listing.{understood}
 use Rattle.sqlite.specs.State.{State, HasCleanDisk, Shown}
-use Rattle.sqlite.proofs.Callers.{IsPlain, command_of, reads_as, unchanged_then}
+use Rattle.sqlite.proofs.Callers.{command_of, reads_as, unchanged_then}
 use Rattle.sqlite.proofs.StateLemmas.{survives_then}
 use Rattle.desk_sql_layout.specs.Held.{Holds}
-use Rattle.desk_sql_layout.specs.Layout.{desk_schema}
+use Rattle.desk_sql_layout.specs.Desk.{HasDesk}
 use Rattle.desk_model.specs.Tables.{Tables}
 use Rattle.desk_model.specs.declared.command.Fault.{Fault}
 use Rattle.desk_sql_layout.specs.Causes.{AreWritten, IsAsked}
+use Rattle.desk_sql_layout.proofs.Causes.{plain_text}
 use Rattle.desk_sql_layout.proofs.Clean.{clean_before}
 use Rattle.desk_sql_adopt.specs.Reading.{Asks}
 use Rattle.desk_sql_scan.specs.Asked.{HasAsked}
@@ -22,18 +23,24 @@ use Rattle.desk_sql_scan.specs.Scanning.{Lists, Scans}
 use Rattle.desk_sql_scan.specs.declared.source.Source.{Ghosts}
 use Rattle.desk_sql_scan.specs.Scans.{IsRead, IsShown}
 
-module _ (text : List ℕ) (asks : Asks text)
-    (known : IsPlain (understood desk_schema text)
-    × (reads_listing desk_schema text ≡ false)) {A : Type 0} (width : ℕ) (cells_of : A → Row)
-    (old new : State) where
+module _ (text : List ℕ) (asks : Asks text) (asked : IsAsked text []) {A : Type 0} (width : ℕ)
+    (cells_of : A → Row) (old new : State) where
+  -- in whatever schema that has the desk's tables
+  pub shown_reads : HasDesk old.now.schema → (rows : List Row) → Shown text [] old new rows
+      → Reads (command_of (understood old.now.schema text)) old.now [] rows
+  shown_reads desk = reads_as text [] old new old.now.schema refl
+      (command_of (understood old.now.schema text)) refl
+      ((plain_text asked).within old.now.schema desk)
+      (asked.within old.now.schema desk).unlisted
+
   pub told : (r : Result (List A) Fault) → HasAsked old new r
       → (HasCleanDisk new → IfOk r (λ rows. IsShown text width cells_of rows old new))
       → (Raw : List A → Database → Type 0) (Is : List A → Tables → Type 0)
-      → ((rows : List A) (db : Database) (shown : List Row)
-      → Reads (command_of (understood desk_schema text)) db [] shown
+      → ((rows : List A) (db : Database) → HasDesk db.schema → (shown : List Row)
+      → Reads (command_of (understood db.schema text)) db [] shown
       → map (columns_of width) shown ≡ map cells_of rows → Raw rows db)
-      → ((rows : List A) (db : Database) (shown : List Row)
-      → Reads (command_of (understood desk_schema text)) db [] shown
+      → ((rows : List A) (db : Database) → HasDesk db.schema → (shown : List Row)
+      → Reads (command_of (understood db.schema text)) db [] shown
       → map (columns_of width) shown ≡ map cells_of rows
       → (t : Tables) → Holds t db → Is rows t)
       → IfOk r (λ rows. IsRead (Raw rows) (Is rows) old new)
@@ -41,22 +48,16 @@ module _ (text : List ℕ) (asks : Asks text)
   told (Ok rows) stayed it Raw Is raw found = record {
     survives = stayed.0;
     same = stayed.1;
-    raw = λ clean has. let o = it clean in raw rows old.now o.0 (reads has clean) o.2;
+    raw = λ clean desk. let o = it clean in
+        raw rows old.now desk o.0 (shown_reads desk o.0 o.1) o.2;
     found = λ clean t holds. let o = it clean in
-        found rows old.now o.0 (reads holds.rows.declared clean) o.2 t holds;
+        found rows old.now holds.rows.declared o.0 (shown_reads holds.rows.declared o.0 o.1) o.2
+        t holds;
   }
-    where
-      reads : old.now.schema ≡ desk_schema → (clean : HasCleanDisk new)
-          → Reads (command_of (understood desk_schema text)) old.now [] (it clean).0
-      reads has clean = let o = it clean in
-          reads_as text [] old new desk_schema has (command_of (understood desk_schema text)) refl
-          known.0 known.1 o.0 o.1
 
 -- the outcome when a query's rows are read
-module _ (text : List ℕ) (asks : Asks text) (asked : IsAsked text [])
-    (known : IsPlain (understood desk_schema text)
-    × (reads_listing desk_schema text ≡ false)) {A : Type 0} (width : ℕ) (cells_of : A → Row)
-    {S : Type 0} (g : Ghosts S) (old new : S) (r : Result (List A) Fault)
+module _ (text : List ℕ) (asks : Asks text) (asked : IsAsked text []) {A : Type 0} (width : ℕ)
+    (cells_of : A → Row) {S : Type 0} (g : Ghosts S) (old new : S) (r : Result (List A) Fault)
     (it : Lists g text width cells_of old new r) where
   abbrev before : State
   before = g.shows old
@@ -66,18 +67,18 @@ module _ (text : List ℕ) (asks : Asks text) (asked : IsAsked text [])
       → AllByRecursion (AreCells cells_of) rows
 
   pub scan_told : (Raw : List A → Database → Type 0) (Is : List A → Tables → Type 0)
-      → ((rows : List A) (db : Database) (shown : List Row)
-      → Reads (command_of (understood desk_schema text)) db [] shown
+      → ((rows : List A) (db : Database) → HasDesk db.schema → (shown : List Row)
+      → Reads (command_of (understood db.schema text)) db [] shown
       → map (columns_of width) shown ≡ map cells_of rows → Raw rows db)
-      → ((rows : List A) (db : Database) (shown : List Row)
-      → Reads (command_of (understood desk_schema text)) db [] shown
+      → ((rows : List A) (db : Database) → HasDesk db.schema → (shown : List Row)
+      → Reads (command_of (understood db.schema text)) db [] shown
       → map (columns_of width) shown ≡ map cells_of rows
       → (t : Tables) → Holds t db → Is rows t)
-      → ((db : Database) (shown : List Row)
-      → Reads (command_of (understood desk_schema text)) db [] shown → (t : Tables) → Holds t db
+      → ((db : Database) → HasDesk db.schema → (shown : List Row)
+      → Reads (command_of (understood db.schema text)) db [] shown → (t : Tables) → Holds t db
       → AreWritten t → AllByRecursion (AreCells cells_of) shown) → Scans g old new r Raw Is
   scan_told Raw Is raw found all = record {
-    ok = told text asks known width cells_of before (g.shows new) r (it.asked asks) it.shown Raw Is
+    ok = told text asks asked width cells_of before (g.shows new) r (it.asked asks) it.shown Raw Is
         raw found;
     asked = it.asked asks;
     ready = it.ready;
@@ -86,10 +87,8 @@ module _ (text : List ℕ) (asks : Asks text) (asked : IsAsked text [])
         (ScanFailsFor before (g.shows new)) (λ fault has. record {
           cause = λ clean opened unlimited t holds written any.
               has.cause clean opened unlimited t holds written (λ rows shown.
-              all before.now rows (reads_as text [] before (g.shows new) desk_schema
-              holds.rows.declared
-              (command_of (understood desk_schema text)) refl known.0 known.1 rows shown) t holds
-              written);
+              all before.now holds.rows.declared rows (shown_reads text asks asked width cells_of
+              before (g.shows new) holds.rows.declared rows shown) t holds written);
         }) (it.cause asks asked);
   }
 
@@ -106,7 +105,7 @@ then_read R S P Q a b c one two =
       same = λ clean. unchanged_then a b c (one.same (before clean)) (two.same clean);
       raw = λ clean has. (
         one.raw (before clean) has,
-        subst S (now clean) (two.raw clean (ap (λ (db : Database). db.schema) (now clean) ∙ has)),
+        subst S (now clean) (two.raw clean (subst (λ (db : Database). HasDesk db.schema) (sym (now clean)) has)),
       );
       found = λ clean t holds. (
         one.found (before clean) t holds,

@@ -22,5 +22,6 @@ pub record ScanFailsIf (Given : Type 0) (old new : State) (fault : Fault) : Type
       → Holds t old.now → AreWritten t → Given
       → (fault ≡ Memory) ⊎ ((fault ≡ Store DatabaseFault) × MoreFaults old.faults new.faults)
 
+-- the same if its caller says nothing more
 abbrev pub ScanFailsFor : State → State → Fault → Type 0
 ScanFailsFor = ScanFailsIf (Unit {0})

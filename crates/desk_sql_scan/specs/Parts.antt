@@ -43,6 +43,7 @@ HasCatalogues part db =
     × (IsScan catalogue_table stored_catalogue_cells catalogue_order part.catalogue db
     × (IsScan rule_table stored_rule_cells rule_order part.rule db))
 
+-- what this part has of tables: version 3, the revisions, and the rules if they are listed sorted
 abbrev pub OfCatalogues : CataloguePart → Tables → Type 0
 OfCatalogues part t = (part.meta ≡ record { version = pos 3 } ∷ [])
     × ((part.catalogue ≡ map catalogue_stored t.catalogue)
@@ -56,6 +57,7 @@ HasDocuments part db =
     × (IsScan package_table stored_package_cells package_order part.packages db
     × (IsScan extracted_table stored_extracted_cells extracted_order part.extracted db)))
 
+-- what this part has of tables, and the extracted licences if they are listed sorted
 abbrev pub OfDocuments : DocumentPart → Tables → Type 0
 OfDocuments part t = (part.document ≡ map document_stored t.document)
     × ((part.reading ≡ map reading_stored t.document)
@@ -68,6 +70,7 @@ HasOffice part db =
     IsScan conclusion_table stored_conclusion_cells conclusion_order part.conclusion db
     × (IsScan adoption_table stored_adoption_cells adoption_order part.adoption db)
 
+-- what this part has of tables, in their order
 abbrev pub OfOffice : OfficePart → Tables → Type 0
 OfOffice part t = (part.conclusion ≡ map conclusion_stored t.conclusion)
     × ((part.adoption ≡ map adoption_stored t.adoption))
@@ -80,6 +83,7 @@ HasReleases part db =
     × (IsScan choice_table stored_choice_cells choice_order part.choice db
     × (IsScan frozen_table stored_frozen_cells frozen_order part.frozen db)))
 
+-- what this part has of tables, in their order
 abbrev pub OfReleases : ReleasePart → Tables → Type 0
 OfReleases part t = (part.releases ≡ map release_stored t.releases)
     × ((part.attached ≡ map attached_stored t.attached)
@@ -92,6 +96,7 @@ HasDuties part db =
     × (IsScan duty_table stored_duty_cells duty_order part.duty db
     × (IsScan waiver_table stored_waiver_cells waiver_order part.waiver db))
 
+-- what this part has of tables; waivers are the changes that have a last day
 abbrev pub OfDuties : DutyPart → Tables → Type 0
 OfDuties part t = (part.changes ≡ map change_stored t.changes)
     × ((part.duty ≡ map duty_stored t.duty)

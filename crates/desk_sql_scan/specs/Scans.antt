@@ -11,8 +11,9 @@ use Rattle.sqlite_schema.specs.declared.schema.Table.{Table}
 use Rattle.sqlite_schema.specs.declared.schema.Schema.{Schema}
 use Rattle.sqlite.specs.Effect.{Database}
 use Rattle.sqlite.specs.State.{State, HasCleanDisk, IsUnchanged, Shown, Survives}
-use Rattle.desk_sql_layout.specs.Held.{Holds}
-use Rattle.desk_sql_layout.specs.Layout.{desk_schema, meta_table, catalogue_table, rule_table}
+use Rattle.desk_sql_layout.specs.Desk.{HasDesk}
+use Rattle.desk_sql_layout.specs.Held.{Holds, labelled}
+use Rattle.desk_sql_layout.specs.Layout.{meta_table, catalogue_table, rule_table}
 use Rattle.desk_sql_layout.specs.Layout.{document_table, package_table, extracted_table}
 use Rattle.desk_sql_layout.specs.Layout.{conclusion_table, adoption_table, releases_table}
 use Rattle.desk_sql_layout.specs.Layout.{attached_table, choice_table, frozen_table, duty_table}
@@ -41,7 +42,7 @@ IsInOrder order = IsAscending (λ a b. is_lt (order b a) ≡ false)
 -- These are all rows of a table, in the order of its key.
 pub record IsScan {A : Type 0} (table : Table) (cells_of : A → Row) (order : A → A → Ordering)
     (rows : List A) (db : Database) : Type 0 where
-  pub shown : IsPermutation (map cells_of rows) (map (cells table) (db.trees table.tree))
+  pub shown : IsPermutation (map cells_of rows) (map (cells table) (labelled db table.tree))
   pub ordered : IsInOrder order rows
 
 -- the database's tables have these rows, each in the order of its table's key
@@ -95,9 +96,9 @@ IsShown sql width cells_of rows old new = (shown : List Row) × Shown sql [] old
     × (map (columns_of width) shown ≡ map cells_of rows)
 
 -- What was read from a connection, which stays as it was: it is true of the database that the
--- connection shows, if that has a desk's schema, and of whatever tables the database holds.
+-- connection shows, if that has a desk's tables, and of whatever tables the database holds.
 pub record IsRead (Raw : Database → Type 0) (Is : Tables → Type 0) (old new : State) : Type 0 where
   pub survives : Survives old new (λ _. ⊥)
   pub same : HasCleanDisk new → IsUnchanged old new
-  pub raw : HasCleanDisk new → old.now.schema ≡ desk_schema → Raw old.now
+  pub raw : HasCleanDisk new → HasDesk old.now.schema → Raw old.now
   pub found : HasCleanDisk new → (t : Tables) → Holds t old.now → Is t

@@ -21,7 +21,7 @@ pub(crate) trait Source {
     /// Whether it may be asked.
     ghost is_ready: { Self → Type 0 };
 
-    /// What names it when it is lent.
+    /// What identifies it when it is lent.
     ghost Name: { Type 0 };
 
     ghost name: { Self → Name };

@@ -7,7 +7,7 @@ ghost use Rattle.desk_access.specs.Seen.{OfRows};
 ghost use Rattle.desk_sql_layout.specs.Causes.{HasCause};
 ghost use Rattle.desk_sql_adopt.specs.Reading.{HasRead};
 ghost use Rattle.desk_sql_layout.specs.Held.{seen_of};
-ghost use Rattle.desk_sql_layout.specs.Layout.{desk_schema};
+ghost use Rattle.desk_sql_layout.specs.Desk.{HasDesk};
 ghost use Rattle.desk_sql_scan.specs.Asked.{HasAsked};
 ghost use Rattle.desk_sql_scan.specs.Causes.{ScanFailsFor};
 ghost use Rattle.desk_sql_scan.specs.Parts.{AreRowsOf, HasCatalogues, HasDocuments, HasDuties, HasOffice, HasReleases, OfCatalogues, OfDocuments, OfDuties, OfOffice, OfReleases, joined_of};
@@ -26,8 +26,8 @@ use sqlite::{Alter, Connection, Transaction};
 use std::alloc::Global;
 
 /// The documents, whose bytes are the largest cells, and the duties with their changes, which are
-/// most of a desk's rows. All cells of a table are held until they are read, so these come first,
-/// while little else is held.
+/// most of a desk's rows. All cells of a table stay in memory until they are read, so these tables
+/// come first, while little else is in memory.
 #[derive(Drop)]
 struct FirstPart {
     documents: DocumentPart,
@@ -114,14 +114,14 @@ fn read_whole<R: Source>(alloc: Global, source: &mut R) -> Result<Snapshot, Faul
 
 /// Reads all rows of a desk's tables, each table in the order of its key.
 ///
-/// If the connection shows a database with a desk's schema, whatever its rows, the snapshot has
-/// them (`raw`); if it holds a desk's tables, the snapshot is theirs (`found`). The fault is that
+/// If the connection shows a database that has a desk's tables, whatever their rows, the snapshot
+/// has them (`raw`); if they are a desk's rows, the snapshot is theirs (`found`). The fault is that
 /// no memory was left, that the database failed, or that a cell has a value that its column never
 /// has in a desk.
 pub fn snapshot<S: Alter>(alloc: Global, conn: &mut Connection<S>) -> Result<Snapshot, Fault>
     requires { conn.old.in_transaction ≡ false }
     ensures raw { HasCleanDisk (state S.Store conn.new)
-        → (state S.Store conn.old).now.schema ≡ desk_schema
+        → HasDesk (state S.Store conn.old).now.schema
         → IfOk result (λ s. IsSnapshot s (state S.Store conn.old).now) }
     ensures found { IfOk result (λ s. OfRows (AreRowsOf s)
         (seen_of (state S.Store conn.old)) (seen_of (state S.Store conn.new))) }

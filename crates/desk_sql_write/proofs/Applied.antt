@@ -15,7 +15,8 @@ use Rattle.std.proofs.lemmas.List.{append-nil}
 use Rattle.std.proofs.lemmas.List.Elements.{filter-append}
 use Rattle.sqlite_value.specs.Order.{Row}
 use Rattle.std.proofs.lemmas.List.{map-append}
-use Rattle.sqlite_trees.proofs.ListLemmas.{all-permutation, IsPermutation-filter, IsPermutation-same}
+use Rattle.sqlite_trees.proofs.ListLemmas.{all-permutation, IsPermutation-filter}
+use Rattle.sqlite_trees.proofs.ListLemmas.{IsPermutation-same}
 use Rattle.sqlite_schema.specs.declared.schema.Table.{Table}
 use Rattle.sqlite.specs.Effect.{Database}
 use Rattle.sqlite.specs.State.{State}
@@ -53,11 +54,12 @@ use Rattle.desk_sql_layout.specs.Cells.{catalogue_cells, rule_cells, document_ce
 use Rattle.desk_sql_layout.specs.Cells.{package_cells, extracted_cells, duty_cells, release_cells}
 use Rattle.desk_sql_layout.specs.Cells.{attached_cells, choice_cells, frozen_cells, change_cells}
 use Rattle.desk_sql_layout.specs.Cells.{conclusion_cells, adoption_cells, waiver_cells}
-use Rattle.desk_sql_layout.specs.Held.{HasRows, rows_of}
+use Rattle.desk_sql_layout.specs.Held.{HasRows, labelled, rows_of}
 use Rattle.desk_sql_layout.proofs.Writes.{stored_as}
 use Rattle.desk_sql_write.specs.Replacing.{Taking, rows_before, rows_after}
 use Rattle.desk_sql_write.specs.Taking.{IsSmall, StandsOnce, CanStand, FailsOnlyAs, FailsOnlyFor}
-use Rattle.desk_sql_write.specs.Turning.{Adds, Turns, with_rows, with_steps, with_raised, with_document, with_parts}
+use Rattle.desk_sql_write.specs.Turning.{Adds, Turns, with_rows, with_steps, with_raised}
+use Rattle.desk_sql_write.specs.Turning.{with_document, with_parts}
 use Rattle.desk_sql_write.specs.Written.{Writes, WritesAs}
 use Rattle.desk_sql_write.proofs.Going.{along}
 use Rattle.desk_sql_write.proofs.Lists.{none_out}
@@ -77,11 +79,11 @@ permuted rows other db same has = record {
 }
   where
     each : (tables : List Table) → AllByRecursion (λ t. IsPermutation (rows t.tree) (other t.tree))
-        tables → AllByRecursion (λ t. AreStored t (other t.tree) (db.trees t.tree)) tables
-        → AllByRecursion (λ t. AreStored t (rows t.tree) (db.trees t.tree)) tables
+        tables → AllByRecursion (λ t. AreStored t (other t.tree) (labelled db t.tree)) tables
+        → AllByRecursion (λ t. AreStored t (rows t.tree) (labelled db t.tree)) tables
     each [] a b = tt
     each (t ∷ tables) a b = (
-      stored_as t (other t.tree) (rows t.tree) (db.trees t.tree) a.0 b.0,
+      stored_as t (other t.tree) (rows t.tree) (labelled db t.tree) a.0 b.0,
       each tables a.1 b.1,
     )
 

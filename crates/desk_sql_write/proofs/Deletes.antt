@@ -12,7 +12,6 @@ use Rattle.sqlite_sql.specs.Term.{Term, col}
 use Rattle.sqlite_schema.specs.declared.command.Command.TheVariants.{Delete}
 use Rattle.sqlite_typing.specs.Types.{accepts_program}
 use Rattle.sqlite_tied.specs.Compute.{everything}
-use Rattle.sqlite.specs.Listing.{understood}
 use Rattle.desk_model.specs.Keys.{is_choice_of, is_choice_in, is_conclusion, is_adoption}
 use Rattle.desk_model.specs.Tables.{Tables, is_other_choice, is_choice_elsewhere}
 use Rattle.desk_sql_layout.specs.Layout as d
@@ -22,11 +21,12 @@ use Rattle.desk_sql_layout.specs.Stored.{cells}
 use Rattle.desk_sql_layout.proofs.Casts.{same}
 use Rattle.desk_sql_layout.proofs.Queries.{query_on, passes}
 use Rattle.desk_sql_layout.proofs.Selecting.{as_declared}
+use Rattle.desk_sql_layout.proofs.Writing.{IsWrite}
 use Rattle.desk_sql_layout.proofs.Tests.{equals, last_text_test, number_then, text_then}
 use Rattle.desk_sql_layout.proofs.Views.{View, adoption_view, choice_view, conclusion_view}
 use Rattle.desk_sql_write.proofs.Behind.{not_other}
 use Rattle.desk_sql_write.proofs.Deleting.{deleted_turns}
-use Rattle.desk_sql_write.proofs.Failing.{Makes, Reads}
+use Rattle.desk_sql_write.proofs.Failing.{Makes}
 use Rattle.desk_base.proofs.Bools.{together}
 
 -- the first of these cells equals this parameter, the next one the next
@@ -36,10 +36,11 @@ tests_of param (at ∷ more) = same (at + 1) param ∷ tests_of (param + 1) more
 
 -- a text drops the rows of a table whose cells equal its parameters
 abbrev IsDrop : List ℕ → ℕ → ℕ → ℕ → List ℕ → Type 0
-IsDrop text count place tree columns = Reads text count (Delete place (record {
-  lets = [];
-  body = query_on tree (tests_of 0 columns) (col 1 0 ∷ []) [];
-}))
+IsDrop text count place tree columns = IsWrite text count tree
+    (λ at_place at. Delete at_place (record {
+      lets = [];
+      body = query_on at (tests_of 0 columns) (col 1 0 ∷ []) [];
+    }))
 
 module _ {X : Type 0} (view : View X) (goes : X → Bool) (made : Tables → Tables)
     (mine : (t : Tables) → view.held (made t) ≡ filter (λ x. not (goes x)) (view.held t))
@@ -79,8 +80,11 @@ abbrev drop_choices_text : List ℕ
 drop_choices_text = codes "DELETE FROM choice WHERE release = ?1 AND document = ?2 AND package = ?3"
 
 drop_choices_reads : IsDrop drop_choices_text 3 10 19 (0 ∷ 1 ∷ 2 ∷ [])
-unfolding understood everything
-drop_choices_reads = record { is = refl; plain = (refl, refl); fits = (refl, refl) }
+unfolding everything
+drop_choices_reads = record {
+  from = λ at not_null. (refl, refl, refl, refl);
+  is = λ place at not_null. record { is = refl; plain = (refl, refl); suits = (refl, refl) };
+}
 
 pub choices_dropped : (release : List ℕ) (document : ℕ) (package_id : List ℕ)
     → Makes drop_choices_text (Text release ∷ number document ∷ Text package_id ∷ [])
@@ -102,8 +106,11 @@ abbrev drop_choices_in_text : List ℕ
 drop_choices_in_text = codes "DELETE FROM choice WHERE release = ?1"
 
 drop_choices_in_reads : IsDrop drop_choices_in_text 1 10 19 (0 ∷ [])
-unfolding understood everything
-drop_choices_in_reads = record { is = refl; plain = (refl, refl); fits = (refl, refl) }
+unfolding everything
+drop_choices_in_reads = record {
+  from = λ at not_null. (refl, refl, refl, refl);
+  is = λ place at not_null. record { is = refl; plain = (refl, refl); suits = (refl, refl) };
+}
 
 pub choices_dropped_in : (release : List ℕ)
     → Makes drop_choices_in_text (Text release ∷ [])
@@ -121,8 +128,11 @@ abbrev drop_conclusion_text : List ℕ
 drop_conclusion_text = codes "DELETE FROM conclusion WHERE document = ?1 AND package = ?2"
 
 drop_conclusion_reads : IsDrop drop_conclusion_text 2 6 10 (0 ∷ 1 ∷ [])
-unfolding understood everything
-drop_conclusion_reads = record { is = refl; plain = (refl, refl); fits = (refl, refl) }
+unfolding everything
+drop_conclusion_reads = record {
+  from = λ at not_null. (refl, refl, refl, refl);
+  is = λ place at not_null. record { is = refl; plain = (refl, refl); suits = (refl, refl) };
+}
 
 pub conclusion_dropped : (document : ℕ) (package_id : List ℕ)
     → Makes drop_conclusion_text (number document ∷ Text package_id ∷ [])
@@ -145,8 +155,11 @@ abbrev drop_adoption_text : List ℕ
 drop_adoption_text = codes "DELETE FROM adoption WHERE document = ?1 AND reference = ?2"
 
 drop_adoption_reads : IsDrop drop_adoption_text 2 7 12 (0 ∷ 1 ∷ [])
-unfolding understood everything
-drop_adoption_reads = record { is = refl; plain = (refl, refl); fits = (refl, refl) }
+unfolding everything
+drop_adoption_reads = record {
+  from = λ at not_null. (refl, refl, refl, refl);
+  is = λ place at not_null. record { is = refl; plain = (refl, refl); suits = (refl, refl) };
+}
 
 pub adoption_dropped : (document : ℕ) (reference : List ℕ)
     → Makes drop_adoption_text (number document ∷ Text reference ∷ [])

@@ -1,7 +1,7 @@
 -- The tables of an empty desk.
 use Rattle.std.proofs.Common.{◌≡◌, ◌∙◌, ◌⊎◌, inl, inr, ℕ, pos, ◌≤◌, Bool, true, false, cond, filter}
 use Rattle.std.proofs.Common.{length, List, [], ◌∷◌, codes, None, IfErr, IsTrue, Ok, Err, Result}
-use Rattle.std.proofs.Common.{refl, sym, subst, arith}
+use Rattle.std.proofs.Common.{refl, sym, ap, subst, arith}
 use Rattle.std.specs.Prelude.{◌==◌}
 use Rattle.std.specs.List.{AllByRecursion}
 use Rattle.sqlite_value.specs.Keys.{plain}
@@ -21,7 +21,6 @@ use Rattle.sqlite.specs.declared.error.Error.{Error}
 use Rattle.sqlite.specs.Held.{Held, state}
 use Rattle.sqlite.specs.Steps.{FailsToCommit}
 use Rattle.desk_sql_layout.specs.Faults.{fault_by}
-use Rattle.sqlite.specs.Listing.{understood}
 use Rattle.sqlite.specs.Effect.{Database}
 use Rattle.sqlite.specs.State.{State, HasCleanDisk, Survives}
 use Rattle.sqlite.proofs.Callers.{survives_begin}
@@ -30,21 +29,25 @@ use Rattle.sqlite.proofs.StateLemmas.{survives_then}
 use Rattle.desk_model.specs.declared.command.Fault.{Fault}
 use Rattle.desk_sql_layout.specs.Layout as d
 use Rattle.desk_sql_layout.specs.Cells.{number, meta_cells}
-use Rattle.desk_sql_layout.specs.Held.{HasRows, AreOrderly, Stands, rows_of}
+use Rattle.desk_sql_layout.specs.Held.{HasRows, AreOrderly, Stands, rows_of, labelled}
+use Rattle.desk_sql_layout.specs.Desk.{tree_in}
+use Rattle.desk_sql_layout.proofs.Declared.{own_tree, rows_declared}
+use Rattle.desk_sql_layout.proofs.Writing.{IsWrite}
 use Rattle.desk_sql_layout.specs.Stored.{AreStored}
 use Rattle.desk_sql_layout.proofs.Casts.{cast_null, cast_int}
 use Rattle.desk_sql_layout.proofs.Clean.{clean_before}
 use Rattle.sqlite_schema.specs.declared.schema.Table.{Table}
 use Rattle.desk_sql_write.specs.Declaring.{IsBare, DeclareFails, Left, Went}
-use Rattle.desk_sql_write.specs.Taking.{IsCaused, StandsOnce, CanStand, LeavesRoom, HasRoom, RanInto, in_cells}
+use Rattle.desk_sql_write.specs.Taking.{IsCaused, StandsOnce, CanStand, LeavesRoom, HasRoom}
+use Rattle.desk_sql_write.specs.Taking.{RanInto, in_cells}
 use Rattle.desk_sql_write.specs.Turning.{with_rows}
 use Rattle.desk_sql_write.proofs.Causes.{first_caused, later_caused, ends_caused}
-use Rattle.desk_sql_write.proofs.Failing.{Reads}
 use Rattle.desk_sql_write.proofs.Inserting.{inserted_adds}
 use Rattle.desk_sql_write.proofs.Inserts.{AreAdded}
 use Rattle.desk_sql_write.proofs.Storable.{int_light, null_light}
 use Rattle.desk_sql_write.specs.Written.{Ran}
-use Rattle.desk_sql_write.specs.Creating.{no_tables, HasFounded, FoundFails, CreateFails, Founds, LeavesTables}
+use Rattle.desk_sql_write.specs.Creating.{no_tables, HasFounded, FoundFails, CreateFails, Founds}
+use Rattle.desk_sql_write.specs.Creating.{LeavesTables}
 use Rattle.desk_sql_write.proofs.Declared.{all_declared}
 use Rattle.desk_sql_write.proofs.Declarations.{declarations, all_are_declared, desk_schema_is}
 
@@ -56,9 +59,12 @@ version_text = codes "INSERT INTO meta VALUES (3)"
 abbrev version_terms : List Term
 version_terms = lit (Int (pos 3)) ∷ lit Null ∷ []
 
-version_reads : Reads version_text 0 (Insert 0 (Values version_terms 2))
-unfolding understood everything
-version_reads = record { is = refl; plain = (refl, refl); fits = (refl, refl) }
+version_reads : IsWrite version_text 0 0 (λ place at. Insert place (Values version_terms 2))
+unfolding everything
+version_reads = record {
+  from = λ at not_null. (refl, refl, refl, refl, tt);
+  is = λ place at not_null. record { is = refl; plain = (refl, refl); suits = (refl, refl) };
+}
 
 version_adds : AreAdded version_text [] 0 (meta_cells ∷ []) 1
 version_adds old new =
@@ -92,25 +98,43 @@ no_rows table (r ∷ rs) is = absurd (cc)
 bare_rows : (db : Database) → IsBare d.desk_schema db → HasRows nothing db
 bare_rows db bare =
     let e = bare.empty in
-    record {
-      declared = bare.declared;
-      stored = (
-        no_rows d.meta_table _ e.0,
+    rows_declared nothing db bare.declared (
+      no_rows d.meta_table _ e.0,
+      (
+        no_rows d.catalogue_table _ e.1.0,
         (
-          no_rows d.catalogue_table _ e.1.0,
+          no_rows d.rule_table _ e.1.1.0,
           (
-            no_rows d.rule_table _ e.1.1.0,
+            no_rows d.document_table _ e.1.1.1.0,
             (
-              no_rows d.document_table _ e.1.1.1.0,
+              no_rows d.package_table _ e.1.1.1.1.0,
               (
-                no_rows d.package_table _ e.1.1.1.1.0,
+                no_rows d.extracted_table _ e.1.1.1.1.1.0,
                 (
-                  no_rows d.extracted_table _ e.1.1.1.1.1.0,
+                  no_rows d.conclusion_table _ e.1.1.1.1.1.1.0,
                   (
-                    no_rows d.conclusion_table _ e.1.1.1.1.1.1.0,
+                    no_rows d.adoption_table _ e.1.1.1.1.1.1.1.0,
                     (
-                      no_rows d.adoption_table _ e.1.1.1.1.1.1.1.0,
-                      (no_rows d.releases_table _ e.1.1.1.1.1.1.1.1.0, (no_rows d.attached_table _ e.1.1.1.1.1.1.1.1.1.0, (no_rows d.choice_table _ e.1.1.1.1.1.1.1.1.1.1.0, (no_rows d.frozen_table _ e.1.1.1.1.1.1.1.1.1.1.1.0, (no_rows d.duty_table _ e.1.1.1.1.1.1.1.1.1.1.1.1.0, (no_rows d.change_table _ e.1.1.1.1.1.1.1.1.1.1.1.1.1.0, (no_rows d.reading_table _ e.1.1.1.1.1.1.1.1.1.1.1.1.1.1.0, (no_rows d.waiver_table _ e.1.1.1.1.1.1.1.1.1.1.1.1.1.1.1.0, tt)))))))),
+                      no_rows d.releases_table _ e.1.1.1.1.1.1.1.1.0,
+                      (
+                        no_rows d.attached_table _ e.1.1.1.1.1.1.1.1.1.0,
+                        (
+                          no_rows d.choice_table _ e.1.1.1.1.1.1.1.1.1.1.0,
+                          (
+                            no_rows d.frozen_table _ e.1.1.1.1.1.1.1.1.1.1.1.0,
+                            (
+                              no_rows d.duty_table _ e.1.1.1.1.1.1.1.1.1.1.1.1.0,
+                              (
+                                no_rows d.change_table _ e.1.1.1.1.1.1.1.1.1.1.1.1.1.0,
+                                (
+                                  no_rows d.reading_table _ e.1.1.1.1.1.1.1.1.1.1.1.1.1.1.0,
+                                  (no_rows d.waiver_table _ e.1.1.1.1.1.1.1.1.1.1.1.1.1.1.1.0, tt),
+                                ),
+                              ),
+                            ),
+                          ),
+                        ),
+                      ),
                     ),
                   ),
                 ),
@@ -118,9 +142,8 @@ bare_rows db bare =
             ),
           ),
         ),
-      );
-      sound = bare.sound;
-    }
+      ),
+    ) bare.sound
 
 version_added : (db : Database) → HasRows (with_rows 0 (meta_cells ∷ []) nothing) db
     → HasRows (rows_of no_tables) db
@@ -202,14 +225,16 @@ version_stands = record {
       each b keys,
     )
 
-bare_room : (db : Database) → IsBare d.desk_schema db → HasRoom 1 db.trees
+bare_room : (db : Database) → IsBare d.desk_schema db → HasRoom 1 (labelled db)
 bare_room db bare = record {
   few = omega arith;
   room = all_from (λ t. t.key ≡ None
-      → AllByRecursion (λ r. LeavesRoom 1 (rowid r)) (db.trees t.tree)) d.desk_schema.tables
+      → AllByRecursion (λ r. LeavesRoom 1 (rowid r)) (labelled db t.tree)) d.desk_schema.tables
       (λ t there none.
-      subst (AllByRecursion (λ r. LeavesRoom 1 (rowid r)))
-      (sym (all_has (λ t. db.trees t.tree ≡ []) d.desk_schema.tables t bare.empty there)) tt);
+      let empty : labelled db t.tree ≡ [] = ap (λ s. db.trees (tree_in s t.tree)) bare.declared
+      ∙ ap db.trees (own_tree t there)
+      ∙ all_has (λ t. db.trees t.tree ≡ []) d.desk_schema.tables t bare.empty there in
+      subst (AllByRecursion (λ r. LeavesRoom 1 (rowid r))) (sym empty) tt);
 }
 
 abbrev pub all_texts : List (List ℕ)

@@ -22,18 +22,11 @@ use Rattle.sqlite.proofs.Callers.{IsPlain, command_of, statement_of}
 use Rattle.desk_model.specs.Tables.{Tables}
 use Rattle.desk_model.specs.declared.command.Fault.{Fault}
 use Rattle.desk_sql_layout.specs.Faults.{fault_by}
-use Rattle.desk_sql_layout.specs.Held.{HasRows, rows_of}
-use Rattle.desk_sql_layout.specs.Layout.{desk_schema}
+use Rattle.desk_sql_layout.specs.Held.{HasRows, labelled, rows_of}
 use Rattle.desk_sql_write.specs.Declaring.{Fits}
 use Rattle.desk_sql_write.specs.Taking.{CanStand, HasRoom, IsCaused, RanInto}
 use Rattle.desk_sql_write.specs.Turning.{Turns}
 use Rattle.desk_sql_write.specs.Written.{Ran}
-
--- a text is this statement
-pub record Reads (sql : List ℕ) (count : ℕ) (command : Command) : Type 0 where
-  pub is : command_of (understood desk_schema sql) ≡ command
-  pub plain : IsPlain (understood desk_schema sql)
-  pub fits : Fits sql count (understood desk_schema sql)
 
 -- it shows rows, or begins or ends a transaction or a savepoint
 abbrev pub is_other : Command → Bool
@@ -149,9 +142,9 @@ pub turns_by : {A : Type 0} (before after : A → ℕ → List Row) (many : ℕ)
     → ((count : ℕ) (a : A) → Executes sql params old new (Ok count) → HasRows (before a) old.now
     → HasRows (after a) new.now)
     → ((count : ℕ) (a : A) → Executes sql params old new (Ok count) → HasRows (before a) old.now
-    → (n : ℕ) → HasRoom (n + many) old.now.trees → HasRoom n new.now.trees)
+    → (n : ℕ) → HasRoom (n + many) (labelled old.now) → HasRoom n (labelled new.now))
     → (IsTrue old.is_open → old.step_limit ≡ None → (a : A) → HasRows (before a) old.now
-    → CanStand (before a) → CanStand (after a) → HasRoom many old.now.trees → (e : Error)
+    → CanStand (before a) → CanStand (after a) → HasRoom many (labelled old.now) → (e : Error)
     → ExecutesInside 0 sql params old new (Err e) → IsCaused old new (fault_by e))
     → (r : Result (Unit {0}) Fault) → Ran sql params old new r
     → IfErr r (RanInto sql params old new) → Survives old new (λ _. ⊥)

@@ -13,9 +13,11 @@ use Rattle.sqlite.specs.State.{State, Survives}
 use Rattle.sqlite.proofs.InsideLemmas.{keeps_then}
 use Rattle.desk_model.specs.declared.command.Fault.{Fault}
 use Rattle.desk_model.specs.declared.command.Fault.TheVariants.{Memory}
+use Rattle.desk_sql_layout.specs.Held.{labelled}
 use Rattle.desk_sql_layout.specs.Layout.{desk_schema}
 use Rattle.desk_sql_layout.proofs.Clean.{clean_before}
-use Rattle.desk_sql_write.specs.Taking.{IsSmall, StandsOnce, CanStand, HasRoom, LeavesRoom, IsCaused, in_cells}
+use Rattle.desk_sql_write.specs.Taking.{IsSmall, StandsOnce, CanStand, HasRoom, LeavesRoom}
+use Rattle.desk_sql_write.specs.Taking.{IsCaused, in_cells}
 use Rattle.desk_sql_write.specs.Turning.{Turns}
 use Rattle.desk_sql_write.proofs.Inside.{survives_both}
 use Rattle.desk_sql_write.proofs.Lists.{count_both}
@@ -129,7 +131,7 @@ module _ {A : Type 0} where
     };
     cause = λ clean inside. record {
       is_open = λ is. is;
-      room = λ x has n room. room_less n 0 s.now.trees room;
+      room = λ x has n room. room_less n 0 (labelled s.now) room;
     };
     survives = none_survives s;
   }
@@ -150,7 +152,7 @@ module _ {A : Type 0} where
         record {
           is_open = it.is_open;
           room = λ x has n room. it.room x has n
-              (room_within (n + j) (n + l) a.now.trees (omega (arith, within)) room);
+              (room_within (n + j) (n + l) (labelled a.now) (omega (arith, within)) room);
         };
     survives = w.survives;
   }
@@ -159,7 +161,7 @@ module _ {A : Type 0} where
     cause = record {
       cause = λ clean inside opened unlimited x has before after room. w.cause.cause
           clean inside opened unlimited x has before after
-          (room_within j l a.now.trees within room);
+          (room_within j l (labelled a.now) within room);
     };
     survives = w.survives;
   }
@@ -224,7 +226,7 @@ module _ {A : Type 0} where
           room = λ x has n room.
               let turned : n + (j + k) ≡ (n + k) + j = omega arith in
               then.room x (first.change x has) n
-              (used.room x has (n + k) (subst (λ m. HasRoom m a.now.trees) turned room));
+              (used.room x has (n + k) (subst (λ m. HasRoom m (labelled a.now)) turned room));
         };
     survives = survives_both a b c v.survives w.survives;
   }
@@ -238,7 +240,7 @@ module _ {A : Type 0} where
           let first = v.wrote was inside in
           let used = v.cause was inside in
           let turned : j + k ≡ k + j = omega arith in
-          let left = used.room x has k (subst (λ m. HasRoom m a.now.trees) turned room) in
+          let left = used.room x has k (subst (λ m. HasRoom m (labelled a.now)) turned room) in
           elim (w.cause.cause clean first.inside (used.is_open opened)
           (v.survives.limit ∙ unlimited) x (first.change x has) (between x before after) after left) [
             | inl memory ↦ inl memory

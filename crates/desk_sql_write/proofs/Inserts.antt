@@ -24,7 +24,6 @@ use Rattle.sqlite_rules.specs.Edit.{id_in, next_rowid, with_rowid}
 use Rattle.sqlite_rules.proofs.TableLemmas.{int_is}
 use Rattle.sqlite_tied.specs.Compute.{everything}
 use Rattle.sqlite.specs.Effect.{value_rows}
-use Rattle.sqlite.specs.Listing.{understood}
 use Rattle.sqlite.specs.State.{State, Survives}
 use Rattle.desk_model.specs.declared.command.Fault.{Fault}
 use Rattle.desk_model.specs.declared.row.AdoptionRow.{AdoptionRow}
@@ -48,11 +47,11 @@ use Rattle.desk_sql_layout.specs.Cells.{extracted_cells, conclusion_cells, adopt
 use Rattle.desk_sql_layout.specs.Cells.{release_cells, attached_cells, choice_cells, frozen_cells}
 use Rattle.desk_sql_layout.specs.Cells.{duty_cells, change_cells, waiver_cells}
 use Rattle.desk_sql_layout.proofs.Selecting.{as_declared}
+use Rattle.desk_sql_layout.proofs.Writing.{IsWrite}
 use Rattle.desk_sql_layout.proofs.Casts.{cast_null, cast_int, cast_text}
 use Rattle.desk_sql_write.specs.Taking.{IsSmall, RanInto}
 use Rattle.desk_sql_write.specs.Turning.{Adds, with_rows}
 use Rattle.desk_sql_write.specs.Written.{Ran}
-use Rattle.desk_sql_write.proofs.Failing.{Reads}
 use Rattle.desk_sql_write.proofs.Inserting.{inserted_adds}
 use Rattle.desk_sql_write.proofs.Lists.{eight}
 use Rattle.desk_sql_write.proofs.Puts.{AreShown, IsFirst, IsNumber, Make, Suits, as_stored}
@@ -87,11 +86,13 @@ eight_terms key n = flat_map (λ at. terms_of key at n)
 -- a text inserts one row, or eight, of this table at this place, which has so many columns
 abbrev InsertsOne : List ℕ → Table → ℕ → ℕ → Type 0
 InsertsOne text this place width =
-    Reads text width (Insert place (Values (terms_of this.key 0 width) (width + 1)))
+    IsWrite text width this.tree
+    (λ at_place at. Insert at_place (Values (terms_of this.key 0 width) (width + 1)))
 
 abbrev InsertsEight : List ℕ → Table → ℕ → ℕ → ℕ → Type 0
 InsertsEight text this place width count =
-    Reads text count (Insert place (Values (eight_terms this.key width) (width + 1)))
+    IsWrite text count this.tree
+    (λ at_place at. Insert at_place (Values (eight_terms this.key width) (width + 1)))
 
 abbrev source_of : Option ℕ → Row → Row
 source_of None cells = Null ∷ cells
@@ -220,13 +221,15 @@ module _ {this : Table} {X : Type 0} {cells_of : X → Row} {place width : ℕ}
   shown_each (x ∷ rows) = (takes.shown x, shown_each rows)
 
   added : (text : List ℕ) (terms : List Term) (count : ℕ)
-      → Reads text count (Insert place (Values terms (width + 1))) → (rows : List X)
+      → IsWrite text count this.tree (λ at_place at. Insert at_place (Values terms (width + 1)))
+      → (rows : List X)
       → Gives this cells_of terms width count rows
       → AreAdded text (flat_map cells_of rows) this.tree (map cells_of rows) (length rows)
   added text terms count reads rows gives old new r ran into survives =
       let it = inserted_adds this.name this.tree this.columns this.key this.primary this.uniques
       this.orders place takes.listed text (flat_map cells_of rows) terms (width + 1)
-      (subst (λ n. Reads text n (Insert place (Values terms (width + 1)))) (sym gives.counted)
+      (subst (λ n. IsWrite text n this.tree
+      (λ at_place at. Insert at_place (Values terms (width + 1)))) (sym gives.counted)
       reads) gives.accepted (map (λ x. source_of this.key (cells_of x)) rows) (map cells_of rows)
       gives.given takes.reals takes.first (make_each rows) (shown_each rows)
       (λ trees. suit_each trees rows) old new r ran into survives in
@@ -256,8 +259,11 @@ abbrev pub add_revision_text : List ℕ
 add_revision_text = codes "INSERT INTO catalogue VALUES (?1, ?2)"
 
 add_revision_reads : InsertsOne add_revision_text d.catalogue_table 1 2
-unfolding understood everything
-add_revision_reads = record { is = refl; plain = (refl, refl); fits = (refl, refl) }
+unfolding everything
+add_revision_reads = record {
+  from = λ at not_null. (refl, refl, refl, refl, tt);
+  is = λ place at not_null. record { is = refl; plain = (refl, refl); suits = (refl, refl) };
+}
 
 revisions : Takes d.catalogue_table catalogue_cells 1 2
 revisions = search cast_null
@@ -271,8 +277,11 @@ abbrev pub add_rule_text : List ℕ
 add_rule_text = codes "INSERT INTO rule VALUES (?1, ?2, ?3, ?4, ?5)"
 
 add_rule_reads : InsertsOne add_rule_text d.rule_table 2 5
-unfolding understood everything
-add_rule_reads = record { is = refl; plain = (refl, refl); fits = (refl, refl) }
+unfolding everything
+add_rule_reads = record {
+  from = λ at not_null. (refl, refl, refl, refl, tt);
+  is = λ place at not_null. record { is = refl; plain = (refl, refl); suits = (refl, refl) };
+}
 
 rules : Takes d.rule_table rule_cells 2 5
 rules = search cast_int
@@ -286,8 +295,11 @@ abbrev pub add_document_text : List ℕ
 add_document_text = codes "INSERT INTO document VALUES (?1, ?2, ?3)"
 
 add_document_reads : InsertsOne add_document_text d.document_table 3 3
-unfolding understood everything
-add_document_reads = record { is = refl; plain = (refl, refl); fits = (refl, refl) }
+unfolding everything
+add_document_reads = record {
+  from = λ at not_null. (refl, refl, refl, refl, tt);
+  is = λ place at not_null. record { is = refl; plain = (refl, refl); suits = (refl, refl) };
+}
 
 documents : Takes d.document_table document_cells 3 3
 documents = search cast_null
@@ -301,8 +313,11 @@ abbrev pub add_reading_text : List ℕ
 add_reading_text = codes "INSERT INTO reading VALUES (?1, ?2)"
 
 add_reading_reads : InsertsOne add_reading_text d.reading_table 14 2
-unfolding understood everything
-add_reading_reads = record { is = refl; plain = (refl, refl); fits = (refl, refl) }
+unfolding everything
+add_reading_reads = record {
+  from = λ at not_null. (refl, refl, refl, refl, tt);
+  is = λ place at not_null. record { is = refl; plain = (refl, refl); suits = (refl, refl) };
+}
 
 readings : Takes d.reading_table reading_cells 14 2
 readings = search (cast_null, cast_int)
@@ -316,8 +331,11 @@ abbrev pub add_package_text : List ℕ
 add_package_text = codes "INSERT INTO package VALUES (?1, ?2, ?3, ?4, ?5, ?6, ?7)"
 
 add_package_reads : InsertsOne add_package_text d.package_table 4 7
-unfolding understood everything
-add_package_reads = record { is = refl; plain = (refl, refl); fits = (refl, refl) }
+unfolding everything
+add_package_reads = record {
+  from = λ at not_null. (refl, refl, refl, refl, tt);
+  is = λ place at not_null. record { is = refl; plain = (refl, refl); suits = (refl, refl) };
+}
 
 package_taken : (row : PackageRow) → IsTaken d.package_table 7 (package_cells row)
 package_taken row = go row.version row.concluded row.copyright
@@ -346,8 +364,11 @@ abbrev pub add_reference_text : List ℕ
 add_reference_text = codes "INSERT INTO extracted VALUES (?1, ?2, ?3)"
 
 add_reference_reads : InsertsOne add_reference_text d.extracted_table 5 3
-unfolding understood everything
-add_reference_reads = record { is = refl; plain = (refl, refl); fits = (refl, refl) }
+unfolding everything
+add_reference_reads = record {
+  from = λ at not_null. (refl, refl, refl, refl, tt);
+  is = λ place at not_null. record { is = refl; plain = (refl, refl); suits = (refl, refl) };
+}
 
 reference_taken : (row : ExtractedRow) → IsTaken d.extracted_table 3 (extracted_cells row)
 reference_taken row = go row.body
@@ -371,8 +392,11 @@ abbrev pub add_conclusion_text : List ℕ
 add_conclusion_text = codes "INSERT INTO conclusion VALUES (?1, ?2, ?3)"
 
 add_conclusion_reads : InsertsOne add_conclusion_text d.conclusion_table 6 3
-unfolding understood everything
-add_conclusion_reads = record { is = refl; plain = (refl, refl); fits = (refl, refl) }
+unfolding everything
+add_conclusion_reads = record {
+  from = λ at not_null. (refl, refl, refl, refl, tt);
+  is = λ place at not_null. record { is = refl; plain = (refl, refl); suits = (refl, refl) };
+}
 
 conclusions : Takes d.conclusion_table conclusion_cells 6 3
 conclusions = search cast_int
@@ -386,8 +410,11 @@ abbrev pub add_adoption_text : List ℕ
 add_adoption_text = codes "INSERT INTO adoption VALUES (?1, ?2, ?3)"
 
 add_adoption_reads : InsertsOne add_adoption_text d.adoption_table 7 3
-unfolding understood everything
-add_adoption_reads = record { is = refl; plain = (refl, refl); fits = (refl, refl) }
+unfolding everything
+add_adoption_reads = record {
+  from = λ at not_null. (refl, refl, refl, refl, tt);
+  is = λ place at not_null. record { is = refl; plain = (refl, refl); suits = (refl, refl) };
+}
 
 adoptions : Takes d.adoption_table adoption_cells 7 3
 adoptions = search cast_int
@@ -401,8 +428,11 @@ abbrev pub add_release_text : List ℕ
 add_release_text = codes "INSERT INTO releases VALUES (?1, ?2, ?3, ?4, ?5)"
 
 add_release_reads : InsertsOne add_release_text d.releases_table 8 5
-unfolding understood everything
-add_release_reads = record { is = refl; plain = (refl, refl); fits = (refl, refl) }
+unfolding everything
+add_release_reads = record {
+  from = λ at not_null. (refl, refl, refl, refl, tt);
+  is = λ place at not_null. record { is = refl; plain = (refl, refl); suits = (refl, refl) };
+}
 
 pub releases : Takes d.releases_table release_cells 8 5
 releases = search cast_int
@@ -416,8 +446,11 @@ abbrev pub add_attached_text : List ℕ
 add_attached_text = codes "INSERT INTO attached VALUES (?1, ?2)"
 
 add_attached_reads : InsertsOne add_attached_text d.attached_table 9 2
-unfolding understood everything
-add_attached_reads = record { is = refl; plain = (refl, refl); fits = (refl, refl) }
+unfolding everything
+add_attached_reads = record {
+  from = λ at not_null. (refl, refl, refl, refl, tt);
+  is = λ place at not_null. record { is = refl; plain = (refl, refl); suits = (refl, refl) };
+}
 
 attached : Takes d.attached_table attached_cells 9 2
 attached = search cast_int
@@ -431,8 +464,11 @@ abbrev pub add_choice_text : List ℕ
 add_choice_text = codes "INSERT INTO choice VALUES (?1, ?2, ?3, ?4)"
 
 add_choice_reads : InsertsOne add_choice_text d.choice_table 10 4
-unfolding understood everything
-add_choice_reads = record { is = refl; plain = (refl, refl); fits = (refl, refl) }
+unfolding everything
+add_choice_reads = record {
+  from = λ at not_null. (refl, refl, refl, refl, tt);
+  is = λ place at not_null. record { is = refl; plain = (refl, refl); suits = (refl, refl) };
+}
 
 choices : Takes d.choice_table choice_cells 10 4
 choices = search cast_int
@@ -446,8 +482,11 @@ abbrev pub add_frozen_text : List ℕ
 add_frozen_text = codes "INSERT INTO frozen VALUES (?1, ?2, ?3, ?4, ?5)"
 
 add_frozen_reads : InsertsOne add_frozen_text d.frozen_table 11 5
-unfolding understood everything
-add_frozen_reads = record { is = refl; plain = (refl, refl); fits = (refl, refl) }
+unfolding everything
+add_frozen_reads = record {
+  from = λ at not_null. (refl, refl, refl, refl, tt);
+  is = λ place at not_null. record { is = refl; plain = (refl, refl); suits = (refl, refl) };
+}
 
 frozen_terms : Takes d.frozen_table frozen_cells 11 5
 frozen_terms = search cast_int
@@ -462,8 +501,11 @@ add_eight_frozen_text = codes
     "INSERT INTO frozen VALUES (?, ?, ?, ?, ?), (?, ?, ?, ?, ?), (?, ?, ?, ?, ?), (?, ?, ?, ?, ?), (?, ?, ?, ?, ?), (?, ?, ?, ?, ?), (?, ?, ?, ?, ?), (?, ?, ?, ?, ?)"
 
 add_eight_frozen_reads : InsertsEight add_eight_frozen_text d.frozen_table 11 5 40
-unfolding understood everything
-add_eight_frozen_reads = record { is = refl; plain = (refl, refl); fits = (refl, refl) }
+unfolding everything
+add_eight_frozen_reads = record {
+  from = λ at not_null. (refl, refl, refl, refl, tt);
+  is = λ place at not_null. record { is = refl; plain = (refl, refl); suits = (refl, refl) };
+}
 
 pub frozen_terms_added : (rows : List FrozenRow) → length rows ≡ 8
     → AreAdded add_eight_frozen_text (flat_map frozen_cells rows) 21 (map frozen_cells rows)
@@ -477,8 +519,11 @@ abbrev pub add_duty_text : List ℕ
 add_duty_text = codes "INSERT INTO duty VALUES (?1, ?2, ?3, ?4, ?5, ?6, ?7, ?8)"
 
 add_duty_reads : InsertsOne add_duty_text d.duty_table 12 8
-unfolding understood everything
-add_duty_reads = record { is = refl; plain = (refl, refl); fits = (refl, refl) }
+unfolding everything
+add_duty_reads = record {
+  from = λ at not_null. (refl, refl, refl, refl, tt);
+  is = λ place at not_null. record { is = refl; plain = (refl, refl); suits = (refl, refl) };
+}
 
 pub duties : Takes d.duty_table duty_cells 12 8
 duties = search (cast_null, cast_int)
@@ -493,8 +538,11 @@ add_eight_duties_text = codes
     "INSERT INTO duty VALUES (?, ?, ?, ?, ?, ?, ?, ?), (?, ?, ?, ?, ?, ?, ?, ?), (?, ?, ?, ?, ?, ?, ?, ?), (?, ?, ?, ?, ?, ?, ?, ?), (?, ?, ?, ?, ?, ?, ?, ?), (?, ?, ?, ?, ?, ?, ?, ?), (?, ?, ?, ?, ?, ?, ?, ?), (?, ?, ?, ?, ?, ?, ?, ?)"
 
 add_eight_duties_reads : InsertsEight add_eight_duties_text d.duty_table 12 8 64
-unfolding understood everything
-add_eight_duties_reads = record { is = refl; plain = (refl, refl); fits = (refl, refl) }
+unfolding everything
+add_eight_duties_reads = record {
+  from = λ at not_null. (refl, refl, refl, refl, tt);
+  is = λ place at not_null. record { is = refl; plain = (refl, refl); suits = (refl, refl) };
+}
 
 pub duties_added : (rows : List DutyRow) → length rows ≡ 8
     → AreAdded add_eight_duties_text (flat_map duty_cells rows) 23 (map duty_cells rows)
@@ -508,8 +556,11 @@ abbrev pub add_change_text : List ℕ
 add_change_text = codes "INSERT INTO change VALUES (?1, ?2, ?3, ?4, ?5)"
 
 add_change_reads : InsertsOne add_change_text d.change_table 13 5
-unfolding understood everything
-add_change_reads = record { is = refl; plain = (refl, refl); fits = (refl, refl) }
+unfolding everything
+add_change_reads = record {
+  from = λ at not_null. (refl, refl, refl, refl, tt);
+  is = λ place at not_null. record { is = refl; plain = (refl, refl); suits = (refl, refl) };
+}
 
 changes : Takes d.change_table change_cells 13 5
 changes = search cast_int
@@ -524,8 +575,11 @@ add_eight_changes_text = codes
     "INSERT INTO change VALUES (?, ?, ?, ?, ?), (?, ?, ?, ?, ?), (?, ?, ?, ?, ?), (?, ?, ?, ?, ?), (?, ?, ?, ?, ?), (?, ?, ?, ?, ?), (?, ?, ?, ?, ?), (?, ?, ?, ?, ?)"
 
 add_eight_changes_reads : InsertsEight add_eight_changes_text d.change_table 13 5 40
-unfolding understood everything
-add_eight_changes_reads = record { is = refl; plain = (refl, refl); fits = (refl, refl) }
+unfolding everything
+add_eight_changes_reads = record {
+  from = λ at not_null. (refl, refl, refl, refl, tt);
+  is = λ place at not_null. record { is = refl; plain = (refl, refl); suits = (refl, refl) };
+}
 
 pub changes_added : (rows : List ChangeRow) → length rows ≡ 8
     → AreAdded add_eight_changes_text (flat_map change_cells rows) 25 (map change_cells rows)
@@ -539,8 +593,11 @@ abbrev pub add_waiver_text : List ℕ
 add_waiver_text = codes "INSERT INTO waiver VALUES (?1, ?2, ?3)"
 
 add_waiver_reads : InsertsOne add_waiver_text d.waiver_table 15 3
-unfolding understood everything
-add_waiver_reads = record { is = refl; plain = (refl, refl); fits = (refl, refl) }
+unfolding everything
+add_waiver_reads = record {
+  from = λ at not_null. (refl, refl, refl, refl, tt);
+  is = λ place at not_null. record { is = refl; plain = (refl, refl); suits = (refl, refl) };
+}
 
 -- a change that has a last day
 abbrev Waiving : Type 0

@@ -1,13 +1,11 @@
 -- A row of small cells can be stored, with its entries in the indexes.
-use Rattle.std.proofs.Common.{◌≡◌, inl, inr, ℕ, zero, suc, ℤ, pos, negsuc, ◌+◌, ◌^◌, ◌<◌, ◌≤◌, true}
+use Rattle.std.proofs.Common.{◌≡◌, inl, inr, ℕ, zero, suc, ℤ, pos, negsuc, ◌+◌, ◌^◌, ◌<◌, ◌≤◌}
 use Rattle.std.proofs.Common.{All, List, [], ◌∷◌, length, map, get_or, refl, sym, subst, arith}
 use Rattle.std.proofs.Common.{mul-le-mul_right}
-use Rattle.std.specs.Prelude.{nat_le}
-use Rattle.std.specs.List.{AllByRecursion, list_all}
+use Rattle.std.specs.List.{AllByRecursion}
 use Rattle.std.specs.Float.{NotNan}
 use Rattle.std.specs.Float.Ieee
 use Rattle.std.proofs.lemmas.Nat.Bits.{bit_at-zero}
-use Rattle.std.proofs.lemmas.Bool.Decides.{nat_tests}
 use Rattle.std.proofs.lemmas.List.{length-map, length_push}
 use Rattle.std.proofs.lemmas.List.Elements.{All-map, All-push, All-from_recursion}
 use Rattle.std.proofs.lemmas.List.Sums.{sum_by-le}
@@ -16,11 +14,12 @@ use Rattle.sqlite_value.specs.declared.value.Value.TheVariants.{Null, Int, Real,
 use Rattle.sqlite_value.specs.Order.{Row, column, number, bytes}
 use Rattle.sqlite_trees.specs.View.{IsStorable}
 use Rattle.sqlite_sql.specs.Catalog.{entry_of}
+use Rattle.sqlite_schema.specs.declared.schema.Index.{Index}
+use Rattle.sqlite_schema.specs.declared.schema.Schema.{Schema}
 use Rattle.sqlite_schema.specs.declared.schema.Table.{Table}
 use Rattle.sqlite_schema.specs.Rules.{table_reals, index_reals}
 use Rattle.sqlite_rules.specs.Edit.{IsOversized}
-use Rattle.sqlite_rules.proofs.ListLemmas.{test_has}
-use Rattle.desk_sql_layout.specs.Layout.{desk_schema}
+use Rattle.sqlite_rules.specs.Lists.{Has}
 use Rattle.desk_sql_write.specs.Taking.{IsSmall}
 
 -- a value that is small enough, whatever number it is
@@ -74,22 +73,22 @@ pub no_reals : (places : List ℕ) → index_reals 0 places ≡ 0
 no_reals [] = refl
 no_reals (p ∷ places) = omega (arith, bit_at-zero p, no_reals places)
 
-narrow : list_all (λ i. nat_le (length i.columns) 8) desk_schema.indexes ≡ true
-narrow = refl
+-- an index of the table has 8 columns at most
+abbrev pub AreNarrow : Schema → Table → Type 0
+AreNarrow schema table = (i : Index) → Has schema.indexes i → i.table ≡ table.tree
+    → length i.columns ≤ 8
 
-pub never_oversized : (table : Table) (row : Row) → table_reals table ≡ 0
-    → AllByRecursion IsLight row → 1 < length row → length row ≤ 9
-    → ¬ IsOversized desk_schema table row
-never_oversized table row none light some few (inl big) =
+pub never_oversized : (schema : Schema) (table : Table) (row : Row) → AreNarrow schema table
+    → table_reals table ≡ 0 → AllByRecursion IsLight row → 1 < length row → length row ≤ 9
+    → ¬ IsOversized schema table row
+never_oversized schema table row narrow none light some few (inl big) =
     big (
       subst (λ n. IsStorable n row) (sym none)
           (storable row (All-from_recursion IsLight row light) (omega (arith, some)) few),
       some,
     )
-never_oversized table row none light some few (inr (i, has, of, big)) =
-    let width : length i.columns ≤ 8 = let low =
-    test_has (λ i. nat_le (length i.columns) 8) desk_schema.indexes i narrow has in
-    grind (arith, nat_tests) in
+never_oversized schema table row narrow none light some few (inr (i, has, of, big)) =
+    let width = narrow i has of in
     let entry = entry_of i.columns row in
     let size : length entry ≡ length i.columns + 1 =
     omega (

@@ -23,7 +23,6 @@ use Rattle.sqlite_rules.specs.Cast.{cast}
 use Rattle.sqlite_rules.specs.Edit.{id_in}
 use Rattle.sqlite_rules.proofs.TableLemmas.{int_is}
 use Rattle.sqlite_tied.specs.Compute.{everything}
-use Rattle.sqlite.specs.Listing.{understood}
 use Rattle.desk_model.specs.Lists.{updated as changed}
 use Rattle.desk_model.specs.Keys.{is_release, is_duty}
 use Rattle.desk_model.specs.Names.{release_state_name, duty_state_name}
@@ -39,11 +38,12 @@ use Rattle.desk_sql_layout.proofs.Casts.{cast_int, cast_null, run_test, same, wi
 use Rattle.desk_sql_layout.proofs.Edits.{changed_where}
 use Rattle.desk_sql_layout.proofs.Queries.{query_on}
 use Rattle.desk_sql_layout.proofs.Selecting.{as_declared}
+use Rattle.desk_sql_layout.proofs.Writing.{IsWrite}
 use Rattle.desk_sql_layout.proofs.Tests.{equals, last_text_test, number_test}
 use Rattle.desk_sql_layout.proofs.Views.{View, duty_view, release_view}
 use Rattle.desk_sql_write.specs.Runs.{is_numbered}
 use Rattle.desk_sql_write.specs.Taking.{IsSmall}
-use Rattle.desk_sql_write.proofs.Failing.{Makes, Reads}
+use Rattle.desk_sql_write.proofs.Failing.{Makes}
 use Rattle.desk_sql_write.proofs.Behind.{not_other}
 use Rattle.desk_sql_write.proofs.Inserts.{Suiting, Takes, duties, releases, suit_each}
 use Rattle.desk_sql_write.proofs.Updating.{Remakes, updated_turns}
@@ -70,10 +70,11 @@ rowid_stays v whole = cast_rowid v whole ∙ sym (int_is v whole)
 
 -- a text makes the rows that pass anew from these terms
 abbrev IsChange : List ℕ → ℕ → ℕ → ℕ → List Term → List Term → Type 0
-IsChange text count place tree tests project = Reads text count (Update place (record {
-  lets = [];
-  body = query_on tree tests (col 1 0 ∷ project) [];
-}))
+IsChange text count place tree tests project = IsWrite text count tree
+    (λ at_place at. Update at_place (record {
+      lets = [];
+      body = query_on at tests (col 1 0 ∷ project) [];
+    }))
 
 abbrev IsMade : Table → Row → List Term → List Term → (Row → Bool) → (Row → Row) → Type 0
 IsMade at =
@@ -128,8 +129,11 @@ abbrev freeze_release_project : List Term
 freeze_release_project = col 1 0 ∷ col 1 1 ∷ col 1 2 ∷ col 1 3 ∷ col 0 1 ∷ col 0 2 ∷ []
 
 freeze_release_reads : IsChange freeze_release_text 3 8 14 (same 1 0 ∷ []) freeze_release_project
-unfolding understood everything
-freeze_release_reads = record { is = refl; plain = (refl, refl); fits = (refl, refl) }
+unfolding everything
+freeze_release_reads = record {
+  from = λ at not_null. (refl, refl, refl, refl, refl);
+  is = λ place at not_null. record { is = refl; plain = (refl, refl); suits = (refl, refl) };
+}
 
 abbrev freeze_release_cells : ℕ → Row → Row
 freeze_release_cells revision cs = cast Words (column cs 0) ∷ cast Integer (column cs 1)
@@ -168,8 +172,11 @@ withdraw_release_project = col 1 0 ∷ col 1 1 ∷ col 1 2 ∷ col 1 3 ∷ col 0
 
 withdraw_release_reads : IsChange withdraw_release_text 2 8 14 (same 1 0 ∷ [])
     withdraw_release_project
-unfolding understood everything
-withdraw_release_reads = record { is = refl; plain = (refl, refl); fits = (refl, refl) }
+unfolding everything
+withdraw_release_reads = record {
+  from = λ at not_null. (refl, refl, refl, refl, refl);
+  is = λ place at not_null. record { is = refl; plain = (refl, refl); suits = (refl, refl) };
+}
 
 abbrev withdraw_release_cells : Row → Row
 withdraw_release_cells cs = cast Words (column cs 0) ∷ cast Integer (column cs 1)
@@ -206,8 +213,11 @@ duty_project state = col 1 0 ∷ lit Null ∷ col 1 2 ∷ col 1 3 ∷ col 1 4 �
     ∷ col 0 state ∷ []
 
 set_duty_reads : IsChange set_duty_text 2 12 23 (same 0 0 ∷ []) (duty_project 1)
-unfolding understood everything
-set_duty_reads = record { is = refl; plain = (refl, refl); fits = (refl, refl) }
+unfolding everything
+set_duty_reads = record {
+  from = λ at not_null. (refl, refl, refl, refl, refl);
+  is = λ place at not_null. record { is = refl; plain = (refl, refl); suits = (refl, refl) };
+}
 
 abbrev set_duty_cells : DutyState → Row → Row
 set_duty_cells to cs = cast Integer (column cs 0) ∷ cast Words (column cs 1)
@@ -241,8 +251,11 @@ abbrev set_run_text : List ℕ
 set_run_text = codes "UPDATE duty SET state = ?3 WHERE number >= ?1 AND number <= ?2"
 
 set_run_reads : IsChange set_run_text 3 12 23 (within 0) (duty_project 2)
-unfolding understood everything
-set_run_reads = record { is = refl; plain = (refl, refl); fits = (refl, refl) }
+unfolding everything
+set_run_reads = record {
+  from = λ at not_null. (refl, refl, refl, refl, refl);
+  is = λ place at not_null. record { is = refl; plain = (refl, refl); suits = (refl, refl) };
+}
 
 pub run_set : (first last : ℕ) (to : DutyState)
     → Makes set_run_text (number first ∷ number last ∷ Text (duty_state_name to) ∷ [])

@@ -25,6 +25,8 @@ use Rattle.sqlite_sql.specs.Ops.{fits_i64}
 use Rattle.sqlite_sql.specs.Term.{Term, col, eval_all}
 use Rattle.sqlite_schema.specs.declared.schema.Column.{Column}
 use Rattle.sqlite_schema.specs.declared.schema.Table.{Table}
+use Rattle.sqlite_schema.specs.declared.schema.Constraint.TheVariants.{Unique}
+use Rattle.sqlite_schema.specs.declared.schema.Schema.{Schema}
 use Rattle.sqlite_schema.specs.declared.program.Program.{Program}
 use Rattle.sqlite_schema.specs.declared.command.Command.TheVariants.{Update}
 use Rattle.sqlite_schema.specs.Rules.{table_reals}
@@ -46,25 +48,29 @@ use Rattle.sqlite.specs.Does.{Does}
 use Rattle.sqlite.specs.State.{State, Executes, Survives, mode_of}
 use Rattle.sqlite.proofs.Callers.{statement_of, runs_as}
 use Rattle.desk_model.specs.declared.command.Fault.{Fault}
-use Rattle.desk_sql_layout.specs.Held.{HasRows}
+use Rattle.desk_sql_layout.specs.Held.{HasRows, labelled}
+use Rattle.desk_sql_layout.specs.Desk.{HasDesk, HasTable, columns_with}
+use Rattle.desk_sql_layout.proofs.Declared.{actual, alone_in, cast_same, entry}
+use Rattle.desk_sql_layout.proofs.Selecting.{accepts_here}
+use Rattle.desk_sql_layout.proofs.Writing.{IsWrite, plain_write, suits_write, writes_here}
 use Rattle.desk_sql_layout.specs.Layout.{desk_schema, table_of}
 use Rattle.desk_sql_layout.specs.Stored.{cells, AreStored}
 use Rattle.desk_sql_layout.proofs.Edits.{has_permuted, changed_where, put_fresh}
 use Rattle.desk_sql_layout.proofs.Keeps.{stored_changed}
 use Rattle.desk_sql_layout.proofs.Queries.{query_on, passes, env}
-use Rattle.desk_sql_layout.proofs.Statements.{alone, updated}
+use Rattle.desk_sql_layout.proofs.Statements.{updated}
 use Rattle.desk_sql_layout.proofs.Steps.{at, updates}
 use Rattle.desk_sql_layout.proofs.Writes.{left_by, shown_by, stored_as}
 use Rattle.desk_sql_write.specs.Taking.{IsSmall, HaveKeys, LeavesRoom, HasRoom, RanInto}
 use Rattle.desk_sql_write.specs.Turning.{Turns}
 use Rattle.desk_sql_write.specs.Written.{Ran}
 use Rattle.desk_sql_write.proofs.Deleting.{never_edited}
-use Rattle.desk_sql_write.proofs.Failing.{Reads, caused, turns_by}
+use Rattle.desk_sql_write.proofs.Failing.{caused, turns_by}
 use Rattle.desk_sql_write.proofs.Inserting.{rooms_left}
 use Rattle.desk_sql_write.proofs.Keyed.{some_there}
 use Rattle.desk_sql_write.proofs.Lists.{count_both}
 use Rattle.desk_sql_write.proofs.Puts.{as_stored, IsRight, Suits, fitting}
-use Rattle.desk_sql_write.proofs.Refusing.{IsFree, rows_free, stored_with}
+use Rattle.desk_sql_write.proofs.Refusing.{IsFree, keys_of, room_of, rows_free, shown_now}
 
 -- ---- rowids that appear once
 
@@ -168,14 +174,24 @@ module _ (name : List ℕ) (tree : ℕ) (columns : List Column) (key : Option �
     pub stays : (r : Row) → is_int (rowid r) ≡ true
         → rowid (cast_row this (eval_all project (env params r))) ≡ rowid r
 
-  module _ (place : ℕ) (listed : slice_get desk_schema.tables place ≡ Some this)
-      (rows after : ℕ → List Row) (same : AllByRecursion
-      (λ t. t.tree ≢ tree → after t.tree ≡ rows t.tree) desk_schema.tables)
-      (s : State) (has : HasRows rows s.now) (params : Row) (tests project : List Term)
+  module _ (there : Has desk_schema.tables this) (rows after : ℕ → List Row) (s : State)
+      (has : HasRows rows s.now) (params : Row) (tests project : List Term)
       (q : Row → Bool) (u : Row → Row) (it : Remakes params tests project q u)
       (perm : IsPermutation (after tree) (changed_where q u (rows tree))) where
+    abbrev schema : Schema
+    schema = s.now.schema
+
+    abbrev desk : HasDesk schema
+    desk = has.declared
+
+    abbrev own : HasTable schema this
+    own = entry schema desk this there
+
+    abbrev here : Table
+    here = actual schema desk this there
+
     abbrev program : Program
-    program = record { lets = []; body = query_on tree tests (col 1 0 ∷ project) [] }
+    program = record { lets = []; body = query_on own.tree tests (col 1 0 ∷ project) [] }
 
     abbrev p : Row → Bool
     p = passes tests params
@@ -184,7 +200,7 @@ module _ (name : List ℕ) (tree : ℕ) (columns : List Column) (key : Option �
     f r = cast_row this (eval_all project (env params r))
 
     abbrev stored : List Row
-    stored = s.now.trees tree
+    stored = s.now.trees own.tree
 
     abbrev kept : List Row
     kept = filter (λ r. not (p r)) stored
@@ -192,25 +208,23 @@ module _ (name : List ℕ) (tree : ℕ) (columns : List Column) (key : Option �
     abbrev cast : Row → Row
     cast s = cast_row this (drop 1 s)
 
-    there : Has desk_schema.tables this
-    there = has_got desk_schema.tables place this listed
+    mine : AreStored this (rows tree) (s.now.trees own.tree)
+    mine = shown_now name tree columns key primary uniques orders there rows after s has
 
-    mine : AreStored this (rows tree) (s.now.trees tree)
-    mine = all_has (λ t. AreStored t (rows t.tree) (s.now.trees t.tree)) desk_schema.tables this
-        has.stored there
-
-    module _ (found : List Row) (answers : Answers (at desk_schema s.now.trees) program params
+    module _ (found : List Row) (answers : Answers (at schema s.now.trees) program params
         found) where
       shown : IsPermutation (map (λ r. rowid r ∷ eval_all project (env params r)) (filter p stored))
           found
-      shown = shown_by desk_schema s.now.trees tree tests project params found answers
+      shown = shown_by schema s.now.trees own.tree tests project params found answers
 
       left : without_all stored (ids_of found) ≡ kept
-      left = left_by desk_schema s.now.trees tree tests project params found answers this
+      left = left_by schema s.now.trees own.tree tests project params found answers this
           (rows tree) mine
 
-      news_are : (edit_of s.now.trees this (ids_of found) Given 1 found).news ≡ map cast found
-      news_are = given (without_all stored (ids_of found)) (map cast found)
+      news_are : (edit_of s.now.trees here (ids_of found) Given 1 found).news ≡ map cast found
+      news_are = given (without_all stored (ids_of found))
+          (map (λ s. cast_row here (drop 1 s)) found)
+          ∙ (λ i. map (λ s. cast_same this own.tree own.not_null (drop 1 s) i) found)
 
       made_of : IsPermutation (map f (filter p stored)) (map cast found)
       made_of = subst (λ xs. IsPermutation xs (map cast found))
@@ -267,7 +281,7 @@ module _ (name : List ℕ) (tree : ℕ) (columns : List Column) (key : Option �
 
       module _ (reals : table_reals this ≡ 0)
           (suits : AllByRecursion (Suits name tree columns key primary uniques orders s.now.trees)
-          (after tree)) (keys : HaveKeys after) (room : HasRoom 0 s.now.trees) where
+          (after tree)) (keys : HaveKeys after) (room : HasRoom 0 (labelled s.now)) where
         suited : (r : Row) → Has stored r → p r ≡ true
             → Suits name tree columns key primary uniques orders s.now.trees (u (cells this r))
         suited r has_r yes_r = all_has
@@ -285,8 +299,9 @@ module _ (name : List ℕ) (tree : ℕ) (columns : List Column) (key : Option �
         leaving none r has_r =
             subst (LeavesRoom 0) (int_is (rowid r) (whole_of r has_r))
             (all_has (λ r. LeavesRoom 0 (rowid r)) stored r
-            (all_has (λ t. t.key ≡ None → AllByRecursion (λ r. LeavesRoom 0 (rowid r))
-            (s.now.trees t.tree)) desk_schema.tables this room.room there none) has_r)
+            (room_of name tree columns key primary uniques orders there rows after s has 0 room
+            none)
+            has_r)
 
         fits : AllByRecursion (λ r. fits_i64 (id_in (rowid r)) ≡ true) (map cast found)
         fits = each_new (λ r. fits_i64 (id_in (rowid r)) ≡ true) (λ r has_r yes_r.
@@ -295,7 +310,7 @@ module _ (name : List ℕ) (tree : ℕ) (columns : List Column) (key : Option �
             (u (cells this r)) (λ none. leaving none r has_r) (suited r has_r yes_r).number))
 
         abbrev edit : Edit
-        edit = edit_of s.now.trees this (ids_of found) Given 1 found
+        edit = edit_of s.now.trees here (ids_of found) Given 1 found
 
         passing_all : (c : Row → Bool) → AllByRecursion (λ r. c r ≡ true) (map cast found)
             → list_all c edit.news ≡ true
@@ -303,20 +318,21 @@ module _ (name : List ℕ) (tree : ℕ) (columns : List Column) (key : Option �
             (test_from c (map cast found)
             (λ r has_r. all_has (λ r. c r ≡ true) (map cast found) r all has_r))
 
-        free : IsFree s.now.trees edit
-        free = rows_free name tree columns key primary uniques orders after s.now.trees
-            (ids_of found) Given 1 found reals (subst (AllByRecursion Right) (sym news_are) right)
+        free : IsFree schema desk s.now.trees edit
+        free = rows_free name tree columns key primary uniques orders schema desk there (after tree)
+            s.now.trees (ids_of found) Given 1 found (has.sound.obeys.rules Unique) reals
+            (subst (AllByRecursion Right) (sym news_are) right)
             (passing_all (λ r. is_int (rowid r)) keyed)
             (passing_all (λ r. fits_i64 (id_in (rowid r))) fits)
             (subst₂ (λ l n. are_fresh l n ≡ true) (sym left) (sym news_are) fresh)
-            (stored_with rows after s.now.trees this _ there has.stored same
-            (subst₂ (λ l n. AreStored this (after tree) (put_all l n)) (sym left) (sym news_are)
-            are)) keys
+            (subst₂ (λ l n. AreStored this (after tree) (put_all l n)) (sym left)
+            (sym news_are) are)
+            (keys_of name tree columns key primary uniques orders there rows after s has keys)
 
       rooms_kept : (n : ℕ) → AllByRecursion (λ r. LeavesRoom n (rowid r)) stored
           → AllByRecursion (λ r. LeavesRoom n (rowid r))
           (put_all (without_all stored (ids_of found))
-          (edit_of s.now.trees this (ids_of found) Given 1 found).news)
+          (edit_of s.now.trees here (ids_of found) Given 1 found).news)
       rooms_kept n all = subst₂ (λ l m. AllByRecursion (λ r. LeavesRoom n (rowid r)) (put_all l m))
           (sym left) (sym news_are)
           (all_from (λ r. LeavesRoom n (rowid r)) (put_all kept (map cast found))
@@ -330,23 +346,24 @@ module _ (name : List ℕ) (tree : ℕ) (columns : List Column) (key : Option �
           ]))
 
     never_updated : (none : s.step_limit ≡ None) (text : List ℕ)
-        → accepts_program desk_schema [] (query_on tree tests (col 1 0 ∷ project) []) params ≡ true
+        → accepts_program schema [] (query_on own.tree tests (col 1 0 ∷ project) []) params ≡ true
         → table_reals this ≡ 0
         → AllByRecursion (Suits name tree columns key primary uniques orders s.now.trees)
-        (after tree) → HaveKeys after → HasRoom 0 s.now.trees
+        (after tree) → HaveKeys after → HasRoom 0 (labelled s.now)
         → (stop : Option Error) → Does s.step_limit (mode_of s) params s.now text None
-        (Update place program) (Err stop) → ⊥
+        (Update own.place program) (Err stop) → ⊥
     never_updated none text accepts reals suits keys room stop did =
-        let edit = λ (found : List Row). edit_of s.now.trees this (ids_of found) Given 1 found in
-        never_edited this s params tree tests (col 1 0 ∷ project) edit (λ found. (edit found).news)
+        let edit = λ (found : List Row). edit_of s.now.trees here (ids_of found) Given 1 found in
+        never_edited schema desk here s params own.tree tests (col 1 0 ∷ project) edit
+        (λ found. (edit found).news)
         none accepts (λ found answers. free found answers reals suits keys room) stop
-        (rw (has.declared, listed) at did)
+        (rw own.listed at did)
 
   module _ {A : Type 0} (rows : A → ℕ → List Row) (made : A → A) (place : ℕ)
       (listed : slice_get desk_schema.tables place ≡ Some this) (sql : List ℕ) (params : Row)
       (tests project : List Term) (q : Row → Bool) (u : Row → Row)
-      (reads : Reads sql (length params)
-      (Update place (record { lets = []; body = query_on tree tests (col 1 0 ∷ project) [] })))
+      (reads : IsWrite sql (length params) tree (λ place at.
+      Update place (record { lets = []; body = query_on at tests (col 1 0 ∷ project) [] })))
       (accepts : accepts_program desk_schema [] (query_on tree tests (col 1 0 ∷ project) []) params
       ≡ true)
       (reals : table_reals this ≡ 0) (it : Remakes params tests project q u)
@@ -357,41 +374,51 @@ module _ (name : List ℕ) (tree : ℕ) (columns : List Column) (key : Option �
       → AllByRecursion (AllByRecursion IsSmall) (rows (made a) tree)
       → AllByRecursion (Suits name tree columns key primary uniques orders trees)
       (rows (made a) tree)) (old new : State) where
+    there : Has desk_schema.tables this
+    there = has_got desk_schema.tables place this listed
+
     uses : (count : ℕ) (a : A) → Executes sql params old new (Ok count) → HasRows (rows a) old.now
-        → (n : ℕ) → HasRoom (n + 0) old.now.trees → HasRoom n new.now.trees
+        → (n : ℕ) → HasRoom (n + 0) (labelled old.now) → HasRoom n (labelled new.now)
     uses count a executed has n room =
+        let schema = old.now.schema in
+        let own = entry schema has.declared this there in
         let program : Program = record {
           lets = [];
-          body = query_on tree tests (col 1 0 ∷ project) [];
+          body = query_on own.tree tests (col 1 0 ∷ project) [];
         } in
-        let w = runs_as sql params old new desk_schema has.declared (Update place program) reads.is
-        reads.plain count executed in
-        let step = updates name tree columns key primary uniques orders desk_schema place listed
-        alone old has.declared params (statement_of sql (understood desk_schema sql)) new.now
-        w.tally program w.changed in
-        rooms_left n old.now.trees new.now.trees this
-        (edit_of old.now.trees this (ids_of step.0) Given 1 step.0) refl
-        (has_got desk_schema.tables place this listed) step.2.applies room
+        let w = runs_as sql params old new schema refl (Update own.place program)
+        (writes_here reads this there refl schema has.declared)
+        (plain_write reads this there refl schema has.declared) count executed in
+        let step = updates name own.tree (columns_with key own.not_null 0 columns) key primary
+        uniques orders schema own.place own.listed (alone_in schema has.declared) old refl params
+        (statement_of sql (understood schema sql)) new.now w.tally program w.changed in
+        rooms_left this there old.now new.now has.declared step.2.schema_is step.2.applies.tables n
+        room
         (λ none before. subst (AllByRecursion (λ r. LeavesRoom n (rowid r)))
         (sym step.2.applies.rows)
-        (rooms_kept place listed (rows a) (rows (made a)) (same a) old has params tests project q u
-        it (perm a) step.0 step.1 n
-        before))
+        (rooms_kept there (rows a) (rows (made a)) old has params tests project q u
+        it (perm a) step.0 step.1 n before))
 
     pub updated_turns : (r : Result (Unit {0}) Fault) → Ran sql params old new r
         → IfErr r (RanInto sql params old new) → Survives old new (λ _. ⊥)
         → Turns rows (λ a. rows (made a)) 0 old new r
     updated_turns = turns_by rows (λ a. rows (made a)) 0 sql params old new
         (λ count a executed has. updated name tree columns key primary uniques orders place listed
-        sql reads.plain params (rows a) (rows (made a)) (same a) old new count executed has tests
-        project q u reads.is it.agree it.acts (perm a))
+        sql params (rows a) (rows (made a)) (same a) old new count executed has tests
+        project q u reads it.agree it.acts (perm a))
         uses
         (λ opened unlimited a has before after room.
+        let schema = old.now.schema in
+        let own = entry schema has.declared this there in
         let small = all_has (λ t. AllByRecursion (AllByRecursion IsSmall) (rows (made a) t.tree))
-        desk_schema.tables this after.small (has_got desk_schema.tables place this listed) in
-        caused desk_schema sql params old new has.declared opened reads.plain reads.fits
-        (Update place (record { lets = []; body = query_on tree tests (col 1 0 ∷ project) [] }))
-        reads.is refl
-        (never_updated place listed (rows a) (rows (made a)) (same a) old has params tests project q
-        u it (perm a) unlimited (statement_of sql (understood desk_schema sql))
-        accepts reals (suits a old.now.trees small) after.keys room))
+        desk_schema.tables this after.small there in
+        caused schema sql params old new refl opened
+        (plain_write reads this there refl schema has.declared)
+        (suits_write reads this there refl schema has.declared)
+        (Update own.place
+        (record { lets = []; body = query_on own.tree tests (col 1 0 ∷ project) [] }))
+        (writes_here reads this there refl schema has.declared) refl
+        (never_updated there (rows a) (rows (made a)) old has params tests project q
+        u it (perm a) unlimited (statement_of sql (understood schema sql))
+        (accepts_here tests (col 1 0 ∷ project) [] params this there accepts schema has.declared)
+        reals (suits a old.now.trees small) after.keys room))

@@ -44,6 +44,7 @@ pub record Founds (old new : State) : Type 0 where
   pub kept : KeepsCommit old new
   pub holds : IsBare no_schema old.now → Holds no_tables new.now
 
+-- the same by the result: done, or after a fault nothing was committed
 abbrev pub HasFounded : State → State → Result (Unit {0}) Fault → Type 0
 HasFounded old new (Ok done) = HasCleanDisk new → IsTrue old.in_transaction → Founds old new
 HasFounded old new (Err fault) = HasCleanDisk new → IsTrue old.in_transaction → KeepsCommit old new

@@ -49,11 +49,13 @@ pub record IsTaken (text : List ℕ) (table : Table) (schema : Schema) : Type 0 
   pub formed : is_formed table ≡ true
   pub listed : is_fit (Text (codes "table")) (Text table.name) (Text table.name) (Text text) ≡ true
 
+-- each text declares its table in the schema that the ones before it made, and is taken
 abbrev pub AreDeclared : List (List ℕ × Table) → Schema → Type 0
 AreDeclared [] schema = Unit {0}
 AreDeclared (d ∷ ds) schema = Declares d.0 d.1 schema
     × (IsTaken d.0 d.1 schema × AreDeclared ds (created schema d.1))
 
+-- a schema with these tables created in it, one after another
 abbrev pub schema_after : Schema → List (List ℕ × Table) → Schema
 schema_after schema [] = schema
 schema_after schema (d ∷ ds) = schema_after (created schema d.1) ds
@@ -73,12 +75,15 @@ pub record Left (texts : List (List ℕ)) (final : Schema) (db : Database) : Typ
   pub bare : IsBare schema db
   pub final_is : schema_after schema tables ≡ final
 
+-- Inside a transaction that is still open, some of these texts were run, and the rest is left to be
+-- run. Nothing was committed.
 pub record Went (texts rest : List (List ℕ)) (old new : State) : Type 0 where
   pub inside : IsTrue new.in_transaction
   pub is_open : IsTrue old.is_open → IsTrue new.is_open
   pub kept : KeepsCommit old new
   pub left : (final : Schema) → Left texts final old.now → Left rest final new.now
 
+-- all of the texts were run, or after a fault nothing was committed
 abbrev pub HasDeclared : List (List ℕ) → State → State → Result (Unit {0}) Fault → Type 0
 HasDeclared texts old new (Ok done) = HasCleanDisk new → IsTrue old.in_transaction
     → Went texts [] old new

@@ -18,6 +18,7 @@ ReplacesNone _ t = Unit {0}
 abbrev pub Takes : Bool → Change → Tables → Type 0
 Takes is_new change t = is_new ≡ true → ReplacesNone change t
 
+-- tables of which that is known
 pub record Taking (is_new : Bool) (change : Change) : Type 0 where
   pub tables : Tables
   pub takes : Takes is_new change tables
@@ -27,5 +28,6 @@ module _ (is_new : Bool) (change : Change) where
   abbrev pub rows_before : Taking is_new change → ℕ → List Row
   rows_before a = rows_of a.tables
 
+  -- and after the change
   abbrev pub rows_after : Taking is_new change → ℕ → List Row
   rows_after a = rows_of (applied change a.tables)

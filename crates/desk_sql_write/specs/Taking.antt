@@ -17,7 +17,7 @@ use Rattle.desk_model.specs.declared.command.Fault.TheVariants.{Memory, Store}
 use Rattle.desk_model.specs.declared.command.StoreFault.TheVariants.{Database as DatabaseFault}
 use Rattle.desk_access.specs.Seen.{MoreFaults}
 use Rattle.desk_sql_layout.specs.Faults.{fault_by}
-use Rattle.desk_sql_layout.specs.Held.{HasRows}
+use Rattle.desk_sql_layout.specs.Held.{HasRows, labelled}
 use Rattle.desk_sql_layout.specs.Layout.{desk_schema}
 
 -- what a cell can hold: NULL, a number of 32 bits, or at most a hundred million bytes
@@ -29,6 +29,7 @@ IsSmall (Real x) = ⊥
 IsSmall (Text text) = length text ≤ 10 ^ 8
 IsSmall (Blob bytes) = length bytes ≤ 10 ^ 8
 
+-- this is true of each cell of the desk's tables
 abbrev pub AreSmall : (ℕ → List Row) → Type 0
 AreSmall rows = AllByRecursion (λ t. AllByRecursion (AllByRecursion IsSmall) (rows t.tree))
     desk_schema.tables
@@ -60,7 +61,7 @@ LeavesRoom n (Int (pos id)) = id + n < 2 ^ 63
 LeavesRoom n (Int (negsuc id)) = id < 2 ^ 63
 LeavesRoom n _ = Unit {0}
 
--- each table whose rows the database numbers has rowids left for this many more
+-- each table whose rows the database numbers has rowids left for this many more (`labelled` rows)
 pub record HasRoom (n : ℕ) (trees : Trees) : Type 0 where
   pub few : n < 2 ^ 62
   pub room : AllByRecursion (λ t. t.key ≡ None
@@ -80,8 +81,8 @@ IsCaused old new fault = (fault ≡ Memory)
 -- a write used at most this many rowids
 pub record Uses {A : Type 0} (before : A → ℕ → List Row) (many : ℕ) (old new : State) : Type 0 where
   pub is_open : IsTrue old.is_open → IsTrue new.is_open
-  pub room : (a : A) → HasRows (before a) old.now → (n : ℕ) → HasRoom (n + many) old.now.trees
-      → HasRoom n new.now.trees
+  pub room : (a : A) → HasRows (before a) old.now → (n : ℕ)
+      → HasRoom (n + many) (labelled old.now) → HasRoom n (labelled new.now)
 
 module _ {A : Type 0} (before after : A → ℕ → List Row) (many : ℕ) (old new : State) where
   -- if the tables can hold the rows before and after, and there are rowids for as many as are
@@ -89,8 +90,9 @@ module _ {A : Type 0} (before after : A → ℕ → List Row) (many : ℕ) (old 
   pub record FailsFor (fault : Fault) : Type 0 where
     pub cause : HasCleanDisk new → IsTrue old.in_transaction → IsTrue old.is_open
         → old.step_limit ≡ None → (a : A) → HasRows (before a) old.now → CanStand (before a)
-        → CanStand (after a) → HasRoom many old.now.trees → IsCaused old new fault
+        → CanStand (after a) → HasRoom many (labelled old.now) → IsCaused old new fault
 
+  -- a write that was done used at most so many rowids; another one failed for such a cause
   abbrev pub FailsOnlyAs : Result (Unit {0}) Fault → Type 0
   FailsOnlyAs (Ok done) = HasCleanDisk new → IsTrue old.in_transaction → Uses before many old new
   FailsOnlyAs (Err fault) = FailsFor fault

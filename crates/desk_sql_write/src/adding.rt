@@ -1,4 +1,4 @@
-//! Adds rows to a table, one at a time or in eights.
+//! Adds rows to a table, one or eight at a time.
 
 ghost use Rattle.std.specs.Prelude.{◌≡◌, ℕ, List, [], ◌∷◌, map, length};
 ghost use Rattle.std.specs.List.{flat_map};
@@ -10,7 +10,7 @@ use desk_model::Fault;
 use sqlite::{Alter, Transaction};
 use std::alloc::Global;
 
-/// How many rows one statement adds, if there are that many. They share its cost.
+/// How many rows one statement adds, if there are that many; so they share its cost.
 const ROWS: usize = 8;
 
 /// What is added to a table by one statement for each.

@@ -20,7 +20,7 @@ use sqlite_schema::schema::Schema;
 
 /// The statement that declares the profiles of documents.
 pub const READING_TABLE: &str =
-    "CREATE TABLE reading (document INTEGER PRIMARY KEY, profile INTEGER NOT NULL) STRICT";
+    "CREATE TABLE reading (document INTEGER NOT NULL PRIMARY KEY, profile INTEGER NOT NULL) STRICT";
 
 /// The statement that declares the last days of waivers.
 pub const WAIVER_TABLE: &str =
@@ -28,10 +28,10 @@ pub const WAIVER_TABLE: &str =
 
 /// The statements that declare the tables.
 const TABLES: [&str; 16] = [
-    "CREATE TABLE meta (version INTEGER PRIMARY KEY) STRICT",
-    "CREATE TABLE catalogue (revision INTEGER PRIMARY KEY, body TEXT NOT NULL) STRICT",
+    "CREATE TABLE meta (version INTEGER NOT NULL PRIMARY KEY) STRICT",
+    "CREATE TABLE catalogue (revision INTEGER NOT NULL PRIMARY KEY, body TEXT NOT NULL) STRICT",
     "CREATE TABLE rule (revision INTEGER NOT NULL, term TEXT NOT NULL, form TEXT NOT NULL, spelled TEXT NOT NULL, codes TEXT NOT NULL, PRIMARY KEY (revision, term, form)) STRICT",
-    "CREATE TABLE document (number INTEGER PRIMARY KEY, namespace TEXT NOT NULL UNIQUE, bytes BLOB NOT NULL) STRICT",
+    "CREATE TABLE document (number INTEGER NOT NULL PRIMARY KEY, namespace TEXT NOT NULL UNIQUE, bytes BLOB NOT NULL) STRICT",
     "CREATE TABLE package (document INTEGER NOT NULL, id TEXT NOT NULL, name TEXT NOT NULL, version TEXT, concluded TEXT, copyright TEXT, shipped INTEGER NOT NULL, PRIMARY KEY (document, id)) STRICT",
     "CREATE TABLE extracted (document INTEGER NOT NULL, reference TEXT NOT NULL, body TEXT, PRIMARY KEY (document, reference)) STRICT",
     "CREATE TABLE conclusion (document INTEGER NOT NULL, package TEXT NOT NULL, expression TEXT NOT NULL, PRIMARY KEY (document, package)) STRICT",
@@ -40,7 +40,7 @@ const TABLES: [&str; 16] = [
     "CREATE TABLE attached (release TEXT NOT NULL, document INTEGER NOT NULL, PRIMARY KEY (release, document)) STRICT",
     "CREATE TABLE choice (release TEXT NOT NULL, document INTEGER NOT NULL, package TEXT NOT NULL, term TEXT NOT NULL, PRIMARY KEY (release, document, package, term)) STRICT",
     "CREATE TABLE frozen (release TEXT NOT NULL, document INTEGER NOT NULL, package TEXT NOT NULL, term TEXT NOT NULL, rule TEXT NOT NULL, PRIMARY KEY (release, document, package, term)) STRICT",
-    "CREATE TABLE duty (number INTEGER PRIMARY KEY, release TEXT NOT NULL, document INTEGER NOT NULL, package TEXT NOT NULL, term TEXT NOT NULL, code TEXT NOT NULL, rule TEXT NOT NULL, state TEXT NOT NULL, UNIQUE (release, document, package, term, code)) STRICT",
+    "CREATE TABLE duty (number INTEGER NOT NULL PRIMARY KEY, release TEXT NOT NULL, document INTEGER NOT NULL, package TEXT NOT NULL, term TEXT NOT NULL, code TEXT NOT NULL, rule TEXT NOT NULL, state TEXT NOT NULL, UNIQUE (release, document, package, term, code)) STRICT",
     "CREATE TABLE change (duty INTEGER NOT NULL, step INTEGER NOT NULL, day TEXT NOT NULL, word TEXT NOT NULL, body TEXT NOT NULL, PRIMARY KEY (duty, step)) STRICT",
     READING_TABLE,
     WAIVER_TABLE,
@@ -137,8 +137,8 @@ fn is_blank(schema: &Schema) -> bool
 /// Creates the tables of an empty desk in an empty database, in one transaction.
 ///
 /// A database with a table `meta` is refused as NotEmpty, and one with other tables by a fault of
-/// the store. After a refusal or a fault the tables are as they were. In an empty database it fails
-/// only because no memory is left, or because the disk failed once more.
+/// the store. After a refusal or a fault the tables are unchanged. In an empty database it fails
+/// only because no memory is left, or because the disk failed again.
 pub fn create_tables<S: Alter>(conn: &mut Connection<S>) -> Result<(), Refused>
     requires { conn.old.in_transaction ≡ false }
     ensures ok { HasCleanDisk (state S.Store conn.new)

@@ -157,8 +157,8 @@ impl Added for ChangeRow {
     }
 }
 
-/// How far apart the duties of a run may be: the database keeps all rows that a statement changes,
-/// and takes longer for many at once.
+/// The greatest difference between the numbers of a run's duties: the database keeps all rows that
+/// a statement changes, and takes longer if there are many.
 const LONGEST: u32 = 1_000;
 
 /// Duties with consecutive numbers that changes leave in one state, and the changes before these.

@@ -21,7 +21,7 @@ use Rattle.desk_model.specs.declared.command.Fault.{Fault}
 use Rattle.desk_access.specs.Follows.{Follows}
 use Rattle.desk_access.specs.Seen.{Seen}
 use Rattle.desk_sql_layout.specs.Cells.{catalogue_cells, document_cells, release_cells}
-use Rattle.desk_sql_layout.specs.Held.{HasRows, known_of, rows_of, seen_of}
+use Rattle.desk_sql_layout.specs.Held.{HasRows, known_of, labelled, rows_of, seen_of}
 use Rattle.desk_sql_layout.specs.Layout.{desk_schema, catalogue_table, document_table, releases_table}
 use Rattle.desk_sql_commit.specs.Committing.{CommitFails}
 use Rattle.desk_sql_layout.specs.Causes.{HasCauseIf}
@@ -135,8 +135,8 @@ module _ (c : Change) (had : Found) (n : Tallies) (counts : Counts) (forms : Lis
         let now = sym same.0.now_is in
         let has : HasRows (rows_of t) (state g b).now =
         subst (HasRows (rows_of t)) now shows.holds.rows in
-        let more : HasRoom (rows_in c) (state g b).now.trees =
-        subst (λ (db : Database). HasRoom (rows_in c) db.trees) now room in
+        let more : HasRoom (rows_in c) (labelled (state g b).now) =
+        subst (λ (db : Database). HasRoom (rows_in c) (labelled db)) now room in
         elim (fails.cause clean same.0.is_open (first.limit ∙ unlimited) t
         (takes t (holds.3 clean_first)) has before after more) [
           | inl memory ↦ inl memory

@@ -12,3 +12,4 @@ mod Ascending
 mod OwnSteps
 mod Orderly
 mod Showing
+mod MigratedRows

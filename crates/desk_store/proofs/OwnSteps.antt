@@ -22,7 +22,7 @@ use Rattle.desk_history.specs.Laws.{Rises}
 use Rattle.desk_model.specs.Keys.{below_by}
 use Rattle.desk_snapshot.specs.Orders.{change_order, change_total, waiver_order, waiver_total}
 use Rattle.desk_snapshot.specs.declared.snapshot.Snapshot.{Snapshot}
-use Rattle.desk_sql_layout.specs.Held.{HasRows}
+use Rattle.desk_sql_layout.specs.Held.{HasRows, labelled}
 use Rattle.desk_sql_layout.specs.Layout as d
 use Rattle.desk_sql_layout.specs.Stored.{cells}
 use Rattle.desk_sql_layout.proofs.Selects.{AreApart, by_unique}
@@ -92,7 +92,7 @@ two_numbers m n k l = rw (value_cmp-Int m k, value_cmp-Int n l, then-Equal (int_
 
 module _ (s : Snapshot) (db : Database) (has : HasRows (stored_rows s) db)
     (it : IsSnapshot s db) where
-  change_cells_apart : AreApart (1 ∷ 2 ∷ []) (db.trees d.change_table.tree)
+  change_cells_apart : AreApart (1 ∷ 2 ∷ []) (labelled db d.change_table.tree)
   change_cells_apart =
       let this = d.change_table in
       by_unique this.name this.tree this.columns this.key this.primary this.uniques this.orders 13
@@ -105,11 +105,11 @@ module _ (s : Snapshot) (db : Database) (has : HasRows (stored_rows s) db)
       (λ x y. is_eq (change_order x y) ≡ false)
       (λ x y h. sym (ap is_eq (two_numbers x.duty x.step y.duty y.step)) ∙ h) s.changes
       (none_shared stored_change_cells shared flips s.changes
-      (map (cells d.change_table) (db.trees d.change_table.tree)) it.changes.shown
+      (map (cells d.change_table) (labelled db d.change_table.tree)) it.changes.shown
       (ascending-map (λ a b. shared a b ≡ false) (cells d.change_table)
-      (db.trees d.change_table.tree) change_cells_apart))
+      (labelled db d.change_table.tree) change_cells_apart))
 
-  waiver_cells_apart : AreApart (1 ∷ 2 ∷ []) (db.trees d.waiver_table.tree)
+  waiver_cells_apart : AreApart (1 ∷ 2 ∷ []) (labelled db d.waiver_table.tree)
   waiver_cells_apart =
       let this = d.waiver_table in
       by_unique this.name this.tree this.columns this.key this.primary this.uniques this.orders 15
@@ -122,9 +122,9 @@ module _ (s : Snapshot) (db : Database) (has : HasRows (stored_rows s) db)
       (λ x y. is_eq (waiver_order x y) ≡ false)
       (λ x y h. sym (ap is_eq (two_numbers x.duty x.step y.duty y.step)) ∙ h) s.waiver
       (none_shared stored_waiver_cells shared flips s.waiver
-      (map (cells d.waiver_table) (db.trees d.waiver_table.tree)) it.waiver.shown
+      (map (cells d.waiver_table) (labelled db d.waiver_table.tree)) it.waiver.shown
       (ascending-map (λ a b. shared a b ≡ false) (cells d.waiver_table)
-      (db.trees d.waiver_table.tree) waiver_cells_apart))
+      (labelled db d.waiver_table.tree) waiver_cells_apart))
 
   pub own_steps : HaveOwnSteps s
   own_steps = record {

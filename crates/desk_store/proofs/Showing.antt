@@ -16,7 +16,8 @@ use Rattle.desk_snapshot.specs.Tables.{snapshot_of}
 use Rattle.desk_snapshot.specs.declared.fault.AuditReport.TheVariants.{Sound}
 use Rattle.desk_snapshot.specs.declared.snapshot.Snapshot.{Snapshot}
 use Rattle.desk_sql_layout.specs.Cells as c
-use Rattle.desk_sql_layout.specs.Held.{HasRows, Holds, Showing, rows_of}
+use Rattle.desk_sql_layout.specs.Desk.{HasDesk}
+use Rattle.desk_sql_layout.specs.Held.{HasRows, Holds, Showing, labelled, rows_of}
 use Rattle.desk_sql_layout.specs.Layout as d
 use Rattle.desk_sql_scan.specs.Cells as scan
 use Rattle.desk_sql_scan.specs.Scans.{AreTables, IsSnapshot, stored_rows}
@@ -89,8 +90,8 @@ module _ (t : Tables) where
 
 -- ---- the tables
 
-module _ (db : Database) (declared : db.schema ≡ d.desk_schema) (database : IsDatabase db)
-    (stand : AreTables d.desk_schema db.trees) where
+module _ (db : Database) (declared : HasDesk db.schema) (database : IsDatabase db)
+    (stand : AreTables d.desk_schema (labelled db)) where
   steps_shown : (s : Snapshot) → IsSnapshot s db → HaveOwnSteps s
   steps_shown s it = own_steps s db (has_rows s db declared database stand it) it
 
@@ -106,8 +107,8 @@ module _ (db : Database) (declared : db.schema ≡ d.desk_schema) (database : Is
       }
 
 -- a connection that shows sound rows shows some tables
-pub some_shown : (s : State) → s.now.schema ≡ d.desk_schema → IsDatabase s.now
-    → s.committed ≡ s.now → IsSoundDesk s → AreTables d.desk_schema s.now.trees
+pub some_shown : (s : State) → HasDesk s.now.schema → IsDatabase s.now
+    → s.committed ≡ s.now → IsSoundDesk s → AreTables d.desk_schema (labelled s.now)
     → ((w : Readings) (rows : Snapshot) → IsReport w rows Sound → HasNumbers rows
     → HaveOwnSteps rows → (t : Tables) × AreShown w rows t)
     → (w : Readings) → AreRight w → ListsIds w → (t : Tables) × Showing s t × HasForms w t

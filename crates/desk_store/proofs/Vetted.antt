@@ -1,8 +1,9 @@
 -- What an examination and an audit of a connection report together.
-use Rattle.std.proofs.Common.{◌≡◌, Ok, Err, Result, IfErr, IfOk, ap, subst, ◌∙◌}
+use Rattle.std.proofs.Common.{◌≡◌, Ok, Err, Result, IfErr, IfOk, subst, sym}
 use Rattle.std.specs.Prelude.{IsTrue, OnOk}
+use Rattle.sqlite.specs.Effect.{Database as Shown}
 use Rattle.sqlite.specs.State.{State, HasCleanDisk, Survives}
-use Rattle.desk_sql_layout.specs.Layout.{desk_schema}
+use Rattle.desk_sql_layout.specs.Desk.{HasDesk}
 use Rattle.desk_sql_layout.proofs.Clean.{clean_before}
 use Rattle.desk_sql_adopt.specs.Reading.{HasStayed}
 use Rattle.desk_sql_adopt.specs.Version.{IsContent}
@@ -46,12 +47,12 @@ module _ (old between : State) where
 
   pub reason_after : {A : Type 0} (r : Result A AdoptFault) → IsContent old content.Desk
       → (IsTrue old.is_open → between.now ≡ old.now) → IfErr r IsOfAudit
-      → (between.now.schema ≡ desk_schema → IfErr r (IsFinding between)) → IfErr r (IsReason old)
+      → (HasDesk between.now.schema → IfErr r (IsFinding between)) → IfErr r (IsReason old)
   reason_after (Ok x) desk same only told = tt
   reason_after (Err (Unsound f)) desk same only told = (
     desk,
     λ is. reports_before (report.Unsound f) (same is)
-        (told (ap (λ d. d.schema) (same is) ∙ desk.1)),
+        (told (subst (λ (d : Shown). HasDesk d.schema) (sym (same is)) desk.1)),
   )
   reason_after (Err (Fault Memory)) desk same only told = tt
   reason_after (Err (Fault (Store Database))) desk same only told = tt
@@ -61,10 +62,10 @@ module _ (old between : State) where
 
   pub passed_after : {A : Type 0} (r : Result A AdoptFault) → IsContent old content.Desk
       → between.now ≡ old.now
-      → (between.now.schema ≡ desk_schema → OnOk r (IsSoundDesk between))
+      → (HasDesk between.now.schema → OnOk r (IsSoundDesk between))
       → OnOk r (IsSoundDesk old)
   passed_after (Ok x) desk same told = sound_before same
-      (told (ap (λ d. d.schema) same ∙ desk.1))
+      (told (subst (λ (d : Shown). HasDesk d.schema) (sym same) desk.1))
   passed_after (Err e) desk same told = tt
 
   -- what is kept beside the rows is kept beside those that were shown first

@@ -9,11 +9,15 @@ use Rattle.desk_model.specs.declared.command.Fault.TheVariants.{Store}
 use Rattle.desk_model.specs.declared.command.StoreFault.TheVariants.{Rows}
 use Rattle.desk_access.specs.Seen.{Seen}
 use Rattle.desk_sql_layout.specs.Held.{Showing, Stands}
+use Rattle.desk_sql_layout.specs.Layout.{desk_schema}
+use Rattle.desk_sql_adopt.specs.Older.{older_tables}
 use Rattle.desk_sql_adopt.specs.Reading.{IsSpared, HasStayed}
+use Rattle.desk_sql_adopt.specs.declared.older.OlderVersion.{OlderVersion}
 use Rattle.desk_sql_adopt.specs.declared.version.Content.{Content}
 use Rattle.desk_sql_adopt.specs.declared.version.Content.TheVariants as content
 use Rattle.desk_sql_adopt.specs.Version.{IsContent}
 use Rattle.desk_snapshot.specs.declared.fault.AuditReport.TheVariants as report
+use Rattle.desk_sql_scan.specs.Scans.{AreTables}
 use Rattle.desk_beside.specs.Beside.{IsBeside, forms_by}
 use Rattle.desk_beside.specs.declared.beside.Audited.{Audited}
 use Rattle.desk_beside.specs.declared.beside.Audited.TheVariants as audited
@@ -57,6 +61,10 @@ IsOfAudit _ = ⊥
 abbrev pub HoldsSome : State → Seen Trees → Type 0
 HoldsSome s desk = (w : Readings) → AreRight w → (t : Tables) × Showing s t × desk.holds t
 
+-- the rows of each table of an older version are in the order of their rowids
+abbrev pub AreOlderTables : OlderVersion → Trees → Type 0
+AreOlderTables version = AreTables (record desk_schema { tables = older_tables version })
+
 -- what it finds is the report on the rows
 abbrev pub IsFinding : State → AdoptFault → Type 0
 IsFinding s (Unsound fault) = Reports s (report.Unsound fault)
@@ -77,6 +85,7 @@ adoption_of (Ok (audited.Sound kept)) = Ok kept
 adoption_of (Ok (audited.Unsound fault)) = Err (Unsound fault)
 adoption_of (Err fault) = Err (Fault fault)
 
+-- why no desk is created: the database has tables already, or a fault
 abbrev pub creation_of : Refused → CreateFault
 creation_of refused.NotEmpty = create.NotEmpty
 creation_of (refused.Fault fault) = create.Fault fault

@@ -10,7 +10,7 @@ use Rattle.desk_model.specs.declared.command.Command.{Command}
 use Rattle.desk_model.specs.declared.command.Fault.{Fault}
 use Rattle.desk_access.specs.Follows.{Follows}
 use Rattle.desk_access.specs.Seen.{Looked, OfRows, Seen}
-use Rattle.desk_sql_layout.specs.Held.{rows_of, seen_of}
+use Rattle.desk_sql_layout.specs.Held.{labelled, rows_of, seen_of}
 use Rattle.desk_sql_layout.specs.Causes.{AreWritten}
 use Rattle.desk_sql_write.specs.Taking.{CanStand, HasRoom, IsCaused, rows_in}
 use Rattle.desk_store.specs.declared.fault.AdoptFault.{AdoptFault}
@@ -38,6 +38,7 @@ abbrev pub FindsIf : {Store A : Type 0} → (Tables → Type 0) → (Store → S
     → Store → Store → Result A Fault → (A → Tables → Type 0) → Type 0
 FindsIf Given seen conn old new = FindsGiven Given (seen old) (seen new) (conn old) (conn new)
 
+-- a look-up that relies on nothing but the rows
 abbrev pub Finds : {Store A : Type 0} → (Store → Seen Trees) → (Store → State) → Store → Store
     → Result A Fault → (A → Tables → Type 0) → Type 0
 Finds seen conn old new = FindsGiven (λ t. Unit {0}) (seen old) (seen new) (conn old) (conn new)
@@ -50,7 +51,7 @@ pub record CommitFailsFor (change : Change) (seen : Seen Trees) (old new : State
   pub cause : HasCleanDisk new → IsTrue old.is_open → old.step_limit ≡ None → (t : Tables)
       → seen.holds t → AreWritten t → Follows change t
       → CanStand (rows_of t) → CanStand (rows_of (applied change t))
-      → HasRoom (rows_in change) old.now.trees → IsCaused old new fault
+      → HasRoom (rows_in change) (labelled old.now) → IsCaused old new fault
 
 -- they are the tables of a recorded history
 pub record AreRecorded (t : Tables) : Type 0 where

@@ -13,6 +13,7 @@ use Rattle.desk_sql_cache.specs.Found.{AreFound}
 use Rattle.desk_sql_cache.specs.declared.found.Found.{Found}
 use Rattle.desk_beside.specs.declared.counts.Counts.{Counts}
 
+-- what a store knows of its rows: these counts, and the forms of the catalogue in force
 abbrev pub known_by : Counts → List (List ℕ) → Known
 known_by counts forms = record {
   revisions = counts.revisions;

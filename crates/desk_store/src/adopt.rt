@@ -7,7 +7,7 @@ ghost use Rattle.desk_access.specs.Seen.{OfRows};
 ghost use Rattle.desk_beside.specs.Beside.{IsBeside, report_of};
 ghost use Rattle.desk_core.specs.Desks.{InHistory};
 ghost use Rattle.desk_sql_layout.specs.Held.{seen_of};
-ghost use Rattle.desk_sql_layout.specs.Layout.{desk_schema};
+ghost use Rattle.desk_sql_layout.specs.Desk.{HasDesk};
 ghost use Rattle.desk_texts.specs.Right.{AreRight};
 ghost use Rattle.desk_sql_layout.specs.Causes.{HasCauseIf};
 ghost use Rattle.desk_sql_adopt.specs.Reading.{HasRead, HasStayed};
@@ -71,7 +71,7 @@ fn ensure_desk<S: Alter>(conn: &mut Connection<S>) -> Result<(), AdoptFault>
 fn audit_desk<S: Alter>(alloc: Global, conn: &mut Connection<S>) -> Result<Audited, Fault>
     requires { conn.old.in_transaction ≡ false }
     ensures told { HasCleanDisk (state S.Store conn.new)
-        → (state S.Store conn.old).now.schema ≡ desk_schema
+        → HasDesk (state S.Store conn.old).now.schema
         → IfOk result (IsFoundIn (state S.Store conn.old)) }
     ensures kept { IfOk result (λ found. OfRows (IsBesideIfSound found)
         (seen_of (state S.Store conn.old)) (seen_of (state S.Store conn.new))) }
@@ -100,10 +100,10 @@ fn read_sound<S: Alter>(alloc: Global, conn: &mut Connection<S>) -> Result<Besid
         (seen_of (state S.Store conn.old)) (seen_of (state S.Store conn.new))) }
     ensures only { IfErr result IsOfAudit }
     ensures told { HasCleanDisk (state S.Store conn.new)
-        → (state S.Store conn.old).now.schema ≡ desk_schema
+        → HasDesk (state S.Store conn.old).now.schema
         → IfErr result (IsFinding (state S.Store conn.old)) }
     ensures passed { HasCleanDisk (state S.Store conn.new)
-        → (state S.Store conn.old).now.schema ≡ desk_schema
+        → HasDesk (state S.Store conn.old).now.schema
         → OnOk result (IsSoundDesk (state S.Store conn.old)) }
     ensures stayed { OnOk result (HasStayed (state S.Store conn.old) (state S.Store conn.new)) }
     ensures left { IfErr result (IsLeft (state S.Store conn.old) (state S.Store conn.new)) }

@@ -8,7 +8,7 @@ ghost use Rattle.desk_model.specs.Readings.{Readings};
 ghost use Rattle.desk_model.specs.Tables.{Tables, tables};
 ghost use Rattle.desk_access.specs.Seen.{Looked, OfRows, Same};
 ghost use Rattle.desk_core.specs.Desks.{InHistory};
-ghost use Rattle.desk_sql_layout.specs.Held.{Holds, Stands, known_of, seen_of};
+ghost use Rattle.desk_sql_layout.specs.Held.{Holds, Stands, known_of, labelled, seen_of};
 ghost use Rattle.desk_sql_layout.specs.Layout.{desk_schema, no_schema};
 ghost use Rattle.desk_tally.specs.Kept.{AreKept};
 ghost use Rattle.desk_texts.specs.Right.{AreRight};
@@ -22,7 +22,7 @@ ghost use Rattle.desk_sql_adopt.specs.Version.{IsContent};
 ghost use Rattle.desk_sql_adopt.specs.declared.older.OlderVersion.{OlderVersion as Version};
 ghost use Rattle.desk_sql_scan.specs.Scans.{AreTables};
 ghost use Rattle.desk_sql_migrate.specs.Migrating.{InOlderHistory, IsFault as IsMigrateFault, IsLeft as IsMigrateLeft, IsReason as IsMigrateReason, LeavesSome, Migrated};
-ghost use Rattle.desk_store.specs.Adopting.{HasForms, HoldsSome, IsEmpty, IsFault, IsLeft, IsReason, StandsEmpty, creation_of};
+ghost use Rattle.desk_store.specs.Adopting.{AreOlderTables, HasForms, HoldsSome, IsEmpty, IsFault, IsLeft, IsReason, StandsEmpty, creation_of};
 ghost use Rattle.desk_store.specs.Auditing.{IsAudit, IsSoundDesk};
 ghost use Rattle.desk_store.specs.Causes.{AdoptFailsFor, MissesIf};
 ghost use Rattle.desk_store.specs.Counting.{known_by};
@@ -139,12 +139,13 @@ impl<S: Alter> SqlDesk<S> {
     /// only read.
     ///
     /// It is refused as `BadVersion` if its table `meta` gives a version other than 3, whatever
-    /// else is in it; as `NotADesk` if no table `meta` gives a single version, or if not all tables
-    /// of a desk are declared as `create` declares them, in its order, or if there is a table, an
-    /// index or a view besides them; and as `Unsound` if `audit_connection` finds that its tables
-    /// aren't sound. After these the connection is as it was. The fault is that no memory was left,
-    /// that the database failed, or that a desk's tables gave rows that no desk has: a cell has a
-    /// value of another kind than its column has in a desk, or sound rows have a number below 0.
+    /// else is in it; as `NotADesk` if no table `meta` has a column `version`, or if not all tables of
+    /// a desk are declared as `create` declares them, whatever else is in the database (also if any
+    /// table has a foreign key, or if an index of one of a desk's could refuse a row); and as
+    /// `Unsound` if `audit_connection` finds that its tables aren't sound. After these the connection
+    /// is as it was. The fault is that no memory was left, that the database failed, or that a desk's
+    /// tables gave rows that no desk has: a cell has a value of another kind than its column has in a
+    /// desk, or sound rows have a number below 0.
     ///
     /// The tables of a recorded history are sound, so for them the only error is a fault. Whatever
     /// sound rows the connection shows are the desk's rows, so a refusal or a fault leaves them.
@@ -171,7 +172,7 @@ impl<S: Alter> SqlDesk<S> {
             → IsTrue (state S.Store conn).is_open → IsSoundDesk (state S.Store conn)) }
         ensures some { IfOk result (λ desk. HasCleanDisk (state S.Store desk.desk.store.conn)
             → IsTrue (state S.Store conn).is_open
-            → AreTables desk_schema (state S.Store conn).now.trees
+            → AreTables desk_schema (labelled (state S.Store conn).now)
             → HoldsSome (state S.Store conn) (⟦<SqlDesk<S> as Desk>⟧.seen desk)) }
         ensures reason { IfErr result (λ e. HasCleanDisk (state S.Store e.1)
             → IsReason (state S.Store conn) e.0) }
@@ -199,7 +200,8 @@ impl<S: Alter> SqlDesk<S> {
     ///
     /// It is refused as `migrate_tables` says. After a refusal the database is as it was, and after a
     /// fault it shows what it showed, although a stop may leave the migrated tables. After `Ok` a stop
-    /// leaves the migrated tables and no others.
+    /// leaves the migrated tables and no others. The desk then has some tables, even if no command
+    /// made the rows, provided that those of each older table are in the order of their rowids.
     pub fn migrate(
         alloc: Global,
         conn: Connection<S>,
@@ -215,6 +217,10 @@ impl<S: Alter> SqlDesk<S> {
         ensures holds { IfOk result (λ made. (version : Version) → InOlderHistory version (λ w h.
             (made.1 ≡ version) × (⟦<SqlDesk<S> as Desk>⟧.seen made.0).holds (tables w h))
             (state S.Store conn) (state S.Store made.0.desk.store.conn)) }
+        ensures some { IfOk result (λ made. HasCleanDisk (state S.Store made.0.desk.store.conn)
+            → AreOlderTables made.1 (labelled (state S.Store conn).now)
+            → HoldsSome (state S.Store made.0.desk.store.conn)
+            (⟦<SqlDesk<S> as Desk>⟧.seen made.0)) }
         ensures stop { IfOk result (λ made. HasCleanDisk (state S.Store made.0.desk.store.conn)
             → (left : Trees) → (⟦<SqlDesk<S> as Desk>⟧.seen made.0).leaves left
             → left ≡ (state S.Store made.0.desk.store.conn).now.trees) }
@@ -233,7 +239,11 @@ impl<S: Alter> SqlDesk<S> {
             (λ e. IsMigrateLeft (state S.Store conn) (state S.Store e.1) e.0) }
         ensures idle { IfErr result (λ e. e.1.in_transaction ≡ false) }
     {
+        desk_beside::laws::sound_rows_are_tables();
+        desk_history_laws::right_readings_list_ids();
         let mut conn = conn;
+        // (its contract says that a sound database is shown)
+        let _schema = conn.schema();
         match migrate_tables(alloc, &mut conn) {
             Ok((version, kept)) => Ok((SqlDesk::over(alloc, conn, kept), version)),
             Err(fault) => Err((fault, conn)),

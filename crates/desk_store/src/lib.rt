@@ -26,6 +26,7 @@ mod store;
 pub use audit::audit_connection;
 pub use desk::SqlDesk;
 pub use desk_beside::Counts;
+pub use desk_sql_adopt::has_desk;
 pub use desk_sql_migrate::MigrateFault;
 pub use fault::{AdoptFault, CreateFault};
 pub use store::SqlStore;

@@ -1,15 +1,16 @@
-use Rattle.std.proofs.Common.{◌∙◌, rules, subst, sym}
+use Rattle.std.proofs.Common.{◌∙◌, rules}
 use Rattle.sqlite.specs.Held.{state}
 use Rattle.sqlite.specs.State.{HasCleanDisk, Survives, FailsToQuery, CommitsShowing}
 use Rattle.sqlite.specs.Values.{bound}
 use Rattle.desk_sql_layout.specs.Held.{seen_of}
-use Rattle.sqlite.specs.Given.{IsPlain}
 use Rattle.desk_sql_layout.specs.Faults.{fault_by}
 use Rattle.desk_sql_layout.specs.Streamed.{CanBeRead}
 use Rattle.desk_sql_layout.proofs.Calls.{failed}
 use Rattle.desk_sql_layout.proofs.Causes.{any_cause, err_cause, failed_cause, memory_err}
+use Rattle.desk_sql_layout.proofs.Causes.{plain_text}
 use Rattle.desk_sql_layout.proofs.Chains.{same_then_kept, same_then_same}
-use Rattle.desk_sql_layout.proofs.Streaming.{begun_open, begun_read, begun_same, read_all, read_failed, read_on}
+use Rattle.desk_sql_layout.proofs.Streaming.{begun_open, begun_read, begun_same, read_all}
+use Rattle.desk_sql_layout.proofs.Streaming.{read_failed, read_on}
 use Rattle.desk_sql_layout.proofs.query.read_rows.Goals as goal
 
 pub returns-in-Err : goal.returns-in-Err
@@ -66,7 +67,7 @@ returns-in_err-row g c =
       err = λ plain. let kept = same_then_kept first old new (c.rows.invariant.same plain)
           step.kept in search rules;
       cause = λ asked.
-          let plain = subst IsPlain (sym asked.is) asked.plain in
+          let plain = plain_text asked in
           let has = read_failed g.S.Store g.T.ReadRow.cells g.T.ReadRow.has_days sql params asked
           c.args.conn.now
           c.rows.rows.conn.now c.read_next.new.rows.conn.now c.rows.found.items

@@ -1,12 +1,10 @@
 use Rattle.std.proofs.Common.{◌≡◌, false, IsTrue}
 use Rattle.sqlite.specs.Held.{state}
-use Rattle.sqlite.specs.Listing.{understood}
 use Rattle.sqlite.specs.State.{HasCleanDisk}
 use Rattle.sqlite.specs.Values.{bound}
-use Rattle.sqlite.proofs.Callers.{IsPlain}
 use Rattle.desk_access.specs.Seen.{Same}
 use Rattle.desk_sql_layout.specs.Held.{seen_of}
-use Rattle.desk_sql_layout.specs.Layout.{desk_schema}
+use Rattle.desk_sql_layout.specs.Causes.{IsPlainText}
 use Rattle.desk_sql_layout.proofs.Streaming.{HasRead}
 use Rattle.desk_sql_layout.proofs.query.read_rows.Given as goal
 
@@ -17,9 +15,9 @@ invariant-rows g l = record {
   limit : l.rows.conn.now.step_limit ≡ l.fn.conn.step_limit;
   opened : HasCleanDisk (state g.S.Store l.rows.conn.now)
       → IsTrue (state g.S.Store l.fn.conn).is_open;
-  same : IsPlain (understood desk_schema l.sql)
+  same : IsPlainText l.sql
       → Same (seen_of (state g.S.Store l.fn.conn)) (seen_of (state g.S.Store l.rows.conn.now));
-  read : IsPlain (understood desk_schema l.sql)
+  read : IsPlainText l.sql
       → HasRead g.S.Store g.T.ReadRow.cells l.sql (bound l.params) l.fn.conn l.rows.conn.now
       l.found.items;
 }

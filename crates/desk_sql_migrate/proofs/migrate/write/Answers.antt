@@ -22,28 +22,29 @@ pub returns-in-Ok-clause-ends : goal.returns-in-Ok-clause-ends
 returns-in-Ok-clause-ends g c = committed_since g.S.Store c.args.conn.now c.prepare.new.tx.conn.now
     c.transaction-tx.ensures.begun (c.is_autocommit-settled.ensures.settled (search rules))
     c.prepare.ensures.survives c.commit.new.self.0 c.conn-in-Sound-1.given.0 (search rules)
-    c.args.version Sound (rw c.in-Sound.is at c.in_ok-found.ensures.prepared) refl
+    (λ is. (c.schema-live.ensures.live is).0) c.args.version Sound (rw c.in-Sound.is at c.in_ok-found.ensures.prepared) refl
     c.commit.ensures.survives (λ clean. (c.in-Ok.ensures.ok clean).1)
 
 pub returns-in-Ok-clause-left : goal.returns-in-Ok-clause-left
 returns-in-Ok-clause-left g c = left_since g.S.Store c.args.conn.now c.prepare.new.tx.conn.now
     c.transaction-tx.ensures.begun (c.is_autocommit-settled.ensures.settled (search rules))
     c.prepare.ensures.survives c.commit.new.self.0 c.conn-in-Sound-1.given.0 (search rules)
-    c.args.version Sound (rw c.in-Sound.is at c.in_ok-found.ensures.prepared) refl
+    (λ is. (c.schema-live.ensures.live is).0) c.args.version Sound (rw c.in-Sound.is at c.in_ok-found.ensures.prepared) refl
     c.commit.ensures.survives
 
 pub returns-in-Err-clause-left : goal.returns-in-Err-clause-left
 returns-in-Err-clause-left g c = failed_since g.S.Store c.args.conn.now c.prepare.new.tx.conn.now
     c.transaction-tx.ensures.begun (c.is_autocommit-settled.ensures.settled (search rules))
     c.prepare.ensures.survives c.commit.new.self.0 c.conn-in-Sound-1.given.0 (search rules)
-    c.args.version Sound (rw c.in-Sound.is at c.in_ok-found.ensures.prepared) refl
+    (λ is. (c.schema-live.ensures.live is).0) c.args.version Sound (rw c.in-Sound.is at c.in_ok-found.ensures.prepared) refl
     c.commit.ensures.survives c.in-Err.error c.in-Err.ensures.err
 
 pub returns-in-Unsound-clause-ends : goal.returns-in-Unsound-clause-ends
 returns-in-Unsound-clause-ends g c = unsound_since g.S.Store c.args.conn.now
     c.prepare.new.tx.conn.now c.transaction-tx.ensures.begun
     (c.is_autocommit-settled.ensures.settled (search rules)) c.prepare.ensures.survives
-    c.rollback.new.self.0 c.conn-in-Unsound-1.given.0 (search rules) c.args.version
+    c.rollback.new.self.0 c.conn-in-Unsound-1.given.0 (search rules)
+    (λ is. (c.schema-live.ensures.live is).0) c.args.version
     (Unsound c.in-Unsound.fault) (rw c.in-Unsound.is at c.in_ok-found.ensures.prepared) refl
     c.rollback.ensures.survives
 
@@ -51,7 +52,8 @@ pub returns-in-Unsound-clause-left : goal.returns-in-Unsound-clause-left
 returns-in-Unsound-clause-left g c = dropped_since g.S.Store c.args.conn.now
     c.prepare.new.tx.conn.now c.transaction-tx.ensures.begun
     (c.is_autocommit-settled.ensures.settled (search rules)) c.prepare.ensures.survives
-    c.rollback.new.self.0 c.conn-in-Unsound-1.given.0 (search rules) c.args.version
+    c.rollback.new.self.0 c.conn-in-Unsound-1.given.0 (search rules)
+    (λ is. (c.schema-live.ensures.live is).0) c.args.version
     (Unsound c.in-Unsound.fault) (rw c.in-Unsound.is at c.in_ok-found.ensures.prepared) refl
     c.rollback.ensures.survives c.rollback.ensures.undone
 

@@ -1,8 +1,7 @@
-use Rattle.std.proofs.Common.{◌≡◌, ◌∙◌, false, ap, sym}
+use Rattle.std.proofs.Common.{◌∙◌, ap, sym}
 use Rattle.desk_model.specs.Tables.{tables}
 use Rattle.desk_sql_adopt.proofs.DeskColumns.{desk_has_columns}
 use Rattle.desk_sql_adopt.specs.Columns.{has_columns}
-use Rattle.desk_sql_layout.specs.Layout.{desk_schema}
 use Rattle.desk_snapshot.specs.Tables.{snapshot_of}
 use Rattle.desk_sql_migrate.proofs.Ends.{is_sound_as}
 use Rattle.desk_store.proofs.audit.audit_connection.Goals as goal
@@ -25,9 +24,8 @@ returns-clause-sound g c = λ w right honest h ok held.
 pub returns-then-not-has_columns-clause-cause : goal.returns-then-not-has_columns-clause-cause
 returns-then-not-has_columns-clause-cause g c = record {
   cause = λ clean opened unlimited t holds written is.
-      let none : has_columns desk_schema ≡ false =
-      ap has_columns (sym (holds clean opened).holds.rows.declared)
-      ∙ ap has_columns (sym c.schema.ensures.value) ∙ sym c.has_columns.ensures
+      let none = ap has_columns (sym c.schema.ensures.value) ∙ sym c.has_columns.ensures
       ∙ c.if-not-has_columns.true in
-      absurd (let no = sym desk_has_columns ∙ none in cc);
+      absurd (let no = sym (desk_has_columns _ (holds clean opened).holds.rows.declared) ∙ none
+      in cc);
 }
