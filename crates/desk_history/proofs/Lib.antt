@@ -10,6 +10,7 @@ mod Opening
 pub mod Holding
 pub mod Moving
 mod Withdrawing
+pub mod Ready
 pub mod Freezing
 pub mod Steps
 pub mod Queries
@@ -32,3 +33,4 @@ mod Raising
 mod Alone
 mod Full
 mod Lines
+mod ReadyLaws

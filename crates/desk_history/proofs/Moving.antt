@@ -138,6 +138,12 @@ changes-numbered w h q n (x ∷ xs) =
       | inr e ↦ rw (e.0, range_next n q (length xs) e.1) refl
     ])
 
+-- where it is raised
+pub changes-found : (w : Readings) (h : List Command) (n : ℕ)
+    → in_range 1 n (length (raised w h)) ≡ true
+    → filter (is_change_of n) (all_changes w h) ≡ changes w h n
+changes-found w h n e = changes-numbered w h n 1 (raised w h) ∙ rw e refl
+
 pub steps-numbered : (w : Readings) (h : List Command) (q n : ℕ) (xs : List Owed)
     → length (filter (is_change_of q)
     (flat_map (λ (d : ℕ × Owed). changes w h d.0) (enumerate_from n xs)))

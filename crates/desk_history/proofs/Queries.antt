@@ -1,6 +1,6 @@
 -- The answers to queries, from tables.
 use Rattle.std.proofs.Common.{◌≡◌, ℕ, ◌+◌, ◌≤◌, Bool, true, false, List, [], ◌∷◌, Some}
-use Rattle.std.proofs.Common.{None, length, map, refl, sym, ap, ◌∙◌, arith}
+use Rattle.std.proofs.Common.{Option, None, length, map, refl, sym, ap, ◌∙◌, arith}
 use Rattle.std.specs.Prelude.{if◌then◌else◌, filter, is_some, cond}
 use Rattle.std.specs.List.{enumerate_from, flat_map}
 use Rattle.std.specs.Option.{option_map_or}
@@ -16,16 +16,19 @@ use Rattle.desk_model.specs.declared.row.Owed.{Owed}
 use Rattle.desk_model.specs.Raised.{raised, chosen_in, shipped}
 use Rattle.desk_model.specs.Moves.{duties, duty_row, changes, place, all_changes}
 use Rattle.desk_model.specs.Tables.{Tables, tables, release_row, release_rows}
-use Rattle.desk_model.specs.Answers.{conclusion}
+use Rattle.desk_model.specs.Answers.{conclusion, release_state}
 use Rattle.desk_model.specs.Bills.{bill_answer, bill_of}
 use Rattle.desk_model.specs.Queries.{queried, listing, duty_line, is_open_of, open_duties}
-use Rattle.desk_model.specs.Queries.{open_duty, package_line, duties_of, totals_of}
+use Rattle.desk_model.specs.Queries.{open_duty, package_line, duties_of, totals_of, unready_duties}
+use Rattle.desk_model.specs.Ready.{ready_answer}
 use Rattle.desk_model.specs.Moves.{duty_at}
-use Rattle.desk_history.specs.FromTables.{queried_from, choice_found, duty_found, open_found}
-use Rattle.desk_history.proofs.Lookups.{is_found, release_found-tables, rules-found}
+use Rattle.desk_history.specs.FromTables.{queried_from, choice_found, duty_found, line_found}
+use Rattle.desk_history.specs.FromTables.{open_found, unready_found}
+use Rattle.desk_history.proofs.Lookups.{is_found, release_found-tables, rules-found, state-found}
+use Rattle.desk_history.proofs.Ready.{holds_back, unready-found, unready-once}
 use Rattle.desk_history.proofs.Chosen.{choice-found}
 use Rattle.desk_history.proofs.Obstacles.{wanting_told}
-use Rattle.desk_history.proofs.Moving.{changes-numbered, in_range, duty-found, known_at}
+use Rattle.desk_history.proofs.Moving.{changes-found, in_range, duty-found, known_at}
 use Rattle.desk_history.proofs.Opening.{is_some-map}
 use Rattle.desk_model.specs.declared.row.DutyRow.{DutyRow}
 use Rattle.desk_model.specs.declared.row.PackageRow.{PackageRow}
@@ -40,12 +43,6 @@ use Rattle.desk_model.specs.declared.command.Command.{Command}
 
 in_all : (n l k : ℕ) → 1 ≤ n → n + (k + 1) ≡ 1 + l → in_range 1 n l ≡ true
 in_all n l k le e = grind (arith, nat_tests)
-
--- the changes of a duty that is raised are its rows in the table
-pub changes-found : (w : Readings) (h : List Command) (n : ℕ)
-    → in_range 1 n (length (raised w h)) ≡ true
-    → filter (is_change_of n) (all_changes w h) ≡ changes w h n
-changes-found w h n e = changes-numbered w h n 1 (raised w h) ∙ rw e refl
 
 -- the lines of some duties, each with its changes
 told_from : {A : Type 0} (tell : List ChangeRow → DutyRow → A) (p : DutyRow → Bool) (w : Readings)
@@ -126,6 +123,25 @@ bill_told w h r =
     ≡ (if b then told (release_row h r) else answered.Refused why.UnknownRelease))
     [ true ↦ refl | false ↦ refl ])
 
+-- the lines of the duties that keep a release back
+unready-lines : (w : Readings) (h : List Command) (r : List ℕ) (day : Option (List ℕ))
+    → map (line_found (tables w h)) (unready_duties w h r day)
+    ≡ map (duty_line (changes w h)) (unready_duties w h r day)
+unready-lines w h r day =
+    ap (map (line_found (tables w h))) (unready-once w h r day)
+    ∙ (told_from (λ rows row. duty_line (λ q. rows) row) (holds_back w h r day) w h 1
+    (raised w h) (omega arith) refl
+    ∙ ap (map (duty_line (changes w h))) (sym (unready-once w h r day)))
+
+ready_told : (w : Readings) (h : List Command) (r : List ℕ) (day : Option (List ℕ))
+    → queried_from w (tables w h) (query.Ready r day) ≡ queried w h (query.Ready r day)
+ready_told w h r day =
+    ap (λ state. ready_answer day state
+    (map (line_found (tables w h)) (unready_found (tables w h) r day))) (state-found w h r)
+    ∙ (ap (λ rows. ready_answer day (release_state h r) (map (line_found (tables w h)) rows))
+    (unready-found w h r day)
+    ∙ ap (ready_answer day (release_state h r)) (unready-lines w h r day))
+
 pub query-answer : (w : Readings) (h : List Command) (q : Query)
     → queried_from w (tables w h) q ≡ queried w h q
 query-answer w h (query.Duties r) =
@@ -155,6 +171,7 @@ query-answer w h query.Documents = refl
 query-answer w h query.OpenDuties = λ i. answered.OpenDuties
     (flat_map (λ row. open-found w h row i) (release_rows h))
 query-answer w h (query.Wanting r) = wanting_told w h r
+query-answer w h (query.Ready r day) = ready_told w h r day
 
 pub query_at_history : (w : Readings) (h : List Command) (q : Query) (t : Tables) → t ≡ tables w h
     → queried_from w t q ≡ queried w h q

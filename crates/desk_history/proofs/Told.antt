@@ -17,7 +17,7 @@ use Rattle.desk_model.specs.States.{state_after}
 use Rattle.desk_history.specs.Laws.{IsToldBy}
 use Rattle.desk_history.proofs.Members.{from_map}
 use Rattle.desk_history.proofs.Moving.{in_range, range_here}
-use Rattle.desk_history.proofs.Queries.{changes-found}
+use Rattle.desk_history.proofs.Moving.{changes-found}
 use Rattle.desk_model.specs.declared.row.DutyRow.{DutyRow}
 use Rattle.desk_model.specs.declared.command.Command.{Command}
 use Rattle.desk_model.specs.declared.command.Command.TheVariants.{Freeze}

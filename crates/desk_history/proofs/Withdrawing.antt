@@ -38,7 +38,7 @@ use Rattle.desk_base.proofs.Numbers.{same_number}
 
 -- Lists of duties with their numbers
 
-abbrev Found : ℕ → List Owed → ℕ × Owed → Type 0
+abbrev pub Found : ℕ → List Owed → ℕ × Owed → Type 0
 Found n xs d = find (λ (e : ℕ × Owed). e.0 == d.0) (enumerate_from n xs) ≡ Some d
 
 here_or_later : (n k : ℕ) → (n == k) ≡ true → n ≤ k
@@ -67,7 +67,7 @@ later_found : (n : ℕ) (x : Owed) (xs : List Owed) (d : ℕ × Owed) → Found 
 later_found n x xs d e = rw (other_number n d.0 (beyond (n + 1) d.0 xs d e)) e
 
 -- tests that agree on the duties that are there
-filter_found : (f g : ℕ × Owed → Bool) (n : ℕ) (xs : List Owed)
+pub filter_found : (f g : ℕ × Owed → Bool) (n : ℕ) (xs : List Owed)
     → ((d : ℕ × Owed) → Found n xs d → f d ≡ g d)
     → filter f (enumerate_from n xs) ≡ filter g (enumerate_from n xs)
 filter_found f g n [] same = refl
@@ -93,7 +93,7 @@ mapped_found f g test n (x ∷ xs) same =
       | false ↦ rest
     ]
 
-filter-filter : {A : Type 0} (f g : A → Bool) (xs : List A)
+pub filter-filter : {A : Type 0} (f g : A → Bool) (xs : List A)
     → filter f (filter g xs) ≡ filter (λ x. g x && f x) xs
 filter-filter f g [] = refl
 filter-filter f g (x ∷ xs) =
@@ -135,7 +135,7 @@ rows-found : (w : Readings) (h : List Command) (q : ℕ) → in_range 1 q (lengt
     → filter (is_change_of q) (all_changes w h) ≡ change_rows q (moves w h q)
 rows-found w h q here = changes-numbered w h q 1 (raised w h) ∙ rw here refl
 
-end-found : (w : Readings) (h : List Command) (d : ℕ × Owed) → Found 1 (raised w h) d
+pub end-found : (w : Readings) (h : List Command) (d : ℕ × Owed) → Found 1 (raised w h) d
     → end_found (tables w h) d.0 ≡ end_after (moves w h d.0)
 end-found w h d e =
     ap (λ (rows : List ChangeRow). option_and_then (λ (change : ChangeRow). change.last_day)

@@ -28,6 +28,7 @@ use Rattle.desk_model.specs.Answers.{move_answer, withdraw_answer, close_answer,
 use Rattle.desk_model.specs.Answers.{adopt_answer, walk, is_recorded}
 use Rattle.desk_model.specs.Obstacles.{Obstacles, package_refusals, shipped_refusals, wanting_answer}
 use Rattle.desk_model.specs.Queries.{document_line, duty_line, open_duties, package_line, release_line, totals_of}
+use Rattle.desk_model.specs.Ready.{keeps_back, ready_answer}
 use Rattle.desk_model.specs.Bills.{bill_answer, bill_of}
 use Rattle.desk_model.specs.Findings.{findings_answer}
 use Rattle.desk_model.specs.Listings.{Listing, alternatives_answer, cheapest_answer, term_cost}
@@ -68,15 +69,19 @@ use Rattle.desk_model.specs.declared.command.Query.TheVariants as query
 
 -- What is looked up
 
+-- the row of a release, if it was opened
 abbrev pub release_found : Tables → List ℕ → Option ReleaseRow
 release_found t r = find (is_release r) t.releases
 
+-- the state of a release, if it was opened
 abbrev pub state_found : Tables → List ℕ → Option ReleaseState
 state_found t r = option_map (λ row. row.state) (release_found t r)
 
+-- the form of a release; empty if it wasn't opened, and no catalogue has an empty form
 abbrev pub form_found : Tables → List ℕ → List ℕ
 form_found t r = unwrap_or (option_map (λ row. row.form) (release_found t r)) []
 
+-- a rule, without the revision that has it
 abbrev pub rule_of : RuleRow → Rule
 rule_of row = record { term = row.term; form = row.form; spelled = row.spelled; codes = row.codes }
 
@@ -96,18 +101,23 @@ holder_found t d p = holder t.releases t.choice d p
 abbrev pub adoption_count : Tables → ℕ → ℕ
 adoption_count t d = length (filter (is_adoption_in d) t.adoption)
 
+-- the terms chosen for a package of a document in a release, in their order
 abbrev pub terms_found : Tables → List ℕ → ℕ → List ℕ → List (List ℕ)
 terms_found t r d p = map (λ row. row.term) (filter (is_choice_of r d p) t.choice)
 
+-- the same for the row of a package
 abbrev pub choice_found : Tables → List ℕ → PackageRow → List (List ℕ)
 choice_found t r p = terms_found t r p.document p.id
 
+-- the packages that a release ships, by document and id
 abbrev pub shipped_found : Tables → List ℕ → List PackageRow
 shipped_found t r = shipped_of (attached_to t.attached r) t.packages
 
+-- the duty with a number
 abbrev pub duty_found : Tables → ℕ → Option DutyRow
 duty_found t q = find (is_duty q) t.duty
 
+-- how many changes a duty has
 abbrev pub steps_found : Tables → ℕ → ℕ
 steps_found t q = length (filter (is_change_of q) t.changes)
 
@@ -141,6 +151,7 @@ ends t day row = has_ended day row.state (end_found t row.number)
 abbrev pub ended_found : Tables → List ℕ → List Standing
 ended_found t day = map (standing_found t) (filter (ends t day) t.duty)
 
+-- a withdrawal moves each duty of its release but those that are met
 abbrev pub is_unmet : Standing → Bool
 is_unmet s = not (is_met s.state)
 
@@ -149,6 +160,7 @@ abbrev pub owed_found : Readings → Tables → List ℕ → List Owed
 owed_found w t r = owed_for w t.adoption (rules_found t) (form_found t r) r (choice_found t r)
     (shipped_found t r)
 
+-- the terms that a freeze records
 abbrev pub frozen_found : Readings → Tables → List ℕ → List FrozenRow
 frozen_found w t r = frozen_for w t.adoption (rules_found t) (form_found t r) r (choice_found t r)
     (shipped_found t r)
@@ -157,17 +169,22 @@ frozen_found w t r = frozen_for w t.adoption (rules_found t) (form_found t r) r 
 abbrev pub stands_document : Tables → ℕ → Bool
 stands_document t d = is_some (find (is_document d) t.document)
 
+-- the package of a document with an id
 abbrev pub package_found : Tables → ℕ → List ℕ → Option PackageRow
 package_found t d p = find (is_package d p) t.packages
 
 -- What each command looks up in tables
 
+-- for LoadCatalogue: how many revisions there are
 abbrev pub loading_found : Tables → Loading
 loading_found t = record { revisions = length t.catalogue }
 
+-- for Import: all documents, one of which may have the namespace
 abbrev pub importing_found : Tables → Importing
 importing_found t = record { documents = t.document }
 
+-- for OpenRelease: the forms in force, whether some release has the name, and how many releases
+-- there are
 abbrev pub opening_found : Tables → List ℕ → Opening
 opening_found t r = record {
   forms = t.forms;
@@ -175,6 +192,7 @@ opening_found t r = record {
   releases = length t.releases;
 }
 
+-- for Attach: the release's state, the document, whether it is attached, and how many are
 abbrev pub attaching_found : Tables → List ℕ → ℕ → Attaching
 attaching_found t r d = record {
   state = state_found t r;
@@ -183,6 +201,8 @@ attaching_found t r d = record {
   attached = length (attached_to t.attached r);
 }
 
+-- for Choose: the release's state, the document, the package and its conclusion in force, and
+-- whether the document is attached
 abbrev pub choosing_found : Readings → Tables → List ℕ → ℕ → List ℕ → Choosing
 choosing_found w t r d p = record {
   state = state_found t r;
@@ -192,6 +212,7 @@ choosing_found w t r d p = record {
   conclusion = option_and_then (conclusion_found w t) (package_found t d p);
 }
 
+-- for Unchoose: the release's state, the document, the package, and the terms chosen for it
 abbrev pub unchoosing_found : Tables → List ℕ → ℕ → List ℕ → Unchoosing
 unchoosing_found t r d p = record {
   state = state_found t r;
@@ -200,6 +221,8 @@ unchoosing_found t r d p = record {
   chosen = terms_found t r d p;
 }
 
+-- for Freeze: the release's state, what the walk refuses, and how many duties there are and would
+-- come; no duty is ever removed, so their rows are counted
 abbrev pub freezing_found : Readings → Tables → List ℕ → Freezing
 freezing_found w t r = record {
   state = state_found t r;
@@ -210,6 +233,7 @@ freezing_found w t r = record {
   owed = length (owed_found w t r);
 }
 
+-- for Meet, Waive and Reopen: the duty's state, that of its release, and how many changes it has
 abbrev pub moving_found : Tables → ℕ → Moving
 moving_found t q = record {
   place = option_map (λ row. row.state) (duty_found t q);
@@ -217,9 +241,12 @@ moving_found t q = record {
   steps = steps_found t q;
 }
 
+-- the answer to a Meet, a Waive or a Reopen, whichever the word is
 abbrev pub moved_found : Tables → Word → ℕ → List ℕ → List ℕ → Option (List ℕ) → Answer
 moved_found t word q day text until = move_answer word day text until (moving_found t q)
 
+-- for Conclude: why the text is no expression, the document, the package, and the release that
+-- holds a choice for it
 abbrev pub concluding_found : Readings → Tables → ℕ → List ℕ → List ℕ → Concluding
 concluding_found w t d p text = record {
   fault = w.expression_fault Capitals text;
@@ -228,6 +255,8 @@ concluding_found w t d p text = record {
   holder = holder_found t d p;
 }
 
+-- for Adopt: whether the texts are a reference and a licence, the document, and what is adopted in
+-- it already
 abbrev pub adopting_found : Readings → Tables → ℕ → List ℕ → List ℕ → Adopting
 adopting_found w t d reference licence =
     let row = adoption_row w d reference licence in
@@ -239,9 +268,11 @@ adopting_found w t d reference licence =
       adoptions = adoption_count t d;
     }
 
+-- for Withdraw: the release's state
 abbrev pub withdrawing_found : Tables → List ℕ → Withdrawing
 withdrawing_found t r = record { state = state_found t r }
 
+-- for CloseDay: how many waivers have a last day before that day
 abbrev pub closing_found : Tables → List ℕ → Closing
 closing_found t day = record { ended = length (ended_found t day) }
 
@@ -262,9 +293,11 @@ answer_from w t (Reopen q day text) = moved_found t word.Reopened q day text Non
 answer_from w t (Withdraw r day text) = withdraw_answer day text (withdrawing_found t r)
 answer_from w t (CloseDay day) = close_answer day (closing_found t day)
 
+-- a duty as it is raised: open
 abbrev pub new_duty : ℕ × Owed → DutyRow
 new_duty d = duty_row stands.IsOpen d
 
+-- the first change of a duty: raised on the day of the freeze, with no text
 abbrev pub raised_row : List ℕ → DutyRow → ChangeRow
 raised_row day row = record {
   duty = row.number;
@@ -275,17 +308,20 @@ raised_row day row = record {
   last_day = None;
 }
 
+-- what a freeze raises, with the numbers that follow all duties so far
 abbrev pub new_duties : Readings → Tables → List ℕ → List DutyRow
 new_duties w t r = map new_duty (enumerate_from (length t.duty + 1) (owed_found w t r))
 
 -- What a recorded command does to the rows
 
+-- a new revision with its rules, and the forms that are in force from now on
 abbrev pub loaded_change : Tables → List ℕ → Option Catalogue → Change
 loaded_change t text catalogue =
     let n = length t.catalogue + 1 in
     change.Loaded (record { revision = n; body = text }) (map (rule_row n) (rules_in catalogue))
     (forms_in catalogue)
 
+-- a document with this number, and the rows of its packages and references
 abbrev pub imported_as : ℕ → List ℕ → Profile → Option Document → Change
 imported_as n bytes profile document =
     change.Imported (record {
@@ -296,10 +332,13 @@ imported_as n bytes profile document =
     })
     (map (package_row n) (packages_in document)) (map (extracted_row n) (references_in document))
 
+-- the same with the next number
 abbrev pub imported_change : Tables → List ℕ → Profile → Option Document → Change
 imported_change t bytes profile document = imported_as (length t.document + 1) bytes profile
     document
 
+-- a new release, open, at the next place in the order of opening; revision 0 says that it isn't
+-- frozen
 abbrev pub opened_change : Tables → List ℕ → List ℕ → Change
 opened_change t r form = change.Opened
     (record {
@@ -310,15 +349,19 @@ opened_change t r form = change.Opened
       revision = 0;
     })
 
+-- the terms that a package of a release has from now on; with none its choice is dropped
 abbrev pub chosen_change : List ℕ → ℕ → List ℕ → List (List ℕ) → Change
 chosen_change r d p terms = change.Chosen r d p (map (choice_row r d p) terms)
 
+-- a freeze by a revision: the frozen terms, the duties, and their first changes
 abbrev pub froze_rows : List ℕ → ℕ → List ℕ → List FrozenRow → List DutyRow → Change
 froze_rows r revision day rows new = change.Froze r revision rows new (map (raised_row day) new)
 
+-- the same by the revision in force
 abbrev pub froze_change : Tables → List ℕ → List ℕ → List FrozenRow → List DutyRow → Change
 froze_change t r day rows new = froze_rows r (length t.catalogue) day rows new
 
+-- the same from what is owed, numbered on from all duties so far
 abbrev pub froze_as : Tables → List ℕ → List ℕ → List FrozenRow → List Owed → Change
 froze_as t r day rows owed = froze_change t r day rows
     (map new_duty (enumerate_from (length t.duty + 1) owed))
@@ -338,15 +381,18 @@ moved_change t q m = change.Moved (change_row q (steps_found t q + 1) m ∷ [])
 abbrev pub next_row : Move → Standing → ChangeRow
 next_row m s = change_row s.number (s.steps + 1) m
 
+-- the changes by which a withdrawal moves the duties of its release that aren't met
 abbrev pub withdrawn_rows : List ℕ → List ℕ → List Standing → List ChangeRow
 withdrawn_rows day text all = map
     (next_row (record { day = day; word = word.Withdrawn; body = text; last_day = None }))
     (filter is_unmet all)
 
+-- the changes by which waivers end: with no text, on the day that is closed
 abbrev pub ended_rows : List ℕ → List Standing → List ChangeRow
 ended_rows day all = map (next_row
     (record { day = day; word = word.Ended; body = []; last_day = None })) all
 
+-- what each command changes, if it is recorded
 abbrev pub change_for : Readings → Tables → Command → Change
 change_for w t (LoadCatalogue text) = loaded_change t text (result_ok (w.catalogue text))
 change_for w t (Import bytes profile) = imported_change t bytes profile
@@ -388,6 +434,11 @@ known_document row = (row.number, row.profile)
 -- the line of a duty
 abbrev pub line_found : Tables → DutyRow → DutyLine
 line_found t row = duty_line (λ q. filter (is_change_of q) t.changes) row
+
+-- the duties that keep a release back, for a day if one is given
+abbrev pub unready_found : Tables → List ℕ → Option (List ℕ) → List DutyRow
+unready_found t r day = filter (λ row. keeps_back day row.state (end_found t row.number))
+    (filter (is_duty_of r) t.duty)
 
 -- the open duties of a release
 abbrev pub open_found : Tables → ReleaseRow → List OpenDuty
@@ -446,3 +497,5 @@ queried_from w t query.Releases = answered.Releases (map (release_line t.duty) t
 queried_from w t query.Documents = answered.Documents (map (document_line t.packages) t.document)
 queried_from w t query.OpenDuties = answered.OpenDuties (flat_map (open_found t) t.releases)
 queried_from w t (query.Wanting r) = wanting_answer (obstacles_found w t r)
+queried_from w t (query.Ready r day) = ready_answer day (state_found t r)
+    (map (line_found t) (unready_found t r day))

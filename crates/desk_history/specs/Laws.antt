@@ -98,12 +98,15 @@ abbrev pub Ascends : {A : Type 0} → (A → A → Bool) → List A → Type 0
 Ascends below [] = Unit {0}
 Ascends below (x ∷ xs) = ((y : _) → IsIn y xs → below y x ≡ false) × Ascends below xs
 
+-- revisions by number
 abbrev pub revision_below : CatalogueRow → CatalogueRow → Bool
 revision_below a b = nat_lt a.revision b.revision
 
+-- documents by number
 abbrev pub document_below : DocumentRow → DocumentRow → Bool
 document_below a b = nat_lt a.number b.number
 
+-- duties by number
 abbrev pub duty_below : DutyRow → DutyRow → Bool
 duty_below a b = nat_lt a.number b.number
 
@@ -163,6 +166,7 @@ Rises below (x ∷ xs) = ((y : _) → IsIn y xs → below x y ≡ true) × Rises
 abbrev pub package_below : Package → Package → Bool
 package_below a b = text_below a.id b.id
 
+-- references of a document by id
 abbrev pub reference_below : Reference → Reference → Bool
 reference_below a b = text_below a.id b.id
 
@@ -178,6 +182,7 @@ pub record ListsInOrder (w : Readings) : Type 0 where
   pub references : (bytes : List ℕ) (document : Document) → w.document bytes ≡ Ok document
       → Rises reference_below document.references
 
+-- rules by revision, then by term and form
 abbrev pub rule_row_order : RuleRow → RuleRow → Ordering
 rule_row_order =
     then_cmp (on (λ row. row.revision) nat_cmp)

@@ -35,7 +35,7 @@ pub fn recorded_exactly()
         → ((n : ℕ) × (a ≡ answered.Again n)) ⊎ ((refusal : Refusal) × (a ≡ answered.Refused refusal)) }
 {}
 
-/// The command alone decides its refusal if and only if, after whatever history, it is refused with
+/// The command itself decides its refusal if and only if, after every history, it is refused with
 /// one of the numbers 1, 2, 6, 8, 9, 25, 26 and 30: those of faults of its own texts and days.
 pub fn refused_alone_exactly()
     ensures { (w : Readings) (h : List Command) (c : Command)
@@ -44,8 +44,8 @@ pub fn refused_alone_exactly()
 
 /// A desk keeps 4,096 revisions, 4,096 documents, 4,096 releases and 100,000 duties; a release has
 /// 64 documents, a document 10,000 adopted references, and a duty 999 changes before it is
-/// withdrawn. A command that nothing else refuses is done up to this number, and the first one past
-/// it is refused as Full.
+/// withdrawn. A command that is refused for no other reason is done up to this number, and the
+/// first one past it is refused as Full.
 pub fn first_past_each_limit_is_full()
     ensures revisions { (w : Readings) (h : List Command) (text : List ℕ) (c : Catalogue)
         → w.catalogue text ≡ Ok c → let count = length (revisions h) in

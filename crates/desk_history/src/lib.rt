@@ -1,6 +1,6 @@
 //! The laws of the recorded history, each as the contract of a function with an empty body: they
-//! say in the subject's own words what the definitions of `desk_model` amount to. `answers` has
-//! those of the answers to commands, `row_laws` those of the rows of answers. `proofs/` has the
+//! say in terms of the subject what the definitions of `desk_model` amount to. `answers` has the
+//! laws of the answers to commands, `row_laws` those of the rows of answers. `proofs/` has the
 //! lemmas by which the desk's code, which sees only rows, keeps the tables of a history.
 #![tactic(auto)]
 
@@ -50,10 +50,10 @@ pub fn duties_are_numbered_on()
         → IsIn d (numbered w before) → IsIn d (numbered w (later ++ before)) }
 {}
 
-/// What a freeze raises is sorted by document, package, term and code, no two with one key, if the
-/// reading of texts lists packages and codes in order (`order`). So of two duties of one release
-/// the one with the smaller number comes first (`numbers`), and a duty's number is one more than
-/// the number of duties that earlier freezes raised or that come before it in its own freeze
+/// What a freeze raises is sorted by document, package, term and code, no two with the same key, if
+/// the reading of texts lists packages and codes in order (`order`). So of two duties of one
+/// release the one with the smaller number comes first (`numbers`), and a duty's number is one more
+/// than the number of duties that earlier freezes raised or that come before it in its own freeze
 /// (`counts`).
 pub fn freezes_raise_in_order()
     ensures order { (w : Readings) (h : List Command) (r : List ℕ)
@@ -72,15 +72,16 @@ pub fn choices_are_minimal()
 {}
 
 /// A choice that is held for a package is a minimal set of terms for the expression that is
-/// concluded for the package now, not only for that of the time when it was made. Nothing is held
-/// if nothing was chosen.
+/// concluded for the package now, not only for the one concluded when the choice was made. Nothing
+/// is held if nothing was chosen.
 pub fn held_choices_are_minimal()
     ensures { (w : Readings) (h : List Command) (r : List ℕ) (d : ℕ) (p : List ℕ)
         → IsHistory w h → (choice w h r d p ≡ [] → ⊥) → IsHeldMinimal w h d p (choice w h r d p) }
 {}
 
-/// Each term that a release was frozen with was held for a package that it shipped then, and what
-/// was held for the package then was a minimal set of terms for its concluded expression.
+/// Each term that a release was frozen with was held at that time for a package that the release
+/// shipped, and what was held for the package was then a minimal set of terms for its concluded
+/// expression.
 pub fn frozen_terms_were_held()
     ensures held { (w : Readings) (h : List Command) (f : FrozenRow)
         → IsIn f (frozen w h) → IsFrozenTerm w h f }
@@ -156,9 +157,9 @@ pub fn tables_are_sorted()
 {}
 
 /// The rules of all revisions are sorted by revision, term and form, the packages of all documents
-/// by document and id, and the extracted licences by document and reference, no two with one key,
-/// if the reading of texts lists each catalogue's rules and each document's packages and references
-/// in such an order.
+/// by document and id, and the extracted licences by document and reference, no two with the same
+/// key, if the reading of texts lists each catalogue's rules and each document's packages and
+/// references in such an order.
 pub fn listed_tables_are_sorted()
     ensures { (w : Readings) (h : List Command) → ListsInOrder w → AreSortedAsListed (tables w h) }
 {}

@@ -6,6 +6,7 @@ use Rattle.desk_base.specs.declared.profile.Profile.{Profile}
 use Rattle.serde_json.specs.Data.{Data, Items, no_items, item, Members, no_members, member}
 use Rattle.serde_json.specs.Find.{get, as_number, as_str, as_array, as_object, as_u64}
 
+-- how many members there are; a key that appears twice is one member by now, with its last value
 abbrev pub count : Members → ℕ
 count no_members = 0
 count (member key d members) = count members + 1
@@ -18,6 +19,7 @@ size d = unwrap_or (option_map count (as_object d)) 0
 abbrev pub text_in : List ℕ → Data → Option (List ℕ)
 text_in key d = option_and_then as_str (get key d)
 
+-- a number is kept if it is at most 9,223,372,036,854,775,807, the largest of 64 bits with a sign
 abbrev pub if_small : ℕ → Option ℕ
 if_small n = if nat_lt n (2 ^ 63) then Some n else None
 

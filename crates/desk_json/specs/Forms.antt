@@ -9,13 +9,14 @@ use Rattle.desk_json.specs.Requests.{meet_request, waive_request, reopen_request
 use Rattle.desk_json.specs.Requests.{close_request, duties_request, totals_request, changes_request}
 use Rattle.desk_json.specs.Requests.{findings_request, release_request, alternatives_request}
 use Rattle.desk_json.specs.Requests.{cheapest_request, releases_request, documents_request}
-use Rattle.desk_json.specs.Requests.{open_duties_request, wanting_request}
+use Rattle.desk_json.specs.Requests.{open_duties_request, wanting_request, ready_request}
 use Rattle.desk_json.specs.declared.forms.Form.{Form}
 use Rattle.desk_json.specs.declared.forms.Form.TheVariants as form
 use Rattle.desk_json.specs.declared.forms.Name.{Name}
 use Rattle.desk_json.specs.declared.request.Request.{Request}
 use Rattle.desk_json.specs.declared.request.Request.TheVariants.{BadCommand}
 
+-- the form that a word names, byte for byte, if there is one
 abbrev pub form_named : List ℕ → List Name → Option Form
 form_named word [] = None
 form_named word (name ∷ more) = if bytes_eq word name.word.now then Some name.form
@@ -48,6 +49,7 @@ form_request form.Releases d = releases_request d
 form_request form.Documents d = documents_request d
 form_request form.OpenDuties d = open_duties_request d
 form_request form.Wanting d = wanting_request d
+form_request form.Ready d = ready_request d
 
 -- the request of a form, if there is one
 abbrev pub request_by : Option Form → Data → Request

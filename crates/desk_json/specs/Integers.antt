@@ -17,26 +17,32 @@ use Rattle.desk_model.specs.declared.refusal.DocumentFault.TheVariants as docume
 use Rattle.desk_model.specs.declared.refusal.Refusal.{Refusal}
 use Rattle.desk_model.specs.declared.refusal.Refusal.TheVariants as why
 
+-- the values of a change, with or without the last day of a waiver
 change_and_end : (row : ChangeRow) (last : Option (List ℕ))
     → items_have_float (items_of (change_values row ++ ending last)) ≡ false
 change_and_end row None = refl
 change_and_end row (Some day) = refl
 
+-- the line of a change
 pub change_has_integers : (row : ChangeRow) → has_float (change_line row) ≡ false
 change_has_integers row = change_and_end row row.last_day
 
+-- a list of terms has no numbers at all
 pub terms_have_integers : (terms : List (List ℕ)) → has_float (term_list terms) ≡ false
 terms_have_integers [] = refl
 terms_have_integers (term ∷ terms) = terms_have_integers terms
 
+-- the line of a package: its document is its only number
 pub package_has_integers : (line : PackageLine) → has_float (package_values line) ≡ false
 package_has_integers line = rw (terms_have_integers line.terms) refl
 
+-- a cheapest set: its cost is its only number
 pub cheapest_has_integers : (c : Cheapest) → has_float (cheapest_row c) ≡ false
 cheapest_has_integers c = rw (terms_have_integers c.terms) refl
 
 -- Refusals
 
+-- the part and the index of a fault
 catalogue_fault_has_integers : (fault : CatalogueFault)
     → items_have_float (items_of (catalogue_fault_values fault)) ≡ false
 catalogue_fault_has_integers catalogue.NotToml = refl
@@ -48,6 +54,7 @@ catalogue_fault_has_integers (catalogue.UnknownDuty part index) = refl
 catalogue_fault_has_integers (catalogue.Twice part index) = refl
 catalogue_fault_has_integers catalogue.TooLarge = refl
 
+-- the line and the tag of a fault
 document_fault_has_integers : (fault : DocumentFault)
     → items_have_float (items_of (document_fault_values fault)) ≡ false
 document_fault_has_integers document.NotUtf8 = refl
@@ -63,6 +70,7 @@ document_fault_has_integers (document.BadRelationship line) = refl
 document_fault_has_integers document.TooLarge = refl
 document_fault_has_integers (document.TooManyElements line) = refl
 
+-- the values of each refusal
 values_have_integers : (refusal : Refusal)
     → items_have_float (items_of (refusal_values refusal)) ≡ false
 values_have_integers (why.BadCatalogue fault) = catalogue_fault_has_integers fault
@@ -96,5 +104,6 @@ values_have_integers why.TooMany = refl
 values_have_integers why.TooManyTerms = refl
 values_have_integers why.BadEnd = refl
 
+-- the whole reply, with the refusal's number
 pub refusal_has_integers : (refusal : Refusal) → has_float (refusal_reply refusal) ≡ false
 refusal_has_integers refusal = rw (values_have_integers refusal) refl

@@ -16,9 +16,11 @@ use Rattle.desk_model.specs.declared.finding.Finding.{Finding}
 use Rattle.desk_model.specs.FindingKinds.{kind_number, kind_name}
 use Rattle.desk_model.specs.declared.reading.Cheapest.{Cheapest}
 
+-- a whole number
 abbrev pub whole : ℕ → Data
 whole n = number (unsigned n)
 
+-- a JSON array (RFC 8259, section 5)
 abbrev pub list : List Data → Data
 list ds = array (items_of ds)
 
@@ -27,6 +29,8 @@ list ds = array (items_of ds)
 abbrev pub day_text : Option (List ℕ) → List ℕ
 day_text day = unwrap_or day []
 
+-- a duty: its number, document and package, its term, rule and code, its state, and the day of its
+-- last change
 abbrev pub duty_row : DutyLine → Data
 duty_row line = list (whole line.number ∷ whole line.document ∷ string line.package_id
     ∷ string line.term ∷ string line.rule ∷ string line.code
@@ -37,13 +41,16 @@ abbrev pub change_values : ChangeRow → List Data
 change_values row = whole row.step ∷ string row.day ∷ string (word_name row.word)
     ∷ string row.body ∷ []
 
+-- the last day of a waiver that ends; other changes have no such value
 abbrev pub ending : Option (List ℕ) → List Data
 ending None = []
 ending (Some day) = string day ∷ []
 
+-- a change, its waiver's last day at the end if it has one
 abbrev pub change_line : ChangeRow → Data
 change_line row = list (change_values row ++ ending row.last_day)
 
+-- how many duties were raised, and how many are open, met, waived and withdrawn
 abbrev pub totals_row : Totals → Data
 totals_row t = list (whole t.raised ∷ whole t.still_open ∷ whole t.met ∷ whole t.waived
     ∷ whole t.withdrawn ∷ [])
@@ -72,6 +79,7 @@ open_row line = list (whole line.duty.number ∷ string line.duty.release ∷ wh
     ∷ string line.duty.package_id ∷ string line.duty.term
     ∷ string line.duty.rule ∷ string line.duty.code ∷ string (day_text line.day) ∷ [])
 
+-- printed terms, in order
 abbrev pub term_list : List (List ℕ) → Data
 term_list terms = list (map string terms)
 
@@ -88,6 +96,7 @@ finding_line f = list (whole f.line ∷ whole (kind_number f.kind) ∷ string (k
 abbrev pub cheapest_row : Cheapest → Data
 cheapest_row c = list (whole c.cost ∷ term_list c.terms ∷ [])
 
+-- one row, or none if no set has a cost
 abbrev pub cheapest_rows : Option Cheapest → List Data
 cheapest_rows None = []
 cheapest_rows (Some c) = cheapest_row c ∷ []

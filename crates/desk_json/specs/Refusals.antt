@@ -51,6 +51,7 @@ catalogue_fault_values (catalogue.UnknownDuty part index) = string (part_name pa
 catalogue_fault_values (catalogue.Twice part index) = string (part_name part) ∷ whole index ∷ []
 catalogue_fault_values catalogue.TooLarge = []
 
+-- what the member `at` of a refusal lists; many refusals have no values
 abbrev pub refusal_values : Refusal → List Data
 refusal_values (why.BadCatalogue fault) = whole (catalogue_fault_number fault)
     ∷ catalogue_fault_values fault

@@ -18,6 +18,7 @@ use Rattle.desk_model.specs.declared.command.Outcome.{Outcome}
 use Rattle.desk_model.specs.declared.command.Outcome.TheVariants as outcome
 use Rattle.desk_model.specs.declared.refusal.Refusal.{Refusal}
 
+-- a catalogue was loaded as this revision
 abbrev pub revision_reply : ℕ → Data
 revision_reply n = object (member (codes "revision") (whole n) no_members)
 
@@ -26,16 +27,20 @@ abbrev pub document_reply : ℕ → Bool → Data
 document_reply n new = object
     (member (codes "document") (whole n) (member (codes "new") (boolean new) no_members))
 
+-- a command was carried out that has nothing to report
 abbrev pub done_reply : Data
 done_reply = object (member (codes "done") (boolean true) no_members)
 
+-- how many duties a freeze raised, and the number of the first of them
 abbrev pub frozen_reply : ℕ → ℕ → Data
 frozen_reply first count = object
     (member (codes "count") (whole count) (member (codes "first") (whole first) no_members))
 
+-- how many waivers ended
 abbrev pub closed_reply : ℕ → Data
 closed_reply count = object (member (codes "closed") (whole count) no_members)
 
+-- the rows of a query's answer
 abbrev pub rows_reply : List Data → Data
 rows_reply rows = object (member (codes "rows") (list rows) no_members)
 
@@ -50,6 +55,7 @@ refusal_reply refusal = object
     (member (codes "name") (string (refusal_name refusal))
     (member (codes "refused") (whole (refusal_number refusal)) no_members)))
 
+-- the reply to an answer, by what was answered
 abbrev pub answer_reply : Answer → Data
 answer_reply (answer.Revision n) = revision_reply n
 answer_reply (answer.Imported n) = document_reply n true
@@ -71,13 +77,16 @@ answer_reply (answer.OpenDuties lines) = rows_reply (map open_row lines)
 answer_reply (answer.Wanting refusals) = rows_reply (map refusal_reply refusals)
 answer_reply (answer.Refused refusal) = refusal_reply refusal
 
+-- a fault, by its word
 abbrev pub fault_reply : List ℕ → Data
 fault_reply word = object (member (codes "fault") (string word) no_members)
 
+-- memory ran out, or the store failed; the cause of the latter isn't shown
 abbrev pub fault_word : Fault → List ℕ
 fault_word fault.Memory = codes "memory"
 fault_word (fault.Store cause) = codes "store"
 
+-- the reply to an outcome: of an answer or of a fault
 abbrev pub reply_of : Outcome → Data
 reply_of (outcome.Answered answer) = answer_reply answer
 reply_of (outcome.Failed fault) = fault_reply (fault_word fault)

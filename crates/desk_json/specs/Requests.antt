@@ -20,9 +20,11 @@ with_members n d request = if size d == n then request else BadCommand
 abbrev pub with_text : List ℕ → Data → (List ℕ → Request) → Request
 with_text key d request = unwrap_or (option_map request (text_in key d)) BadCommand
 
+-- a request that needs the whole number of a member
 abbrev pub with_number : List ℕ → Data → (ℕ → Request) → Request
 with_number key d request = unwrap_or (option_map request (number_in key d)) BadCommand
 
+-- a request that needs the texts of a member that is a list
 abbrev pub with_texts : List ℕ → Data → (List (List ℕ) → Request) → Request
 with_texts key d request = unwrap_or (option_map request (texts_in key d)) BadCommand
 
@@ -37,23 +39,27 @@ abbrev pub import_profile : Data → Option Profile
 import_profile d = if size d == 2 then Some Capitals else if size d == 3
     then profile_in (codes "profile") d else None
 
+-- import, with `text` and perhaps `profile`
 abbrev pub import_request : Data → Request
 import_request d = unwrap_or (option_map (λ profile.
     with_text (codes "text") d (λ bytes. Act (command.Import bytes profile))) (import_profile d))
     BadCommand
 
+-- open, with `release` and `form`
 abbrev pub open_request : Data → Request
 open_request d = with_members 3 d
     (with_text (codes "release") d (λ release.
     with_text (codes "form") d (λ form.
     Act (command.OpenRelease release form))))
 
+-- attach, with `release` and `document`
 abbrev pub attach_request : Data → Request
 attach_request d = with_members 3 d
     (with_text (codes "release") d (λ release.
     with_number (codes "document") d (λ document.
     Act (command.Attach release document))))
 
+-- choose, with `release`, `document`, `package` and `terms`
 abbrev pub choose_request : Data → Request
 choose_request d = with_members 5 d
     (with_text (codes "release") d (λ release.
@@ -62,12 +68,14 @@ choose_request d = with_members 5 d
     with_texts (codes "terms") d (λ terms.
     Act (command.Choose release document package_id terms))))))
 
+-- freeze, with `release` and `day`
 abbrev pub freeze_request : Data → Request
 freeze_request d = with_members 3 d
     (with_text (codes "release") d (λ release.
     with_text (codes "day") d (λ day.
     Act (command.Freeze release day))))
 
+-- meet, with `duty`, `day` and `text`
 abbrev pub meet_request : Data → Request
 meet_request d = with_members 4 d
     (with_number (codes "duty") d (λ duty.
@@ -80,6 +88,7 @@ abbrev pub waive_until : Data → Option (Option (List ℕ))
 waive_until d = if size d == 4 then Some None else if size d == 5
     then option_map Some (text_in (codes "until") d) else None
 
+-- waive, with `duty`, `day` and `text`, and perhaps `until`
 abbrev pub waive_request : Data → Request
 waive_request d = unwrap_or (option_map (λ until.
     with_number (codes "duty") d (λ duty.
@@ -87,6 +96,7 @@ waive_request d = unwrap_or (option_map (λ until.
     with_text (codes "text") d (λ text.
     Act (command.Waive duty day text until))))) (waive_until d)) BadCommand
 
+-- reopen, with `duty`, `day` and `text`
 abbrev pub reopen_request : Data → Request
 reopen_request d = with_members 4 d
     (with_number (codes "duty") d (λ duty.
@@ -94,6 +104,7 @@ reopen_request d = with_members 4 d
     with_text (codes "text") d (λ text.
     Act (command.Reopen duty day text)))))
 
+-- unchoose, with `release`, `document` and `package`
 abbrev pub unchoose_request : Data → Request
 unchoose_request d = with_members 4 d
     (with_text (codes "release") d (λ release.
@@ -101,6 +112,7 @@ unchoose_request d = with_members 4 d
     with_text (codes "package") d (λ package_id.
     Act (command.Unchoose release document package_id)))))
 
+-- withdraw, with `release`, `day` and `text`
 abbrev pub withdraw_request : Data → Request
 withdraw_request d = with_members 4 d
     (with_text (codes "release") d (λ release.
@@ -108,10 +120,12 @@ withdraw_request d = with_members 4 d
     with_text (codes "text") d (λ text.
     Act (command.Withdraw release day text)))))
 
+-- close, the end of a day, with `day`
 abbrev pub close_request : Data → Request
 close_request d = with_members 2 d
     (with_text (codes "day") d (λ day. Act (command.CloseDay day)))
 
+-- conclude, with `document`, `package` and `expression`
 abbrev pub conclude_request : Data → Request
 conclude_request d = with_members 4 d
     (with_number (codes "document") d (λ document.
@@ -119,6 +133,7 @@ conclude_request d = with_members 4 d
     with_text (codes "expression") d (λ expression.
     Act (command.Conclude document package_id expression)))))
 
+-- adopt, with `document`, `reference` and `licence`
 abbrev pub adopt_request : Data → Request
 adopt_request d = with_members 4 d
     (with_number (codes "document") d (λ document.
@@ -126,18 +141,22 @@ adopt_request d = with_members 4 d
     with_text (codes "licence") d (λ licence.
     Act (command.Adopt document reference licence)))))
 
+-- duties, with `release`
 abbrev pub duties_request : Data → Request
 duties_request d = with_members 2 d
     (with_text (codes "release") d (λ release. Ask (query.Duties release)))
 
+-- totals, with `release`
 abbrev pub totals_request : Data → Request
 totals_request d = with_members 2 d
     (with_text (codes "release") d (λ release. Ask (query.Totals release)))
 
+-- changes, with `duty`
 abbrev pub changes_request : Data → Request
 changes_request d = with_members 2 d
     (with_number (codes "duty") d (λ duty. Ask (query.Changes duty)))
 
+-- findings, with `document`
 abbrev pub findings_request : Data → Request
 findings_request d = with_members 2 d
     (with_number (codes "document") d (λ document. Ask (query.Findings document)))
@@ -166,16 +185,19 @@ command_request word d =
     else if bytes_eq word (codes "adopt") then adopt_request d
     else ledger_request word d
 
+-- release, with `release`
 abbrev pub release_request : Data → Request
 release_request d = with_members 2 d
     (with_text (codes "release") d (λ release. Ask (query.Release release)))
 
+-- alternatives, with `document` and `package`
 abbrev pub alternatives_request : Data → Request
 alternatives_request d = with_members 3 d
     (with_number (codes "document") d (λ document.
     with_text (codes "package") d (λ package_id.
     Ask (query.Alternatives document package_id))))
 
+-- cheapest, with `document`, `package` and `form`
 abbrev pub cheapest_request : Data → Request
 cheapest_request d = with_members 4 d
     (with_number (codes "document") d (λ document.
@@ -187,15 +209,29 @@ cheapest_request d = with_members 4 d
 abbrev pub releases_request : Data → Request
 releases_request d = with_members 1 d (Ask query.Releases)
 
+-- all documents
 abbrev pub documents_request : Data → Request
 documents_request d = with_members 1 d (Ask query.Documents)
 
+-- the open duties of all releases
 abbrev pub open_duties_request : Data → Request
 open_duties_request d = with_members 1 d (Ask query.OpenDuties)
 
+-- what keeps a release from being frozen, with `release`
 abbrev pub wanting_request : Data → Request
 wanting_request d = with_members 2 d
     (with_text (codes "release") d (λ release. Ask (query.Wanting release)))
+
+-- a question about a ready release may have a member for a day
+abbrev pub ready_day : Data → Option (Option (List ℕ))
+ready_day d = if size d == 2 then Some None else if size d == 3
+    then option_map Some (text_in (codes "day") d) else None
+
+-- ready, with `release` and perhaps `day`
+abbrev pub ready_request : Data → Request
+ready_request d = unwrap_or (option_map (λ day.
+    with_text (codes "release") d (λ release. Ask (query.Ready release day))) (ready_day d))
+    BadCommand
 
 -- the form that the value of `ask` names
 abbrev pub query_request : List ℕ → Data → Request
@@ -211,6 +247,7 @@ query_request word d =
     else if bytes_eq word (codes "documents") then documents_request d
     else if bytes_eq word (codes "open") then open_duties_request d
     else if bytes_eq word (codes "wanting") then wanting_request d
+    else if bytes_eq word (codes "ready") then ready_request d
     else BadCommand
 
 -- the request that a value is; an object with both `do` and `ask` has one member too many

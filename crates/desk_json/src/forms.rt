@@ -31,6 +31,7 @@ pub(crate) enum Form {
     Documents,
     OpenDuties,
     Wanting,
+    Ready,
 }
 
 /// The word that names a form.
@@ -101,7 +102,7 @@ pub(crate) const COMMANDS: [Name; 14] = [
 ];
 
 /// The words that `ask` may have.
-pub(crate) const QUERIES: [Name; 11] = [
+pub(crate) const QUERIES: [Name; 12] = [
     Name {
         word: "duties",
         form: Form::Duties,
@@ -145,6 +146,10 @@ pub(crate) const QUERIES: [Name; 11] = [
     Name {
         word: "wanting",
         form: Form::Wanting,
+    },
+    Name {
+        word: "ready",
+        form: Form::Ready,
     },
 ];
 

@@ -28,6 +28,7 @@
 //! | `cheapest` | `document`, `package`, `form` |
 //! | `releases`, `documents`, `open` | |
 //! | `wanting` | `release` |
+//! | `ready` | `release`, and perhaps `day` |
 //!
 //! `document` and `duty` are whole numbers from 0 to 9,223,372,036,854,775,807, `profile` is 1 or 2
 //! (`desk_base::Profile`), or 1 if it is absent, `terms` is a list of texts, the others are texts.

@@ -2,7 +2,7 @@
 
 ghost use Rattle.std.specs.Prelude.{◌≡◌, IfOk};
 ghost use Rattle.desk_json_object.specs.Seen.{seen};
-ghost use Rattle.desk_json.specs.Requests.{catalogue_request, import_profile, import_request, open_request, attach_request, choose_request, freeze_request, meet_request, unchoose_request, waive_until, waive_request, reopen_request, withdraw_request, close_request, conclude_request, adopt_request, duties_request, totals_request, changes_request, findings_request, release_request, alternatives_request, cheapest_request, wanting_request, with_members, request_of, request_in};
+ghost use Rattle.desk_json.specs.Requests.{catalogue_request, import_profile, import_request, open_request, attach_request, choose_request, freeze_request, meet_request, unchoose_request, waive_until, waive_request, reopen_request, withdraw_request, close_request, conclude_request, adopt_request, duties_request, totals_request, changes_request, findings_request, release_request, alternatives_request, cheapest_request, wanting_request, ready_day, ready_request, with_members, request_of, request_in};
 ghost use Rattle.desk_json.specs.Forms.{form_request, request_by};
 ghost use Rattle.desk_json.specs.Unread.{IsFound, IsRead};
 ghost use Rattle.desk_json.specs.declared.request.Request.TheVariants.{Ask};
@@ -232,6 +232,25 @@ fn read_wanting(alloc: Global, object: &Object) -> Result<Request, Unread>
     Ok(Request::Ask(Query::Wanting { release }))
 }
 
+/// The day of a question, if the request has one more member for it.
+fn ready_day(alloc: Global, object: &Object) -> Result<Option<Text>, Unread>
+    ensures { IsFound (ready_day (seen object.now)) result }
+{
+    match size_of(object) {
+        2 => Ok(None),
+        3 => Ok(Some(wanted_text(alloc, object, "day")?)),
+        _ => Err(Unread::BadCommand),
+    }
+}
+
+fn read_ready(alloc: Global, object: &Object) -> Result<Request, Unread>
+    ensures { IsRead (ready_request (seen object.now)) result }
+{
+    let day = ready_day(alloc, object)?;
+    let release = wanted_text(alloc, object, "release")?;
+    Ok(Request::Ask(Query::Ready { release, day }))
+}
+
 fn read_changes(object: &Object) -> Result<Request, Unread>
     ensures { IsRead (changes_request (seen object.now)) result }
 {
@@ -321,6 +340,7 @@ fn read_form(alloc: Global, form: Form, object: &mut Object) -> Result<Request, 
         Form::Documents => read_bare(object, Query::Documents),
         Form::OpenDuties => read_bare(object, Query::OpenDuties),
         Form::Wanting => read_wanting(alloc, object),
+        Form::Ready => read_ready(alloc, object),
     }
 }
 

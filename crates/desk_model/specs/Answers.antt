@@ -114,6 +114,7 @@ pub record Opening : Type 0 where
   pub is_taken : Bool
   pub releases : ℕ
 
+-- OpenRelease, of a release with this name and form; both compare byte for byte
 abbrev pub open_answer : List ℕ → List ℕ → Opening → Answer
 open_answer name form found = refused_first (
     unless (is_release_name name) why.BadName
@@ -135,6 +136,7 @@ pub record Attaching : Type 0 where
   pub is_attached : Bool
   pub attached : ℕ
 
+-- Attach: the release must be open, and a release has at most 64 documents
 abbrev pub attach_answer : Attaching → Answer
 attach_answer found = refused_first (
     unless (is_some found.state) why.UnknownRelease
@@ -180,6 +182,8 @@ is_shipped found = found.is_attached && option_map_or (λ row. row.shipped) foun
 abbrev pub verdict_on : Readings → Option Conclusion → List (List ℕ) → Option Verdict
 verdict_on w conclusion terms = option_map (λ c. w.verdict c.profile c.text terms) conclusion
 
+-- Choose, of terms that texts spell: they count as a set, and NotMinimal names the first one listed
+-- that can go
 abbrev pub choose_answer : Readings → List (List ℕ) → Choosing → Answer
 choose_answer w texts found =
     let terms = filter_map w.term texts in
@@ -203,6 +207,7 @@ pub record Unchoosing : Type 0 where
   pub has_package : Bool
   pub chosen : List (List ℕ)
 
+-- Unchoose, of a package of a document: there must be a choice to drop
 abbrev pub unchoose_answer : ℕ → List ℕ → Unchoosing → Answer
 unchoose_answer d p found = refused_first (
     unless (is_some found.state) why.UnknownRelease
@@ -214,6 +219,7 @@ unchoose_answer d p found = refused_first (
 
 -- Freeze goes through the shipped packages, up to the first that fails: one without a choice
 
+-- no term is chosen
 abbrev pub unchosen : PackageRow → List (List ℕ) → Option Refusal
 unchosen p [] = Some (why.NoChoice p.document p.id)
 unchosen p (t ∷ ts) = None
@@ -224,6 +230,7 @@ unadopted w licences d term =
     option_and_then (λ reference. unless (is_some (licence_for licences d reference))
     (why.NotAdopted d reference)) (w.reference term)
 
+-- the first term, in the order of terms, that is such a reference
 abbrev pub first_unadopted : Readings → List AdoptionRow → ℕ → List (List ℕ) → Option Refusal
 first_unadopted w licences d terms = first_refusal (map (unadopted w licences d) terms)
 
@@ -233,6 +240,7 @@ abbrev pub unruled : Readings → List AdoptionRow → List Rule → List ℕ �
 unruled w licences rules form p term = unless
     (is_some (rule_adopted w licences rules form p.document term)) (why.NoRule p.document p.id term)
 
+-- the first term, in the order of terms, that has none
 abbrev pub first_unruled : Readings → List AdoptionRow → List Rule → List ℕ → PackageRow
     → List (List ℕ) → Option Refusal
 first_unruled w licences rules form p terms = first_refusal
@@ -248,6 +256,7 @@ package_fault w licences rules form conclusion terms p = first_refusal (
     ∷ first_unruled w licences rules form p terms
     ∷ [])
 
+-- the first package that fails, given each package's conclusion and chosen terms
 abbrev pub walk : Readings → List AdoptionRow → List Rule → List ℕ
     → (PackageRow → Option Conclusion) → (PackageRow → List (List ℕ)) → List PackageRow
     → Option Refusal
@@ -263,6 +272,8 @@ pub record Freezing : Type 0 where
   pub raised : ℕ
   pub owed : ℕ
 
+-- Freeze on a day: the number of the first duty that it raises, and how many; if it raises none,
+-- that is the next free number and 0
 abbrev pub freeze_answer : List ℕ → Freezing → Answer
 freeze_answer day found = refused_first (
     unless (is_day day) why.BadDay
@@ -305,6 +316,7 @@ move_answer word day text until found = refused_first (
 pub record Withdrawing : Type 0 where
   pub state : Option ReleaseState
 
+-- Withdraw, on a day and with a text: an open or a frozen release can go
 abbrev pub withdraw_answer : List ℕ → List ℕ → Withdrawing → Answer
 withdraw_answer day text found = refused_first (
     unless (is_day day) why.BadDay
@@ -317,6 +329,7 @@ withdraw_answer day text found = refused_first (
 pub record Closing : Type 0 where
   pub ended : ℕ
 
+-- CloseDay: how many waivers end, also if that is none
 abbrev pub close_answer : List ℕ → Closing → Answer
 close_answer day found = refused_first (
     unless (is_day day) why.BadDay
@@ -330,6 +343,7 @@ pub record Concluding : Type 0 where
   pub has_package : Bool
   pub holder : Option (List ℕ)
 
+-- Conclude: a conclusion can't change while some release holds a choice for the package
 abbrev pub conclude_answer : Concluding → Answer
 conclude_answer found = refused_first (
     option_map (λ fault. why.BadExpression fault) found.fault
@@ -347,6 +361,7 @@ pub record Adopting : Type 0 where
   pub is_adopted : Bool
   pub adoptions : ℕ
 
+-- Adopt: a reference may be adopted anew, and only a new one counts towards the limit
 abbrev pub adopt_answer : Adopting → Answer
 adopt_answer found = refused_first (
     unless found.is_reference (why.BadTerm 0)
@@ -374,17 +389,21 @@ release_state_of h duty = option_map_or
 abbrev pub has_document : Readings → List Command → ℕ → Bool
 has_document w h d = is_some (find (is_document d) (documents w h))
 
+-- the package of a document with an id
 abbrev pub package_at : Readings → List Command → ℕ → List ℕ → Option PackageRow
 package_at w h d p = find (is_package d p) (packages w h)
 
 -- What each command looks up in a history
 
+-- for LoadCatalogue, of any text
 abbrev pub loading : List Command → Loading
 loading h = record { revisions = length (revisions h) }
 
+-- for Import, of any bytes
 abbrev pub importing : Readings → List Command → Importing
 importing w h = record { documents = documents w h }
 
+-- for OpenRelease, of a release with this name
 abbrev pub opening : Readings → List Command → List ℕ → Opening
 opening w h r = record {
   forms = forms_in (in_force w h);
@@ -392,6 +411,7 @@ opening w h r = record {
   releases = length (opened h);
 }
 
+-- for Attach, of this release and document
 abbrev pub attaching : Readings → List Command → List ℕ → ℕ → Attaching
 attaching w h r d = record {
   state = release_state h r;
@@ -400,6 +420,7 @@ attaching w h r d = record {
   attached = length (attached_to (attached h) r);
 }
 
+-- for Choose, of this release, document and package
 abbrev pub choosing : Readings → List Command → List ℕ → ℕ → List ℕ → Choosing
 choosing w h r d p = record {
   state = release_state h r;
@@ -409,6 +430,7 @@ choosing w h r d p = record {
   conclusion = option_and_then (conclusion w h) (package_at w h d p);
 }
 
+-- for Unchoose, of this release, document and package
 abbrev pub unchoosing : Readings → List Command → List ℕ → ℕ → List ℕ → Unchoosing
 unchoosing w h r d p = record {
   state = release_state h r;
@@ -417,6 +439,8 @@ unchoosing w h r d p = record {
   chosen = choice w h r d p;
 }
 
+-- for Freeze, of this release; the walk goes by the catalogue, the adoptions and the conclusions in
+-- force now
 abbrev pub freezing : Readings → List Command → List ℕ → Freezing
 freezing w h r =
     let form = unwrap_or (form_of h r) [] in
@@ -429,6 +453,7 @@ freezing w h r =
       owed = length (owed_at w h r);
     }
 
+-- for Meet, Waive and Reopen, of the duty with this number
 abbrev pub moving : Readings → List Command → ℕ → Moving
 moving w h q = record {
   place = option_map (λ d. place w h d.0) (duty_at w h q);
@@ -436,6 +461,8 @@ moving w h q = record {
   steps = length (moves w h q);
 }
 
+-- for Conclude, of this document, package and text; what the office writes has its operators in
+-- capitals
 abbrev pub concluding : Readings → List Command → ℕ → List ℕ → List ℕ → Concluding
 concluding w h d p text = record {
   fault = w.expression_fault Capitals text;
@@ -444,6 +471,7 @@ concluding w h d p text = record {
   holder = holder (release_rows h) (choices w h) d p;
 }
 
+-- for Adopt, of this document, reference and licence
 abbrev pub adopting : Readings → List Command → ℕ → List ℕ → List ℕ → Adopting
 adopting w h d reference licence =
     let row = adoption_row w d reference licence in
@@ -455,9 +483,11 @@ adopting w h d reference licence =
       adoptions = length (filter (is_adoption_in d) (adoptions w h));
     }
 
+-- for Withdraw, of this release
 abbrev pub withdrawing : List Command → List ℕ → Withdrawing
 withdrawing h r = record { state = release_state h r }
 
+-- for CloseDay, on this day
 abbrev pub closing : Readings → List Command → List ℕ → Closing
 closing w h day = record {
   ended = length (filter (λ d. has_ended day (place w h d.0) (end_after (moves w h d.0)))

@@ -30,6 +30,8 @@ use Rattle.desk_model.specs.declared.command.Answer.TheVariants as answered
 abbrev pub frozen_terms : List FrozenRow → List ℕ → PackageRow → List FrozenRow
 frozen_terms frozen r p = filter (is_frozen_of r p.document p.id) frozen
 
+-- the line of a package: its name and version, the rules of its frozen terms as the catalogue
+-- spells them, and its copyright text
 abbrev pub bill_line : List FrozenRow → List ℕ → PackageRow → BillLine
 bill_line frozen r p = record {
   name = p.name;
@@ -81,6 +83,8 @@ licence_bill id found = record {
   body = option_map (λ text. text.body) found;
 }
 
+-- the title and the body of a text: those of a licence or an exception from the catalogue, those of
+-- a reference from its document
 abbrev pub bill_text : Readings → Option (List ℕ) → List ExtractedRow → TextOf → BillText
 bill_text w catalogue extracted (Licence id) = licence_bill id
     (option_and_then (λ text. w.licence_text text id) catalogue)

@@ -24,6 +24,7 @@ use Rattle.desk_model.specs.declared.command.Command.TheVariants.{Conclude, Adop
 
 -- Conclusions
 
+-- a conclusion by its package: a later one has the same key and replaces it
 abbrev pub conclusion_row : ℕ → List ℕ → List ℕ → ConclusionRow
 conclusion_row d p text = record { document = d; package_id = p; expression = text }
 
@@ -48,6 +49,7 @@ text_given d p _ = None
 abbrev pub profile_in : List DocumentRow → PackageRow → Profile
 profile_in rows p = profile_of (find (is_document p.document) rows)
 
+-- a conclusion's text, with the operators by which it is read
 abbrev pub concluded_as : Profile → List ℕ → Conclusion
 concluded_as profile text = record { profile = profile; text = text }
 
@@ -76,6 +78,7 @@ is_reference w text = option_map_or (λ term. option_map_or (bytes_eq term) (w.r
 abbrev pub is_plain : Readings → List ℕ → Bool
 is_plain w text = option_map_or w.is_licence (w.term text) false
 
+-- an adoption by its reference, with both texts printed as terms
 abbrev pub adoption_row : Readings → ℕ → List ℕ → List ℕ → AdoptionRow
 adoption_row w d reference licence = record {
   document = d;
@@ -119,6 +122,7 @@ abbrev pub sooner : ReleaseRow → Option ReleaseRow → Option ReleaseRow
 sooner release None = Some release
 sooner release (Some other) = if nat_lt other.place release.place then Some other else Some release
 
+-- of some releases, the one that was opened first
 abbrev pub first_opened : List ReleaseRow → Option ReleaseRow
 first_opened [] = None
 first_opened (release ∷ releases) = sooner release (first_opened releases)

@@ -7,6 +7,7 @@ use Rattle.desk_model.specs.declared.refusal.DocumentFault.TheVariants as docume
 use Rattle.desk_model.specs.declared.refusal.ExpressionFault.{ExpressionFault}
 use Rattle.desk_model.specs.declared.refusal.ExpressionFault.TheVariants as expression
 
+-- of a licence expression, as the refusal BadExpression gives them
 abbrev pub expression_fault_number : ExpressionFault → ℕ
 expression_fault_number (expression.Empty place) = 1
 expression_fault_number (expression.BadToken place) = 2
@@ -16,6 +17,7 @@ expression_fault_number (expression.TooDeep place) = 5
 expression_fault_number (expression.TooLong place) = 6
 expression_fault_number (expression.TooManyTerms place) = 7
 
+-- of a document, as the refusal BadDocument gives them
 abbrev pub document_fault_number : DocumentFault → ℕ
 document_fault_number document.NotUtf8 = 1
 document_fault_number (document.NoColon line) = 2
@@ -30,6 +32,7 @@ document_fault_number (document.BadRelationship line) = 10
 document_fault_number document.TooLarge = 11
 document_fault_number (document.TooManyElements line) = 12
 
+-- of a catalogue, as the refusal BadCatalogue gives them
 abbrev pub catalogue_fault_number : CatalogueFault → ℕ
 catalogue_fault_number catalogue.NotToml = 1
 catalogue_fault_number (catalogue.Missing part index) = 2

@@ -5,6 +5,8 @@ use Rattle.desk_model.specs.declared.finding.FindingKind.TheVariants as kinds
 use Rattle.desk_model.specs.declared.finding.MissingField.{MissingField}
 use Rattle.desk_model.specs.declared.finding.MissingField.TheVariants as fields
 
+-- the order of missing fields on one line: those of the document, then of a package, a file and an
+-- extracted licence
 abbrev pub missing_place : MissingField → ℕ
 missing_place fields.DataLicense = 0
 missing_place fields.Creator = 1
@@ -13,6 +15,7 @@ missing_place fields.DownloadLocation = 3
 missing_place fields.Checksum = 4
 missing_place fields.ExtractedText = 5
 
+-- the tag of the field that is missing
 abbrev pub missing_name : MissingField → List ℕ
 missing_name fields.DataLicense = codes "DataLicense"
 missing_name fields.Creator = codes "Creator"
@@ -21,6 +24,7 @@ missing_name fields.DownloadLocation = codes "PackageDownloadLocation"
 missing_name fields.Checksum = codes "FileChecksum"
 missing_name fields.ExtractedText = codes "ExtractedText"
 
+-- the number of a kind, by which findings on one line are sorted
 abbrev pub kind_number : FindingKind → ℕ
 kind_number kinds.UnknownTag = 1
 kind_number kinds.Misplaced = 2
@@ -34,6 +38,7 @@ kind_number (kinds.MissingField field) = 9
 kind_number kinds.BadFlag = 10
 kind_number kinds.UndefinedRef = 11
 
+-- the name of a kind, as it is printed
 abbrev pub kind_name : FindingKind → List ℕ
 kind_name kinds.UnknownTag = codes "UnknownTag"
 kind_name kinds.Misplaced = codes "Misplaced"

@@ -12,6 +12,7 @@ use Rattle.desk_model.specs.declared.command.Answer.TheVariants as answered
 abbrev pub source_of : DocumentRow → List ℕ × Profile
 source_of row = (row.bytes, row.profile)
 
+-- Findings, of the document that was looked up
 abbrev pub findings_answer : Readings → Option DocumentRow → Answer
 findings_answer w None = answered.Refused UnknownDocument
 findings_answer w (Some row) = answered.Findings (w.findings row.profile row.bytes)

@@ -38,6 +38,7 @@ revisions (LoadCatalogue text ∷ h) = revisions h
     ++ record { revision = length (revisions h) + 1; body = text } ∷ []
 revisions (_ ∷ h) = revisions h
 
+-- the text that a LoadCatalogue loads
 abbrev pub loaded : Command → Option (List ℕ)
 loaded (LoadCatalogue text) = Some text
 loaded _ = None
@@ -46,12 +47,15 @@ loaded _ = None
 abbrev pub in_force : Readings → List Command → Option Catalogue
 in_force w h = option_and_then (λ text. result_ok (w.catalogue text)) (latest loaded h)
 
+-- the rules of a catalogue; none if there is no catalogue
 abbrev pub rules_in : Option Catalogue → List Rule
 rules_in catalogue = option_map_or (λ c. c.rules) catalogue []
 
+-- the forms of a catalogue; none if there is no catalogue, so that no release can be opened
 abbrev pub forms_in : Option Catalogue → List (List ℕ)
 forms_in catalogue = option_map_or (λ c. c.forms) catalogue []
 
+-- a rule, with the revision that has it
 abbrev pub rule_row : ℕ → Rule → RuleRow
 rule_row revision rule = record {
   revision = revision;
@@ -74,12 +78,15 @@ rule_for rules term form = find (is_rule term form) rules
 
 -- Documents
 
+-- the namespace of a document that was read
 abbrev pub namespace_in : Option Document → List ℕ
 namespace_in document = option_map_or (λ d. d.namespace) document []
 
+-- the packages of a document that was read
 abbrev pub packages_in : Option Document → List Package
 packages_in document = option_map_or (λ d. d.packages) document []
 
+-- the licences that a document defines by its own references (SPDX 2.3, clause 10)
 abbrev pub references_in : Option Document → List Reference
 references_in document = option_map_or (λ d. d.references) document []
 
@@ -95,6 +102,7 @@ documents w (Import bytes profile ∷ h) =
     } ∷ []
 documents w (_ ∷ h) = documents w h
 
+-- a package, with the number of its document
 abbrev pub package_row : ℕ → Package → PackageRow
 package_row document p = record {
   document = document;
@@ -106,6 +114,7 @@ package_row document p = record {
   shipped = p.shipped;
 }
 
+-- a reference and its extracted text, with the number of its document
 abbrev pub extracted_row : ℕ → Reference → ExtractedRow
 extracted_row document r = record { document = document; reference = r.id; body = r.body }
 
@@ -126,15 +135,18 @@ references w (_ ∷ h) = references w h
 
 -- Conclusions: a package's own field, if it is an expression by its document's profile
 
+-- the profile that a document was imported with
 abbrev pub profile_of : Option DocumentRow → Profile
 profile_of document = option_map_or (λ row. row.profile) document Capitals
 
+-- a licence field that is an expression; NONE, NOASSERTION and other texts are none
 abbrev pub expression_in : Readings → Profile → Option (List ℕ) → Option (List ℕ)
 expression_in w profile None = None
 expression_in w profile (Some text) = if w.is_expression profile text then Some text else None
 
 -- Releases
 
+-- the name of the release that a command opens
 abbrev pub name_opened : Command → Option (List ℕ)
 name_opened (OpenRelease r form) = Some r
 name_opened _ = None
@@ -152,6 +164,7 @@ abbrev pub place_in : List (List ℕ) → List ℕ → ℕ
 place_in [] r = 0
 place_in (n ∷ ns) r = if bytes_eq n r then length ns + 1 else place_in ns r
 
+-- the form with which a command opens the release
 abbrev pub form_given : List ℕ → Command → Option (List ℕ)
 form_given r (OpenRelease r' form) = if bytes_eq r' r then Some form else None
 form_given r _ = None
@@ -160,6 +173,7 @@ form_given r _ = None
 abbrev pub form_of : List Command → List ℕ → Option (List ℕ)
 form_of h r = latest (form_given r) h
 
+-- the state that a command gives the release: a freeze, or a withdrawal
 abbrev pub state_given : List ℕ → Command → Option ReleaseState
 state_given r (Freeze r' day) = if bytes_eq r' r then Some Frozen else None
 state_given r (Withdraw r' day text) = if bytes_eq r' r then Some Withdrawn else None
@@ -177,6 +191,7 @@ revision_of (_ ∷ h) r = revision_of h r
 
 -- Attached documents
 
+-- the release and the document that an Attach ties
 abbrev pub attachment : Command → Option AttachedRow
 attachment (Attach r d) = Some (record { release = r; document = d })
 attachment _ = None
@@ -195,9 +210,12 @@ attached_to rows r = filter (is_attached_to r) rows
 abbrev pub term_set : Readings → List (List ℕ) → List (List ℕ)
 term_set w texts = sorted_set (filter_map w.term texts)
 
+-- two packages in releases are the same: by release, document and id
 abbrev pub is_package_of : List ℕ → ℕ → List ℕ → List ℕ → ℕ → List ℕ → Bool
 is_package_of r d p r' d' p' = bytes_eq r' r && (d' == d) && bytes_eq p' p
 
+-- the terms that a command leaves chosen for a package of a release: those of a Choose, or none
+-- after an Unchoose or the release's withdrawal
 abbrev pub terms_given : Readings → List ℕ → ℕ → List ℕ → Command → Option (List (List ℕ))
 terms_given w r d p (Choose r' d' p' texts) = if is_package_of r d p r' d' p'
     then Some (term_set w texts) else None

@@ -13,6 +13,7 @@ pub mod Obstacles
 pub mod Findings
 pub mod Listings
 pub mod Bills
+pub mod Ready
 pub mod Queries
 pub mod Runs
 pub mod Numbers

@@ -19,6 +19,7 @@ use Rattle.desk_model.specs.declared.row.PackageRow.{PackageRow}
 use Rattle.desk_model.specs.declared.command.Answer.{Answer}
 use Rattle.desk_model.specs.declared.command.Answer.TheVariants as answered
 
+-- the refusal by which a query says why a listing was given up
 abbrev pub list_refusal : ListFault → Refusal
 list_refusal fault.TooManyTerms = why.TooManyTerms
 list_refusal fault.TooMany = why.TooMany
@@ -38,6 +39,7 @@ abbrev pub alternatives_of : Readings → Option Conclusion
     → Option (Result (List (List (List ℕ))) ListFault)
 alternatives_of w conclusion = option_map (λ c. w.alternatives c.profile c.text) conclusion
 
+-- Alternatives: the minimal sets, in the order of sets
 abbrev pub alternatives_answer : Readings → Listing → Answer
 alternatives_answer w found =
     let sets = alternatives_of w found.conclusion in
@@ -53,9 +55,11 @@ alternatives_answer w found =
 abbrev pub at_most : ℕ → ℕ → ℕ
 at_most limit n = if nat_lt limit n then limit else n
 
+-- the cost of a rule: the number of its codes, at most 1,000,000
 abbrev pub rule_cost : Rule → ℕ
 rule_cost rule = at_most most.term_cost (length rule.codes)
 
+-- the cost of a term of a document for a form, under the rule for its adopted form
 abbrev pub term_cost : Readings → List AdoptionRow → List Rule → List ℕ → ℕ → List ℕ → Option ℕ
 term_cost w licences rules form d term = option_map rule_cost
     (rule_adopted w licences rules form d term)

@@ -53,6 +53,7 @@ raises w h r q = nat_lt (length (raised w h)) q
 abbrev pub is_known : Readings → List Command → ℕ → Bool
 is_known w h q = nat_le q (length (raised w h))
 
+-- the move, if this is so
 abbrev pub move_if : Bool → Move → Option Move
 move_if b m = if b then Some m else None
 
@@ -75,6 +76,7 @@ move_by w q (CloseDay day) before ms = move_if (has_ended day (place_after ms) (
     (record { day = day; word = word.Ended; body = []; last_day = None })
 move_by w q _ before ms = None
 
+-- one more move, if there is one, before those that came earlier
 abbrev pub with_move : Option Move → List Move → List Move
 with_move None ms = ms
 with_move (Some m) ms = m ∷ ms
@@ -84,6 +86,7 @@ abbrev pub moves : Readings → List Command → ℕ → List Move
 moves w [] q = []
 moves w (c ∷ h) q = with_move (move_by w q c h (moves w h q)) (moves w h q)
 
+-- the state of a duty after all its moves
 abbrev pub place : Readings → List Command → ℕ → DutyState
 place w h q = place_after (moves w h q)
 
@@ -98,6 +101,7 @@ change_row q step m = record {
   last_day = m.last_day;
 }
 
+-- the rows of moves that are given last one first, in steps from 1
 abbrev pub change_rows : ℕ → List Move → List ChangeRow
 change_rows q [] = []
 change_rows q (m ∷ ms) = change_rows q ms ++ change_row q (length ms + 1) m ∷ []
@@ -106,6 +110,7 @@ change_rows q (m ∷ ms) = change_rows q ms ++ change_row q (length ms + 1) m �
 abbrev pub changes : Readings → List Command → ℕ → List ChangeRow
 changes w h q = change_rows q (moves w h q)
 
+-- a duty by its number, in a state
 abbrev pub duty_row : DutyState → ℕ × Owed → DutyRow
 duty_row state d = record {
   number = d.0;

@@ -15,6 +15,7 @@ use Rattle.desk_model.specs.declared.state.ReleaseState.TheVariants as release
 use Rattle.desk_model.specs.declared.state.Word.{Word}
 use Rattle.desk_model.specs.declared.state.Word.TheVariants as word
 
+-- the word of a change, as change rows and replies show it
 abbrev pub word_name : Word → List ℕ
 word_name word.Raised = codes "raised"
 word_name word.Met = codes "met"
@@ -23,6 +24,7 @@ word_name word.Reopened = codes "reopened"
 word_name word.Withdrawn = codes "withdrawn"
 word_name word.Ended = codes "ended"
 
+-- the name of a refusal, as replies give it beside its number
 abbrev pub refusal_name : Refusal → List ℕ
 refusal_name (why.BadCatalogue a) = codes "BadCatalogue"
 refusal_name (why.BadDocument a) = codes "BadDocument"
@@ -55,17 +57,20 @@ refusal_name why.TooMany = codes "TooMany"
 refusal_name why.TooManyTerms = codes "TooManyTerms"
 refusal_name why.BadEnd = codes "BadEnd"
 
+-- the state of a release, as tables and replies show it
 abbrev pub release_state_name : ReleaseState → List ℕ
 release_state_name release.IsOpen = codes "open"
 release_state_name release.Frozen = codes "frozen"
 release_state_name release.Withdrawn = codes "withdrawn"
 
+-- the state of a duty, as tables and replies show it
 abbrev pub duty_state_name : DutyState → List ℕ
 duty_state_name duty.IsOpen = codes "open"
 duty_state_name duty.Met = codes "met"
 duty_state_name duty.Waived = codes "waived"
 duty_state_name duty.Withdrawn = codes "withdrawn"
 
+-- the limit that the refusal Full names: what there is no room for
 abbrev pub limit_name : Limit → List ℕ
 limit_name limit.Revisions = codes "revisions"
 limit_name limit.Documents = codes "documents"
@@ -75,6 +80,7 @@ limit_name limit.Adoptions = codes "adoptions"
 limit_name limit.Duties = codes "duties"
 limit_name limit.Changes = codes "changes"
 
+-- the part of a catalogue that a fault names, by its key in the text
 abbrev pub part_name : CataloguePart → List ℕ
 part_name part.Forms = codes "forms"
 part_name part.Duty = codes "duty"
@@ -83,14 +89,17 @@ part_name part.Text = codes "text"
 
 -- ---- states and words by their names
 
+-- the state of a release with this name, if there is one; capitals make it another name
 abbrev pub release_state_named : List ℕ → Option ReleaseState
 release_state_named text = find (λ state. bytes_eq (release_state_name state) text)
     (release.IsOpen ∷ release.Frozen ∷ release.Withdrawn ∷ [])
 
+-- the state of a duty with this name
 abbrev pub duty_state_named : List ℕ → Option DutyState
 duty_state_named text = find (λ state. bytes_eq (duty_state_name state) text)
     (duty.IsOpen ∷ duty.Met ∷ duty.Waived ∷ duty.Withdrawn ∷ [])
 
+-- the word with this name
 abbrev pub word_named : List ℕ → Option Word
 word_named text = find (λ word. bytes_eq (word_name word) text)
     (word.Raised ∷ word.Met ∷ word.Waived ∷ word.Reopened ∷ word.Withdrawn ∷ word.Ended ∷ [])

@@ -3,6 +3,8 @@ use Rattle.std.specs.Prelude.{ℕ}
 use Rattle.desk_model.specs.declared.refusal.Refusal.{Refusal}
 use Rattle.desk_model.specs.declared.refusal.Refusal.TheVariants as why
 
+-- the number of a refusal, by which replies and statuses go; the order in which refusals apply is
+-- each command's own
 abbrev pub refusal_number : Refusal → ℕ
 refusal_number (why.BadCatalogue a) = 1
 refusal_number (why.BadDocument a) = 2

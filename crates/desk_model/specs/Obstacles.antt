@@ -58,6 +58,7 @@ shipped_refusals w licences rules form conclusion chosen ps = flat_map
 
 -- A reference of a document is listed once: its adoption mends it for all packages.
 
+-- a refusal is for this reference of this document
 abbrev pub names_reference : ℕ → List ℕ → Refusal → Bool
 names_reference d reference (why.NotAdopted d' reference') = (d' == d)
     && bytes_eq reference' reference
@@ -94,12 +95,14 @@ pub record Obstacles : Type 0 where
   pub attached : ℕ
   pub refusals : List Refusal
 
+-- Wanting: what keeps an open release from being frozen; an empty list if nothing does
 abbrev pub wanting_answer : Obstacles → Answer
 wanting_answer found = refused_first (
     unless (is_some found.state) why.UnknownRelease
     ∷ option_and_then unready found.state
     ∷ []) (answered.Wanting (open_refusals found.attached found.refusals))
 
+-- what Wanting looks up in a history
 abbrev pub obstacles : Readings → List Command → List ℕ → Obstacles
 obstacles w h r =
     let form = unwrap_or (form_of h r) [] in

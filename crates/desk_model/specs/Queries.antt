@@ -11,14 +11,15 @@ use Rattle.desk_model.specs.Bills.{bill_answer, bill_of}
 use Rattle.desk_model.specs.Findings.{findings_answer}
 use Rattle.desk_model.specs.Listings.{Listing, alternatives_answer, cheapest_answer, term_cost}
 use Rattle.desk_model.specs.Obstacles.{obstacles, wanting_answer}
-use Rattle.desk_model.specs.Moves.{changes, duties}
+use Rattle.desk_model.specs.Moves.{changes, duties, end_after, moves}
+use Rattle.desk_model.specs.Ready.{keeps_back, ready_answer}
 use Rattle.desk_model.specs.States.{is_open, is_met, is_waived, is_withdrawn}
 use Rattle.desk_model.specs.Moves.{duty_at}
 use Rattle.desk_model.specs.declared.refusal.Refusal.TheVariants as why
 use Rattle.std.specs.Option.{option_map, option_and_then}
 use Rattle.desk_model.specs.Raised.{chosen_in, shipped}
 use Rattle.desk_model.specs.Tables.{release_row, release_rows, tables}
-use Rattle.desk_model.specs.Answers.{conclusion, has_document, package_at}
+use Rattle.desk_model.specs.Answers.{conclusion, has_document, package_at, release_state}
 use Rattle.desk_model.specs.declared.reading.Conclusion.{Conclusion}
 use Rattle.desk_model.specs.declared.row.PackageRow.{PackageRow}
 use Rattle.desk_model.specs.declared.row.DocumentHead.{DocumentHead}
@@ -54,6 +55,7 @@ last_day [] = None
 last_day (row ∷ []) = Some row.day
 last_day (row ∷ next ∷ rows) = last_day (next ∷ rows)
 
+-- the line of a duty, with the day of its last change
 abbrev pub duty_line : (ℕ → List ChangeRow) → DutyRow → DutyLine
 duty_line changed row = record {
   number = row.number;
@@ -69,6 +71,11 @@ duty_line changed row = record {
 -- the duties of a release, by number
 abbrev pub duties_of : Readings → List Command → List ℕ → List DutyRow
 duties_of w h r = filter (is_duty_of r) (duties w h)
+
+-- those that keep it back, for a day if one is given
+abbrev pub unready_duties : Readings → List Command → List ℕ → Option (List ℕ) → List DutyRow
+unready_duties w h r day = filter
+    (λ row. keeps_back day row.state (end_after (moves w h row.number))) (duties_of w h r)
 
 -- the line of a package, from its conclusion in force and what is chosen for it
 abbrev pub package_line : (PackageRow → Option Conclusion) → (PackageRow → List (List ℕ))
@@ -103,6 +110,7 @@ document_line rows document = record {
 abbrev pub is_open_of : List ℕ → DutyRow → Bool
 is_open_of r row = is_duty_of r row && is_open row.state
 
+-- an open duty, with the day of its last change: the day since which it is open
 abbrev pub open_duty : (ℕ → List ChangeRow) → DutyRow → OpenDuty
 open_duty changed row = record { duty = row; day = last_day (changed row.number) }
 
@@ -118,6 +126,7 @@ listing w h d p = record {
   conclusion = option_and_then (conclusion w h) (package_at w h d p);
 }
 
+-- the answer to a query after a history; no query changes anything
 abbrev pub queried : Readings → List Command → Query → Answer
 queried w h (query.Duties r) =
     if is_some (form_of h r) then answered.Duties (map (duty_line (changes w h)) (duties_of w h r))
@@ -148,3 +157,5 @@ queried w h query.Documents = answered.Documents
 queried w h query.OpenDuties = answered.OpenDuties
     (flat_map (open_duties (changes w h) (duties w h)) (release_rows h))
 queried w h (query.Wanting r) = wanting_answer (obstacles w h r)
+queried w h (query.Ready r day) = ready_answer day (release_state h r)
+    (map (duty_line (changes w h)) (unready_duties w h r day))

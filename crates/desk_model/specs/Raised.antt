@@ -20,6 +20,7 @@ use Rattle.desk_model.specs.declared.command.Command.TheVariants.{Freeze}
 abbrev pub shipped_of : List AttachedRow → List PackageRow → List PackageRow
 shipped_of rows all = flat_map (λ row. filter (is_shipped_by row.document) all) rows
 
+-- what a release ships: the shipped packages of its documents, by document and id
 abbrev pub shipped : Readings → List Command → List ℕ → List PackageRow
 shipped w h r = shipped_of (attached_to (attached h) r) (packages w h)
 
@@ -45,6 +46,7 @@ abbrev pub owed_under : List ℕ → PackageRow → List ℕ → Option Rule →
 owed_under r p term None = []
 owed_under r p term (Some rule) = map (owed_code r p term rule) rule.codes
 
+-- what the terms of one package owe, term by term in the order given
 abbrev pub owed_for_terms : Readings → List AdoptionRow → List Rule → List ℕ → List ℕ → PackageRow
     → List (List ℕ) → List Owed
 owed_for_terms w licences rules form r p terms = flat_map
@@ -57,6 +59,7 @@ abbrev pub owed_for : Readings → List AdoptionRow → List Rule → List ℕ �
 owed_for w licences rules form r chosen ps = flat_map
     (λ p. owed_for_terms w licences rules form r p (chosen p)) ps
 
+-- the terms that a release holds for a package
 abbrev pub chosen_in : Readings → List Command → List ℕ → PackageRow → List (List ℕ)
 chosen_in w h r p = choice w h r p.document p.id
 
@@ -85,20 +88,24 @@ frozen_term r p term rule = record {
   rule = rule.spelled;
 }
 
+-- a term is recorded with its rule; a freeze lets no term without a rule pass
 abbrev pub frozen_under : List ℕ → PackageRow → List ℕ → Option Rule → List FrozenRow
 frozen_under r p term None = []
 frozen_under r p term (Some rule) = frozen_term r p term rule ∷ []
 
+-- the records of one package's terms
 abbrev pub frozen_for_terms : Readings → List AdoptionRow → List Rule → List ℕ → List ℕ → PackageRow
     → List (List ℕ) → List FrozenRow
 frozen_for_terms w licences rules form r p terms = flat_map
     (λ term. frozen_under r p term (rule_adopted w licences rules form p.document term)) terms
 
+-- the records of all packages that are shipped, each with its chosen terms
 abbrev pub frozen_for : Readings → List AdoptionRow → List Rule → List ℕ → List ℕ
     → (PackageRow → List (List ℕ)) → List PackageRow → List FrozenRow
 frozen_for w licences rules form r chosen ps = flat_map
     (λ p. frozen_for_terms w licences rules form r p (chosen p)) ps
 
+-- the terms that a freeze of the release after these commands records
 abbrev pub frozen_at : Readings → List Command → List ℕ → List FrozenRow
 frozen_at w h r = frozen_for w (adoptions w h) (rules_in (in_force w h))
     (unwrap_or (form_of h r) []) r (chosen_in w h r) (shipped w h r)

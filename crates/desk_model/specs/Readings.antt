@@ -14,6 +14,7 @@ use Rattle.desk_model.specs.declared.refusal.CatalogueFault.{CatalogueFault}
 use Rattle.desk_model.specs.declared.refusal.DocumentFault.{DocumentFault}
 use Rattle.desk_model.specs.declared.refusal.ExpressionFault.{ExpressionFault}
 
+-- all ways in which the desk reads a text; each is a function, so a text says the same each time
 pub record Readings : Type 0 where
   -- the catalogue that a text is, or its fault
   pub catalogue : List ℕ → Result Catalogue CatalogueFault

@@ -11,6 +11,7 @@ abbrev pub is_kept : Outcome → Bool
 is_kept (Answered a) = is_recorded a
 is_kept (Failed fault) = false
 
+-- the history after one command with this outcome
 abbrev pub history_with : List Command → Command → Outcome → List Command
 history_with h c o = if is_kept o then c ∷ h else h
 

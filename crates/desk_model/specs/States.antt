@@ -5,18 +5,22 @@ use Rattle.desk_model.specs.declared.state.DutyState.TheVariants as stands
 use Rattle.desk_model.specs.declared.state.Word.{Word}
 use Rattle.desk_model.specs.declared.state.Word.TheVariants as word
 
+-- not yet met, waived or withdrawn
 abbrev pub is_open : DutyState → Bool
 is_open stands.IsOpen = true
 is_open _ = false
 
+-- done, with evidence
 abbrev pub is_met : DutyState → Bool
 is_met stands.Met = true
 is_met _ = false
 
+-- let off, perhaps up to a last day
 abbrev pub is_waived : DutyState → Bool
 is_waived stands.Waived = true
 is_waived _ = false
 
+-- gone with its release
 abbrev pub is_withdrawn : DutyState → Bool
 is_withdrawn stands.Withdrawn = true
 is_withdrawn _ = false

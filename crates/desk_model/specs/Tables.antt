@@ -52,6 +52,7 @@ pub record Tables : Type 0 where
   pub duty : List DutyRow
   pub changes : List ChangeRow
 
+-- the row of a release that was opened
 abbrev pub release_row : List Command → List ℕ → ReleaseRow
 release_row h r = record {
   name = r;
@@ -61,15 +62,19 @@ release_row h r = record {
   revision = revision_of h r;
 }
 
+-- the releases by name
 abbrev pub release_rows : List Command → List ReleaseRow
 release_rows h = map (release_row h) (names h)
 
+-- one chosen term of a package in a release
 abbrev pub choice_row : List ℕ → ℕ → List ℕ → List ℕ → ChoiceRow
 choice_row r d p term = record { release = r; document = d; package_id = p; term = term }
 
+-- a choice for another package, or in another release
 abbrev pub is_other_choice : List ℕ → ℕ → List ℕ → ChoiceRow → Bool
 is_other_choice r d p row = not (is_choice_of r d p row)
 
+-- a choice in another release
 abbrev pub is_choice_elsewhere : List ℕ → ChoiceRow → Bool
 is_choice_elsewhere r row = not (is_choice_in r row)
 
@@ -87,6 +92,7 @@ standing w (_ ∷ h) = standing w h
 abbrev pub choices : Readings → List Command → List ChoiceRow
 choices w h = in_order (below_by choice_order) (standing w h)
 
+-- what is in the tables after a history, each list sorted by its key
 abbrev pub tables : Readings → List Command → Tables
 tables w h = record {
   catalogue = revisions h;
@@ -105,12 +111,15 @@ tables w h = record {
   changes = all_changes w h;
 }
 
+-- a release in another state, with the revision of its freeze
 abbrev pub with_release_state : ReleaseState → ℕ → ReleaseRow → ReleaseRow
 with_release_state state revision row = record row { state = state; revision = revision }
 
+-- a release in the state Withdrawn; the revision of its freeze stays
 abbrev pub withdrawn_release : ReleaseRow → ReleaseRow
 withdrawn_release row = record row { state = Withdrawn }
 
+-- a duty in another state
 abbrev pub with_duty_state : DutyState → DutyRow → DutyRow
 with_duty_state state row = record row { state = state }
 

@@ -194,6 +194,13 @@ pub enum Query {
         /// The name of a release.
         release: Text,
     },
+    /// The duties that keep a frozen release from being ready, by number.
+    Ready {
+        /// The name of a release.
+        release: Text,
+        /// The day on which waivers have to last, `YYYY-MM-DD`, if they have to.
+        day: Option<Text>,
+    },
 }
 
 /// A duty of a release, and the day of its last change.
@@ -294,7 +301,7 @@ pub enum Answer {
     },
     /// This many waivers ended.
     Closed(u64),
-    /// The duties of a release, by number.
+    /// The duties of a release, or those that keep it from being ready, by number.
     Duties(Items<DutyLine>),
     /// The duties of a release, counted by state.
     Totals(Totals),

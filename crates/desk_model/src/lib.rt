@@ -14,6 +14,7 @@ pub mod reading;
 pub mod refusal;
 pub mod row;
 pub mod state;
+pub mod waiver;
 
 pub use bill::{Bill, BillLine, BillText, TextOf};
 pub use command::{
@@ -33,3 +34,4 @@ pub use row::{
     Standing,
 };
 pub use state::{DutyState, ReleaseState, Word};
+pub use waiver::is_over;

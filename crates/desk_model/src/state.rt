@@ -3,8 +3,11 @@
 /// The state of a release. It is printed as `open`, `frozen` or `withdrawn`.
 #[derive(Clone, Copy, PartialEq, Eq)]
 pub enum ReleaseState {
+    /// Documents can be attached, and terms chosen.
     IsOpen,
+    /// Its duties were raised, and its terms are recorded.
     Frozen,
+    /// It holds no choice any more, and nothing changes it.
     Withdrawn,
 }
 
@@ -41,9 +44,13 @@ impl ReleaseState {
 /// The state of a duty. It is printed as `open`, `met`, `waived` or `withdrawn`.
 #[derive(Clone, Copy, PartialEq, Eq)]
 pub enum DutyState {
+    /// It is to be met or waived.
     IsOpen,
+    /// It was done, with evidence.
     Met,
+    /// The office lets it off, perhaps up to a last day.
     Waived,
+    /// Its release was withdrawn while it was open or waived.
     Withdrawn,
 }
 
@@ -83,11 +90,17 @@ impl DutyState {
 /// or `ended`.
 #[derive(Clone, Copy, PartialEq, Eq)]
 pub enum Word {
+    /// A freeze raised it: always its first change.
     Raised,
+    /// It was met.
     Met,
+    /// It was waived.
     Waived,
+    /// It is open again, after it was met or waived.
     Reopened,
+    /// Its release was withdrawn.
     Withdrawn,
+    /// Its waiver ended, and it is open again.
     Ended,
 }
 

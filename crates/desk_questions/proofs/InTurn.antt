@@ -1,6 +1,8 @@
--- One more line, looked up after those before it.
-use Rattle.std.proofs.Common.{◌≡◌, ◌∙◌, List, [], ◌∷◌, ◌++◌, map, sym, ap}
+-- One more line or row, looked up after those before it.
+use Rattle.std.proofs.Common.{◌≡◌, ◌∙◌, Bool, cond, List, [], ◌∷◌, ◌++◌, map, sym, ap}
+use Rattle.std.specs.Prelude.{filter}
 use Rattle.std.proofs.lemmas.List.{map-append}
+use Rattle.std.proofs.lemmas.List.Elements.{filter-append}
 use Rattle.desk_model.specs.Tables.{Tables}
 use Rattle.desk_access.specs.Seen.{Seen, Same, OfRows}
 use Rattle.desk_access.proofs.Chains.{same_then_same}
@@ -23,4 +25,21 @@ module _ {Left X L : Type 0} (line_of : Tables → X → L) (done : List X) (x :
   one_more before second one pushed = record {
     same = same_then_same a b c before.same second;
     found = line_more before.same second before.found one pushed;
+  }
+
+-- one more row, if it passes a test that was looked up
+module _ {Left X : Type 0} (test : Tables → X → Bool) (done : List X) (x : X)
+    (rows after : List X) (is : Bool) (a b c : Seen Left) where
+  pub one_tested : SoFar (OfRows (λ t. rows ≡ filter (test t) done)) a b → Same b c
+      → OfRows (λ t. is ≡ test t x) b c → after ≡ rows ++ cond is (x ∷ []) []
+      → SoFar (OfRows (λ t. after ≡ filter (test t) (done ++ x ∷ []))) a c
+  one_tested before second one pushed = record {
+    same = same_then_same a b c before.same second;
+    found = λ honest t held.
+        pushed
+        ∙ (ap (λ xs. xs ++ cond is (x ∷ []) [])
+        (before.found (second.kept.spared.honest honest) t held)
+        ∙ (ap (λ b. filter (test t) done ++ cond b (x ∷ []) [])
+        (one honest t (before.same.kept.spared.holds t held))
+        ∙ sym (filter-append (test t) done (x ∷ []))));
   }

@@ -66,6 +66,7 @@ abbrev pub text_key : TextOf → TextKey
 text_key (Licence id) = record { document = 0; name = id }
 text_key (Reference d reference) = record { document = d + 1; name = reference }
 
+-- licences and exceptions by id, then references by document and name
 abbrev pub key_order : TextKey → TextKey → Ordering
 key_order = then_cmp (on (λ k. k.document) nat_cmp) (on (λ k. k.name) (slice_cmp nat_cmp))
 

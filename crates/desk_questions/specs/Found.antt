@@ -16,10 +16,12 @@ use Rattle.desk_model.specs.declared.command.Answer.{Answer}
 use Rattle.desk_model.specs.declared.command.Answer.TheVariants as answered
 use Rattle.desk_history.specs.FromTables.{conclusion_found, package_found, rules_found, stands_document}
 
+-- the sets, or the refusal that says why they aren't listed
 abbrev pub listed : Result (List (List (List ℕ))) ListFault → Answer
 listed (Ok sets) = answered.Alternatives sets
 listed (Err fault) = answered.Refused (list_refusal fault)
 
+-- the cheapest set, if there is one, or the refusal that says why it wasn't sought
 abbrev pub priced : Result (Option Cheapest) ListFault → Answer
 priced (Ok found) = answered.Cheapest found
 priced (Err fault) = answered.Refused (list_refusal fault)

@@ -19,11 +19,13 @@ counted_line t row = record {
       (release_found t row.name)) (totals_of []);
 }
 
+-- the line of a document: how many packages it ships
 abbrev pub head_line : Tables → DocumentHead → DocumentLine
 head_line t head = record {
   head = head;
   shipped = length (filter (is_shipped_by head.number) t.packages);
 }
 
+-- the changes of a duty, by step
 abbrev pub changes_found : Tables → ℕ → List ChangeRow
 changes_found t q = filter (is_change_of q) t.changes

@@ -8,11 +8,14 @@ use Rattle.desk_model.specs.declared.row.FrozenRow.{FrozenRow}
 use Rattle.desk_sorted.specs.Sorted.{IsSideOf}
 use Rattle.desk_sorted.specs.Sides.{side_by, three_cmp, three_less, three_meet, three_total}
 
+-- Less before the rows of a package in a release, Equal among them, Greater behind them
 abbrev pub package_side : List ℕ → ℕ → List ℕ → FrozenRow → Ordering
 package_side release document id row =
     ordering_then (ordering_then (slice_cmp nat_cmp row.release release)
     (nat_cmp row.document document)) (slice_cmp nat_cmp row.package_id id)
 
+-- in the order of frozen terms the rows before the package's come first, then these, then those
+-- behind them
 pub package_splits : (release : List ℕ) (document : ℕ) (id : List ℕ)
     → IsSideOf frozen_order (package_side release document id)
 package_splits release document id =

@@ -13,6 +13,7 @@ use crate::findings::findings;
 use crate::listing::{alternatives, cheapest};
 use crate::lists::{documents, open_duties, releases};
 use crate::packages::release;
+use crate::ready::ready;
 use crate::wanting::wanting;
 use desk_access::store::Store;
 use desk_access::texts::Texts;
@@ -22,7 +23,7 @@ use std::alloc::Global;
 
 #[tactic(auto, using(desk_access::proofs::Chains::same_then_kept, desk_access::proofs::Chains::same_then_same))]
 /// The lines of duties, each with the day of its last change.
-fn duty_lines<S: Store>(
+pub(crate) fn duty_lines<S: Store>(
     alloc: Global,
     store: &mut S,
     rows: Vec<DutyRow>,
@@ -126,5 +127,6 @@ pub fn answer_to<T: Texts, S: Store>(
         Query::Documents => documents(alloc, store),
         Query::OpenDuties => open_duties(alloc, store),
         Query::Wanting { release } => wanting(alloc, texts, store, release),
+        Query::Ready { release, day } => ready(alloc, store, release, day),
     }
 }

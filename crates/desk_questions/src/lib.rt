@@ -8,7 +8,8 @@
 //! - `answer_to` answers all questions; `ask` has those about duties, `findings` reads a document,
 //!   `packages` describes a release, `listing` has the sets of terms under which a conclusion is
 //!   true, `bill` what the notices of a release are written from, `lists` all releases, documents
-//!   and open duties, `wanting` what keeps a release from being frozen.
+//!   and open duties, `wanting` what keeps a release from being frozen, `ready` what
+//!   keeps a frozen one from being ready.
 #![tactic(auto)]
 
 pub mod ask;
@@ -18,5 +19,6 @@ mod frozen;
 pub mod listing;
 pub mod lists;
 pub mod packages;
+pub mod ready;
 mod texts;
 pub mod wanting;

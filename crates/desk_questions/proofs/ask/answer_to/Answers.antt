@@ -27,3 +27,6 @@ returns-in-Documents-clause-answer g c = λ w right. rw c.in-Documents.is
 pub returns-in-OpenDuties-clause-answer : goal.returns-in-OpenDuties-clause-answer
 returns-in-OpenDuties-clause-answer g c = λ w right. rw c.in-OpenDuties.is
     (c.open_duties.ensures.answer w)
+
+pub returns-in-Ready-clause-answer : goal.returns-in-Ready-clause-answer
+returns-in-Ready-clause-answer g c = λ w right. rw c.in-Ready.is (c.ready.ensures.answer w)
