@@ -1,0 +1,5 @@
+pub mod Filling
+pub mod Values
+pub mod Reading
+pub mod Shown
+pub mod Showing
