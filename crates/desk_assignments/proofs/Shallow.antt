@@ -1,6 +1,6 @@
 -- What words spell is nested two deep at most.
-use Rattle.std.proofs.Common.{◌≡◌, ◌≤◌, ◌+◌, ◌∙◌, ℕ, suc, max, Bool, true, false, List, [], ◌∷◌, Option}
-use Rattle.std.proofs.Common.{Some, None, Ordering, Less, Equal, Greater, nat_cmp, refl, sym, ap, subst}
+use Rattle.std.proofs.Common.{◌≡◌, ◌≤◌, ◌+◌, ℕ, suc, Bool, true, false, List, [], ◌∷◌, Option}
+use Rattle.std.proofs.Common.{Some, None, Ordering, Less, Equal, Greater, nat_cmp, refl, subst}
 use Rattle.std.proofs.Common.{arith, cond, length}
 use Rattle.std.specs.Prelude.{Result, Ok, Err, ◌==◌, is_some, if◌then◌else◌, codes}
 use Rattle.std.specs.Prelude.{not, ◌||◌}
@@ -9,9 +9,8 @@ use Rattle.std.specs.List.{list_any, position_or_len, slice_split}
 use Rattle.std.specs.Cmp.Lexicographic.{slice_cmp}
 use Rattle.std.specs.Ordering.{match_ordering}
 use Rattle.serde_json.specs.Data.{Data, string, Members, no_members, member, put, items_depth}
-use Rattle.serde_json.specs.Data.{members_depth, depth, Items, no_items, item}
+use Rattle.serde_json.specs.Data.{members_depth, depth}
 use Rattle.serde_json.specs.Find.{get_member}
-use Rattle.serde_json.specs.View.{items_of}
 use Rattle.desk_line.specs.Numbers.{number_written}
 use Rattle.desk_assignments.specs.Values.{assigned_value, is_number_key, number_if, text_items}
 use Rattle.desk_assignments.specs.Values.{text_list}

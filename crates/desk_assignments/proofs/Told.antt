@@ -1,8 +1,8 @@
 -- A trouble that is told of words is one of words that spell no request.
 use Rattle.std.proofs.Common.{◌≡◌, refl, ap}
-use Rattle.std.specs.Prelude.{⊤, Result, Ok, Err}
+use Rattle.std.specs.Prelude.{ℕ, List, Result}
 use Rattle.serde_json.specs.Data.{Data}
-use Rattle.desk_assignments.specs.Requests.{IsTold, request_from}
+use Rattle.desk_assignments.specs.Requests.{IsTold, IsToldAs, IsTroubleOf, request_from}
 use Rattle.desk_assignments.specs.Words.{IsFaultOf}
 use Rattle.desk_assignments.specs.declared.line.WordsFault.{WordsFault}
 use Rattle.desk_assignments.specs.declared.line.WordsFault.TheVariants as fault
@@ -25,3 +25,25 @@ told_of found (fault.NoAssignment place) told is memory =
     of_none told (request_from found) (ap request_from is)
 told_of found (fault.Repeated place) told is memory =
     of_none told (request_from found) (ap request_from is)
+
+-- what is told of a fault is the trouble of the words that have it
+pub trouble_of : (operands : List (List ℕ)) (found : Result Data WordsFault) (why : WordsFault)
+    (told : WordsTrouble) → IsFaultOf found why → IsToldAs operands why told
+    → IsTroubleOf operands found told
+trouble_of operands found fault.Memory trouble.Memory is told = tt
+trouble_of operands found (fault.NoAssignment place) (trouble.NoAssignment operand usage) is told =
+    (place, is, told)
+trouble_of operands found (fault.Repeated place) (trouble.Repeated operand usage) is told =
+    (place, is, told)
+trouble_of operands found fault.Memory (trouble.NoAssignment operand usage) is told = absurd told
+trouble_of operands found fault.Memory (trouble.Repeated operand usage) is told = absurd told
+trouble_of operands found fault.Memory (trouble.NoRequest why usage) is told = absurd told
+trouble_of operands found (fault.NoAssignment place) trouble.Memory is told = absurd told
+trouble_of operands found (fault.NoAssignment place) (trouble.Repeated operand usage) is told =
+    absurd told
+trouble_of operands found (fault.NoAssignment place) (trouble.NoRequest why usage) is told =
+    absurd told
+trouble_of operands found (fault.Repeated place) trouble.Memory is told = absurd told
+trouble_of operands found (fault.Repeated place) (trouble.NoAssignment operand usage) is told =
+    absurd told
+trouble_of operands found (fault.Repeated place) (trouble.NoRequest why usage) is told = absurd told

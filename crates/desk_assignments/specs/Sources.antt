@@ -13,6 +13,7 @@ pub data Filed : Type 0 where
   document : List ℕ → Profile → Filed
   catalogue : List ℕ → Filed
 
+-- the file of a source, apart from where its path is in memory
 abbrev pub seen_source : Source → Filed
 seen_source (source.Document path profile) = document path.now profile
 seen_source (source.Catalogue path) = catalogue path.now

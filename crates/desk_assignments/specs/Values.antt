@@ -7,6 +7,7 @@ use Rattle.serde_json.specs.Data.{Data, Items, number, unsigned, string, array}
 use Rattle.serde_json.specs.View.{items_of}
 use Rattle.desk_line.specs.Numbers.{number_written}
 
+-- the number if the text writes one, or else the text itself, which no key for numbers takes
 abbrev pub number_if : Option ℕ → List ℕ → Data
 number_if None text = string text
 number_if (Some n) text = number (unsigned n)
@@ -15,6 +16,7 @@ number_if (Some n) text = number (unsigned n)
 abbrev pub number_or_text : List ℕ → Data
 number_or_text text = number_if (number_written 64 text) text
 
+-- texts as the items of a list; an empty part is an empty text
 abbrev pub text_items : List (List ℕ) → Items
 text_items parts = items_of (map string parts)
 

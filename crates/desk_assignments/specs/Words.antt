@@ -26,9 +26,11 @@ with_assignment place ms None = Err (fault.NoAssignment place)
 with_assignment place ms (Some a) = if is_some (get_member a.0 ms) then Err (fault.Repeated place)
     else Ok (put a.0 (assigned_value a.0 a.1) ms)
 
+-- members with the one that an operand assigns
 abbrev pub with_operand : ℕ → Members → List ℕ → Result Members WordsFault
 with_operand place ms operand = with_assignment place ms (assignment operand)
 
+-- what comes next, unless there was a fault
 abbrev pub and_then : Result Members WordsFault → (Members → Result Members WordsFault)
     → Result Members WordsFault
 and_then (Ok ms) next = next ms
@@ -44,6 +46,7 @@ members_from place ms (operand ∷ more) = and_then (with_operand place ms opera
 abbrev pub members_in : Verb → List ℕ → List (List ℕ) → Result Members WordsFault
 members_in v word operands = members_from 0 (put (verb_key v) (string word) no_members) operands
 
+-- the object with these members, or the fault
 abbrev pub object_of : Result Members WordsFault → Result Data WordsFault
 object_of (Ok ms) = Ok (object ms)
 object_of (Err why) = Err why

@@ -18,6 +18,7 @@ use thiserror::Error;
 /// Why words spell no request.
 #[derive(Clone, Copy, Debug, Drop, PartialEq, Eq, Error)]
 pub enum WordsFault {
+    /// Memory ran out.
     #[error("no memory is left")]
     Memory,
     /// The operand with this number, counted from 0, has no `=`.

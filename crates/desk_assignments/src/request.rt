@@ -1,8 +1,10 @@
 //! The request that words spell.
 
 ghost use Rattle.std.specs.Prelude.{◌≡◌, ◌≢◌, IfOk, IfErr};
+ghost use Rattle.std.specs.String.{string_bytes};
 ghost use Rattle.desk_json.specs.declared.request.Request.TheVariants.{BadCommand};
-ghost use Rattle.desk_assignments.specs.Requests.{IsTold, request_in_words, words_request};
+ghost use Rattle.desk_assignments.specs.Requests.{IsTold, IsToldAs, IsTrouble, IsTroubleOf, operand_at, request_in_words, words_request};
+ghost use Rattle.desk_assignments.specs.Words.{words_data};
 
 use crate::line::{WordsFault, request_line};
 use crate::trouble::WordsTrouble;
@@ -13,7 +15,9 @@ use desk_words::{RequestTrouble, request_trouble, request_usage};
 use std::alloc::{AllocError, Global};
 
 /// The operand with this number.
-fn operand_at(alloc: Global, operands: &[Text], place: usize) -> Result<String, AllocError> {
+fn operand_at(alloc: Global, operands: &[Text], place: usize) -> Result<String, AllocError>
+    ensures { IfOk result (λ operand. string_bytes operand ≡ operand_at operands.now place) }
+{
     match operands.get(place) {
         Some(operand) => String::from_str(alloc, operand.as_str()),
         None => Ok(String::new(alloc)),
@@ -36,7 +40,8 @@ fn told(
     word: &str,
     operands: &[Text],
 ) -> Result<WordsTrouble, AllocError>
-    ensures { IfOk result (λ trouble. fault ≡ WordsFault.Memory → trouble ≡ WordsTrouble.Memory) }
+    ensures memory { IfOk result (λ trouble. fault ≡ WordsFault.Memory → trouble ≡ WordsTrouble.Memory) }
+    ensures told { IfOk result (IsToldAs operands.now fault) }
 {
     let usage = request_usage(alloc, verb.key(), word)?;
     match fault {
@@ -62,6 +67,8 @@ fn read_request(
     ensures ok { IfOk result (λ request. (words_request verb word.now operands.now ≡ request)
         × (request ≢ BadCommand)) }
     ensures err { IfErr result (IsTold (words_request verb word.now operands.now)) }
+    ensures why { IfErr result
+        (IsTroubleOf operands.now (words_data verb word.now operands.now)) }
 {
     let line = match request_line(alloc, verb, word, operands) {
         Ok(line) => line,
@@ -87,6 +94,7 @@ pub fn read_words(alloc: Global, verb: Verb, words: &[Text]) -> Result<Request, 
     ensures ok { IfOk result (λ request. (request_in_words verb words.now ≡ request)
         × (request ≢ BadCommand)) }
     ensures err { IfErr result (IsTold (request_in_words verb words.now)) }
+    ensures why { IfErr result (IsTrouble verb words.now) }
 {
     match words.split_first() {
         Some((word, operands)) => read_request(alloc, verb, word.as_str(), operands),

@@ -30,8 +30,8 @@ fn at_path(bytes: &[u8]) -> Option<&str>
     }
 }
 
-/// The file of a request, if it is an import or a catalogue whose text is `@` and a path. No
-/// document and no catalogue begins with `@`.
+/// The file of a request, if it is an import or a catalogue whose text is `@` and a path. A text that
+/// begins with `@` itself has to be in a file.
 pub fn source_of(request: &Request) -> Option<Source<'_>>
     ensures { option_map seen_source result ≡ source_of request.now }
 {

@@ -7,6 +7,7 @@ use thiserror::Error;
 /// Why words spell no request. What may stand in such a request comes last.
 #[derive(Debug, Drop, Error)]
 pub enum WordsTrouble {
+    /// Memory ran out.
     #[error("no memory is left")]
     Memory,
     /// An operand has no `=`.

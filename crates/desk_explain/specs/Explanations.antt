@@ -46,14 +46,18 @@ kind_text Problem = codes "problem of a source tree"
 abbrev pub heading : Entry → List ℕ
 heading entry = entry.name.now ++ (codes ": " ++ (kind_text entry.kind ++ 10 ∷ []))
 
+-- what the first line below the heading is called: a condition says what must hold, any other entry
+-- what is wrong
 abbrev pub meaning_label : Kind → List ℕ
 meaning_label (Condition number) = codes "What must hold"
 meaning_label _ = codes "What is wrong"
 
+-- what the second line is called: a document's fault also says what is wanted in its place
 abbrev pub cause_label : Kind → List ℕ
 cause_label (DocumentFault number) = codes "Usual cause, and what is wanted"
 cause_label _ = codes "Usual cause"
 
+-- the page that says more
 abbrev pub page : Kind → List ℕ
 page (Finding number clauses) = codes "docs/REQUESTS.md"
 page (CatalogueFault number) = codes "docs/CATALOGUE.md"
@@ -70,6 +74,7 @@ abbrev pub line : List ℕ → Option (Bor (List ℕ)) → List ℕ
 line label None = []
 line label (Some words) = label_line label words.now
 
+-- the heading of an entry, what it means, its usual cause, and its page
 abbrev pub block : Entry → List ℕ
 block entry = heading entry ++ line (meaning_label entry.kind) entry.meaning
     ++ line (cause_label entry.kind) entry.cause

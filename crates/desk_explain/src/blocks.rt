@@ -70,7 +70,7 @@ fn add_block(alloc: Global, text: &mut String, entry: &Entry) -> Result<(), Allo
     add_line(text, "Page", Some(page(&entry.kind)))
 }
 
-/// The text of entries: a block for each, with its name and what it stands for, what is wrong, the
+/// The text of entries: a block for each, with its name, what the name means, what is wrong, the
 /// usual cause, and the page that has these words.
 pub fn explanation(alloc: Global, entries: &[Entry]) -> Result<String, AllocError>
     ensures { IfOk result (λ text. string_bytes text ≡ flat_map block entries.now) }

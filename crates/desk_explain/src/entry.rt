@@ -2,18 +2,21 @@
 
 use std::fmt;
 
-/// What a name stands for. Numbers are those of the pages.
+/// What a name is for. Numbers are those of the pages.
 #[derive(Clone, Copy)]
 pub enum Kind {
     /// A refusal, with the requests that have it.
     Refusal { number: u8, requests: &'static str },
+    /// A fault of a document in tag-value form.
     DocumentFault { number: u8 },
+    /// A fault of a licence expression.
     ExpressionFault { number: u8 },
     /// A fault of a file or a tree, with what prints it.
     OtherFault { place: &'static str },
     /// A finding, which says where a document departs from the standard, with the clauses of
     /// the standard.
     Finding { number: u8, clauses: &'static str },
+    /// A fault of a catalogue.
     CatalogueFault { number: u8 },
     /// A condition that an audit tests.
     Condition { number: u8 },
@@ -24,10 +27,13 @@ pub enum Kind {
 /// What a page says of a name.
 #[derive(Clone, Copy)]
 pub struct Entry {
+    /// The name, as the desk prints it.
     pub name: &'static str,
+    /// What the name is for.
     pub kind: Kind,
     /// What is wrong or, for a condition, what must hold.
     pub meaning: Option<&'static str>,
+    /// What it usually comes from.
     pub cause: Option<&'static str>,
 }
 

@@ -148,8 +148,12 @@ pub(crate) const OTHER_FAULTS: [Entry; 9] = [
     Entry {
         name: "NotADesk",
         kind: Kind::OtherFault { place: "--db FILE" },
-        meaning: Some("a table, index or view too many, too few or of another form"),
-        cause: Some("a database of something else"),
+        meaning: Some(
+            "a desk's table that is missing, made otherwise, or with a trigger or an index that could refuse a row; a foreign key",
+        ),
+        cause: Some(
+            "a database of something else; or a desk's rows in tables of another form: examples/restore",
+        ),
     },
     Entry {
         name: "ExpressionTooLong",

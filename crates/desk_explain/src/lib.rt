@@ -4,7 +4,7 @@
 //! conditions of an audit, problems of source trees. A name may be in several tables: `BadTerm` is
 //! both a refusal and a fault of catalogues.
 //!
-//! - `TABLES` is what the pages say, and `entries` what tables say of a name.
+//! - `TABLES` is what the pages say, and `entries` what tables say about a name.
 //! - `explanation` is the text of such entries, a block for each (`specs/Explanations.antt`).
 //!
 //! No contract says what the pages say; tests/explain.py compares the words.

@@ -36,8 +36,8 @@ fn add_named(found: &mut Vec<Entry>, table: &[Entry], name: &str) -> Result<(), 
     Ok(())
 }
 
-/// What the tables say of a name, spelled exactly so, in their order; empty if the desk prints no
-/// such name.
+/// What the tables say about a name with exactly this spelling, in their order; empty if the desk
+/// prints no such name.
 pub fn entries(alloc: Global, tables: &[&[Entry]], name: &str) -> Result<Vec<Entry>, AllocError>
     ensures { IfOk result (λ found. found.items ≡ entries_named name.now tables.now) }
 {

@@ -119,7 +119,7 @@ pub(crate) const REFUSALS: [Entry; 30] = [
         name: "UnknownRelease",
         kind: Kind::Refusal {
             number: 12,
-            requests: "attach, choose, unchoose, freeze, withdraw, duties, totals, release, wanting",
+            requests: "attach, choose, unchoose, freeze, withdraw, duties, totals, release, wanting, ready",
         },
         meaning: None,
         cause: Some("a wrong name, or its opening was refused"),
@@ -128,10 +128,10 @@ pub(crate) const REFUSALS: [Entry; 30] = [
         name: "ReleaseState",
         kind: Kind::Refusal {
             number: 13,
-            requests: "attach, choose, unchoose, freeze, meet, waive, reopen, withdraw, wanting",
+            requests: "attach, choose, unchoose, freeze, meet, waive, reopen, withdraw, wanting, ready",
         },
         meaning: None,
-        cause: Some("the release is frozen, or was withdrawn"),
+        cause: Some("it is frozen or withdrawn; for ready, it isn't frozen"),
     },
     Entry {
         name: "AlreadyAttached",
@@ -253,7 +253,7 @@ pub(crate) const REFUSALS: [Entry; 30] = [
         name: "BadDay",
         kind: Kind::Refusal {
             number: 26,
-            requests: "freeze, meet, waive, reopen, withdraw, close",
+            requests: "freeze, meet, waive, reopen, withdraw, close, ready",
         },
         meaning: None,
         cause: Some("not YYYY-MM-DD, or no day of the calendar"),

@@ -4,13 +4,13 @@ use crate::Help;
 
 /// The help of `alternatives`.
 pub const ALTERNATIVES: Help = Help {
-    about: "Lists the choices of licences that are enough, and no more than that",
+    about: "Lists the minimal sets of licences that satisfy an expression",
     long_about: "\
-Lists the choices of licences that are enough, and no more than that
+Lists the minimal sets of licences that satisfy an expression
 
 Reads a licence expression (SPDX 2.3, Annex D) and prints each minimal set of terms that satisfies
-it, a line each, its terms joined by a comma and a blank. A set is minimal where none of its terms
-can be left out. Small sets come first, and sets of one size in the order of their terms. Or it
+it, a line each, its terms joined by a comma and a blank. A set is minimal if none of its terms can
+be left out. Small sets come first, and sets of the same size in the order of their terms. Or it
 prints one line:
 
   fault: NAME at N     the expression cannot be read: what is wrong, and at which byte, from 0
@@ -18,8 +18,8 @@ prints one line:
   fault: TooMany       some part of it, or the first few of the parts that AND or OR joins, has more
                        than 64 minimal sets",
     after_help: "\
-Licence ids are printed in small letters, references as they stand. A choice can be checked without
-limits: desk check --help.
+Licence ids are printed in small letters, references as they are written. A choice can be checked
+without limits: desk check --help.
 
 Examples:
   desk alternatives 'Apache-2.0 OR MIT AND BSD-3-Clause'

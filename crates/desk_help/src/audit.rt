@@ -8,9 +8,10 @@ pub const AUDIT: Help = Help {
     long_about: "\
 Audits the tables of a file that keeps a desk
 
-Prints sound where the tables are such as a desk's are: the rules are those of the catalogues, the packages
-those of the documents, each choice a minimal set for its package, the duties those that the frozen terms
-owe, and the state of each as its changes say. Else it prints the name of the first condition that isn't met:
+Prints sound if the tables are as a desk writes them: the rules are those of the catalogues, the packages
+are those of the documents, each choice is a minimal set for its package, the duties are those that the
+frozen terms owe, and the state of each follows from its changes. Otherwise it prints the name of the first
+condition that isn't met:
 
   BadMeta      the version of the tables
   BadRevision  the numbers and texts of catalogues
@@ -25,7 +26,7 @@ owe, and the state of each as its changes say. Else it prints the name of the fi
 
 Nothing is recorded in FILE.",
     after_help: "\
-A FILE that is not there, is empty, or is a database with no tables becomes an empty desk first.
+A FILE that does not exist, is empty, or is a database with no tables becomes an empty desk first.
 
 Example:
   desk audit --db desk.db

@@ -14,8 +14,8 @@ one line of JSON:
   {\"revision\":N}                         it is revision N, and in force
   {\"at\":[..],\"name\":\"..\",\"refused\":..}   it was refused, and nothing was changed",
     after_help: "\
-A FILE that is not there, is empty, or is a database with no tables becomes an empty desk first.
-Any other that keeps no desk of this version is left as it is, and one line says so:
+A FILE that does not exist, is empty, or is a database with no tables becomes an empty desk first.
+Any other file without a desk of this version is left unchanged, and one line says so:
 
   fault: NotADesk    it is a database of something else
   fault: BadVersion  it keeps a desk of another version
@@ -23,7 +23,7 @@ Any other that keeps no desk of this version is left as it is, and one line says
 
 One program at a time has FILE open. While it is open, or after it was killed, recent changes are in
 FILE-wal: keep and copy both files together. TOML may be /dev/stdin. It is read before FILE is
-opened, and where it is not UTF-8, it is refused and FILE is not opened.
+opened; if it is not UTF-8, it is refused and FILE is not opened.
 
 Examples:
   desk catalogue --db desk.db catalogue.toml

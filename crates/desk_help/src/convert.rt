@@ -8,20 +8,20 @@ pub const CONVERT: Help = Help {
     long_about: "\
 Writes an SPDX document in JSON as a tag-value document
 
-JSON is a document of SPDX 2.2 or 2.3 in JSON, as many tools write it. What is written says the same of
-the document, its packages, files, extracted licences and relationships, and names its snippets. Standard
-error counts what the desk doesn't read and is left out, as annotations.
+JSON is a document of SPDX 2.2 or 2.3 in JSON, as many tools write it. What is written says the same
+about the document, its packages, files, extracted licences and relationships, and names its snippets.
+Standard error counts what is left out because the desk doesn't read it, such as annotations.
 
-What isn't converted is refused with its place, a JSON pointer (RFC 6901), unless it is no JSON or more
-than 64 MiB:
+A document that can't be converted is refused with the place, a JSON pointer (RFC 6901), unless it is not
+JSON or has more than 64 MiB:
 
   fault: Missing at /packages/0/SPDXID    a required member is missing
   fault: BadType at /packages             the value is of another type
-  fault: BadValue at /packages/0/name     the value can't stand in a tag-value document
+  fault: BadValue at /packages/0/name     the value can't be in a tag-value document
   fault: NotJson
   fault: TooLarge",
     after_help: "\
-import takes such a document as it is. JSON may be /dev/stdin.
+import accepts such a document as it is. JSON may be /dev/stdin.
 
 Examples:
   desk convert kettle.spdx.json >kettle.spdx

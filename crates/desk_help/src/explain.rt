@@ -15,7 +15,7 @@ the desk prints it. Prints what it is, what is wrong, the usual cause, and the p
     Usual cause: a blank, an underscore or more than 64 bytes in the release's name
     Page: docs/REFUSALS.md
 
-If several things have the name, all are printed, one behind the other.",
+If several things have the name, all are printed, one after the other.",
     after_help: "\
 Examples:
   desk explain BadName

@@ -4,27 +4,28 @@ use crate::Help;
 
 /// The help of `gather`.
 pub const GATHER: Help = Help {
-    about: "Writes the SPDX document of a source tree, by what its files say of their licences",
+    about: "Writes the SPDX document of a source tree, from what its files say about their licences",
     long_about: "\
-Writes the SPDX document of a source tree, by what its files say of their licences
+Writes the SPDX document of a source tree, from what its files say about their licences
 
 Reads the files of a folder (REUSE Specification 3.3): the tags SPDX-License-Identifier: and
-SPDX-FileCopyrightText: in each file, or in FILE.license beside it, and the REUSE.toml files from the
+SPDX-FileCopyrightText: in each file, or in FILE.license next to it, and the REUSE.toml files from the
 folder to the file's own. It prints a tag-value document (SPDX 2.3) of one package and its files, with
-their SHA1 digests, licences and notices. The desk's import takes it up to 9,999 files and 4 MiB. Or it
+their SHA1 digests, licences and notices. The desk imports it up to 9,999 files and 4 MiB. Or gather
 prints one line:
 
-  fault: BadToml FILE             a REUSE.toml that is no TOML document of version 1
+  fault: BadToml FILE             a REUSE.toml that is not a TOML document of version 1
   fault: BadAnnotation FILE N K   its annotation N, from 0: K is 1 for no path, 2 for a value of another
-                                  kind, 3 for an unknown precedence, 4 for a licence that is no expression
-  fault: BadExpression FILE N     on line N a licence that is no expression
+                                  kind, 3 for an unknown precedence, 4 for a licence that is not an
+                                  expression
+  fault: BadExpression FILE N     on line N a licence that is not an expression
   fault: BadPath                  a name with a byte below 32, or with a blank at its end
   fault: TooManyFiles             more than 10,000 files
   fault: ExpressionTooLong        licences that cannot be joined to one expression",
     after_help: "\
-Links are not followed and count for nothing, and the folder .git at the root is not entered. Whatever
-else version control ignores has to be taken away before. Files under LICENSES/ and .reuse/ at the
-root, files named LICENSE, LICENCE or COPYING, and empty files are not told of.
+Links are ignored, and the folder .git at the root is not entered. First remove anything else that
+version control ignores. Files under LICENSES/ and .reuse/ at the root, files named LICENSE, LICENCE or
+COPYING, and empty files are left out.
 
 Examples:
   desk gather . --name hello --namespace https://example.org/hello-1 --created 2025-01-01T00:00:00Z
@@ -33,6 +34,6 @@ Examples:
 Statuses:
   0  the document was written
   1  a fault
-  2  the command line is wrong, or a value cannot stand in its field
+  2  the command line is wrong, or a value does not fit its field
   3  no memory, or a file or folder could not be read, or the document could not be written",
 };

@@ -12,14 +12,14 @@ Reads a tag-value document (SPDX 2.1, 2.2 or 2.3) from DOC, or one in JSON (2.2 
 as desk convert does. Imports it as the request import of script does, and prints the reply, one line of
 JSON:
 
-  {\"document\":N,\"new\":true}              it was taken in as document N
-  {\"document\":N,\"new\":false}             the same text stands already as document N
+  {\"document\":N,\"new\":true}              it was imported as document N
+  {\"document\":N,\"new\":false}             the same text was imported before, as document N
   {\"at\":[..],\"name\":\"..\",\"refused\":..}   it was refused, and nothing was changed
 
-Standard error counts what of JSON is left out, or says why what was refused is no document in JSON.",
+Standard error counts what is left out of JSON, or says why a refused file is not a document in JSON.",
     after_help: "\
-A FILE that is not there, is empty, or is a database with no tables becomes an empty desk first.
-Any other that keeps no desk of this version is left as it is, and one line says so:
+A FILE that does not exist, is empty, or is a database with no tables becomes an empty desk first.
+Any other file without a desk of this version is left unchanged, and one line says so:
 
   fault: NotADesk    it is a database of something else
   fault: BadVersion  it keeps a desk of another version
@@ -36,7 +36,7 @@ Examples:
     desk import --db desk.db /dev/stdin
 
 Statuses:
-  0  it was taken in, or stands already
+  0  it was imported, now or before
   1  it was refused, or FILE keeps no such desk
   2  the command line is wrong
   3  no memory, or a file or stream failed",

@@ -10,21 +10,21 @@ Lists the releases, documents or duties of a desk
 
 WHAT is one of:
 
-  releases   in the order of their opening, with how many duties of each are in which state:
+  releases   in the order of their opening, with how many duties each has in each state:
              name,form,state,revision,raised,open,met,waived,withdrawn
   documents  by number, with how many packages and findings each has and how many packages ship:
              number,name,namespace,packages,shipped,findings,profile
-  duties     of all releases, the one that was raised first at the top:
+  duties     of all releases, in the order in which they were raised:
              number,release,document,package,name,rule,code,title,state,raised,since,until
 
-Comma-separated values (RFC 4180), with a line of the columns' names. On a terminal the same table stands
-in columns. title is the code's in the catalogue in force, since the day of the last change, until the last
-day of a waiver that ends.
+Comma-separated values (RFC 4180), with a line of the columns' names. On a terminal the same table is in
+columns. title is the code's in the catalogue in force, since is the day of the last change, and until is
+the last day of a waiver that ends.
 
 --release, --code, --open and --past go with duties: those of a release, with a code, in the state open, or
 waived up to a day before DAY, so that close would open them on that day.",
     after_help: "\
-A FILE that keeps no desk of this version is left as it is, and one line says so, as with duties.
+A FILE without a desk of this version is left unchanged, and one line says so, as with duties.
 
 Examples:
   desk list --db desk.db releases

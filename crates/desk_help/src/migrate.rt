@@ -4,17 +4,17 @@ use crate::Help;
 
 /// The help of `migrate`.
 pub const MIGRATE: Help = Help {
-    about: "Gives a file of an older version the tables of this one",
+    about: "Converts a file of an older version to the tables of this one",
     long_about: "\
-Gives a file of an older version the tables of this one
+Converts a file of an older version to the tables of this one
 
 Prints migrated 1 to 3, or migrated 2 to 3: the version that the tables had, and the one that they have now.
 From version 1 each document gets profile 1, the operators in capitals; no waiver of an older version ends.
-All is done in one transaction, and only where the tables that come of it are sound. Else FILE stays as it is,
-and this prints why:
+All is done in one transaction, and only if the resulting tables are sound. Otherwise FILE is unchanged, and
+this prints why:
 
-  fault: BadVersion   its tables aren't of an older version, or are of none that this knows
-  fault: NotADesk     it has no table that tells a version, or not all tables of that version and no others
+  fault: BadVersion   its tables aren't of an older version, or are of an unknown one
+  fault: NotADesk     it has no table with a version, or not all tables of that version
   fault: Bad..        its tables wouldn't be sound: desk audit --help has the names",
     after_help: "\
 Copy FILE first: an older desk can't read the tables of this version.
@@ -24,7 +24,7 @@ Example:
 
 Statuses:
   0  the tables are those of this version
-  1  they stay as they were
+  1  they are unchanged
   2  the command line is wrong
   3  no memory, or a file or stream failed",
 };

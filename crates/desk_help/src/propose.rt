@@ -9,7 +9,7 @@ pub const PROPOSE: Help = Help {
 Proposes the declared licences of a document as conclusions
 
 Many tools write NOASSERTION as the conclusion of each package, and what they found as
-PackageLicenseDeclared. The desk goes by conclusions alone. For each package that ships, has no
+PackageLicenseDeclared. The desk uses only conclusions. For each package that ships, has no
 conclusion and has a declared licence that is an expression, a line is printed, in the document's order:
 the request conclude, as script reads it.
 
@@ -17,13 +17,13 @@ the request conclude, as script reads it.
 
 N is the number that import gave the document. Operators are in capitals and licence ids in small
 letters, however the document writes them. Standard error says how many lines there are, and how many
-packages were left out, as no declared licence is an expression.
+packages were left out because no declared licence is an expression.
 
 With --db DOC is the number of a document that the desk in FILE holds, which is read by its own profile.
 Packages that the office concluded are left out. Then follow, for each open release to which the document
-is attached, the choices for its packages that leave nothing to choose, as choices prints them.
+is attached, the only possible choices for its packages, as choices prints them.
 
-Nothing is concluded or chosen until the lines are handed to script. Read them first, and change or delete
+Nothing is concluded or chosen until the lines are passed to script. Read them first, and change or delete
 those that are wrong. If the document can't be read, the reply of import is printed.",
     after_help: "\
 Without --db give --document, and the same --profile as to import. DOC may be /dev/stdin.

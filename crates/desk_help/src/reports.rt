@@ -1,10 +1,10 @@
-//! The help of texts to be handed out.
+//! The help of reports.
 
 use crate::Help;
 
 const AFTER_HELP: &str = "\
-If the desk refuses, one line of JSON says why. A FILE that keeps no desk of this version is left as it
-is, and one line says so:
+If the desk refuses, one line of JSON says why. A FILE without a desk of this version is left unchanged,
+and one line says so:
 
   fault: NotADesk    it is a database of something else
   fault: BadVersion  it keeps a desk of another version
@@ -12,6 +12,7 @@ is, and one line says so:
 
 Examples:
   desk notices --db desk.db r1 >NOTICES
+  desk notices --db desk.db r1 --fill extra.toml --complete >NOTICES
   desk duties --db desk.db r1 >duties.csv
   desk totals --db desk.db r1
   desk changes --db desk.db 1
@@ -29,9 +30,14 @@ pub const NOTICES: Help = Help {
     long_about: "\
 Writes the notices that ship with a frozen release
 
-For each package that RELEASE ships its name and version, the licences that it was frozen with and its
-copyright; then each text of these licences once, as the catalogue of the freeze or the document has it.
-The same is written whatever is recorded later, until the release is withdrawn.",
+For each package that RELEASE ships: its name and version, the licences that it was frozen with and its
+copyright. Then each text of these licences once, as the catalogue of the freeze or the document has it.
+The same is written whatever is recorded later, until the release is withdrawn.
+
+Each EXTRA is a TOML file. Its [[text]] tables, with licence and body, give texts if none is recorded, and
+its [[credit]] tables, with package, text and perhaps version, give copyrights if none, NONE or NOASSERTION
+is given. The first that fits counts, and what is given stays. Standard error says how much is missing
+after that; with --complete nothing is then written, and the status is 1.",
     after_help: AFTER_HELP,
 };
 
@@ -45,7 +51,7 @@ Comma-separated values (RFC 4180): a line of the columns' names, and one for eac
 
   number,document,package,term,rule,code,state,since
 
-On a terminal the same table stands in columns, with a question mark for a control byte.
+On a terminal the same table is in columns, with a question mark for a control character.
 
 The state is open, met, waived or withdrawn, and since is the day of the last change.",
     after_help: AFTER_HELP,
@@ -74,11 +80,11 @@ text that was recorded with it.",
 
 /// The help of `page`.
 pub const PAGE: Help = Help {
-    about: "Writes a page on a release, to be looked at and printed",
+    about: "Writes a page about a release, to read and print",
     long_about: "\
-Writes a page on a release, to be looked at and printed
+Writes a page about a release, to read and print
 
-One file of HTML with no script and nothing from elsewhere: what RELEASE ships and by which licences, its
-duties by licence and by state, waivers that end, the changes of each duty, and the notices.",
+One file of HTML with no script and nothing from elsewhere: what RELEASE ships and under which licences,
+its duties by licence and by state, waivers that end, the changes of each duty, and the notices.",
     after_help: AFTER_HELP,
 };

@@ -9,22 +9,22 @@ pub const SCRIPT: Help = Help {
 Replies to requests, a line each, over a desk in memory or in a file
 
 Reads requests from standard input, one JSON object on each line, and writes one line of JSON for
-each line that is not blank, before it reads on. It goes on past what is refused. A line of more
-than 8 MiB is no request. It stops after 1,048,576 reads.
+each line that is not blank, before it reads the next. It continues after refused requests. A line
+of more than 8 MiB is not a request. It stops after 1,048,576 reads.
 
-With --db FILE the desk is kept in the file, and the next script goes on with it. A file that is
-not there, is empty, or is a database with no tables becomes an empty desk first. Without
+With --db FILE the desk is kept in the file, and the next script continues with it. A file that
+does not exist, is empty, or is a database with no tables becomes an empty desk first. Without
 --db the desk is in memory, empty at first and gone at the end.
 
-With --explain, and wherever standard error is a terminal, each line that is not carried out is reported
-there, with its number and the reason, and at the end how many lines were carried out and how many not:
+With --explain, or if standard error is a terminal, each line that is not carried out is reported there,
+with its number and the reason, and at the end how many lines were carried out and how many were not:
 
   line 3: no request: the key \"relase\" is not known here
   line 7: BadDocument: TooLarge, more than 4 MiB
   done: 5, refused: 1, no request: 1, failed: 0
 
-With --stop the script ends with the first line that is not done. Use it where a freeze follows: an
-attach that was refused is missing in the release, and a freeze is for good.
+With --stop the script ends at the first line that is not carried out. Use it if a freeze follows: a
+refused attach is missing in the release, and a freeze is final.
 
 Requests, with an example of each and its reply:
 
@@ -34,7 +34,7 @@ Requests, with an example of each and its reply:
   import an SPDX document, as tag-value
     > {\"do\":\"import\",\"text\":\"SPDXVersion: SPDX-2.3\\n..\"}
     < {\"document\":1,\"new\":true}
-  the same, of a document whose expressions may have and, or, with in small letters
+  the same, for a document whose expressions may have and, or, with in small letters
     > {\"do\":\"import\",\"profile\":2,\"text\":\"SPDXVersion: SPDX-2.3\\n..\"}
     < {\"document\":2,\"new\":true}
   open a release that ships in a form of the catalogue
@@ -82,16 +82,16 @@ Requests, with an example of each and its reply:
   list the changes of a duty: step, day, what it was, text
     > {\"ask\":\"changes\",\"duty\":1}
     < {\"rows\":[[1,\"2025-03-03\",\"raised\",\"\"],[2,\"2025-03-04\",\"met\",\"notices.txt\"]]}
-  list what in a document is not as the standard has it: line, number and name of the kind
+  list where a document departs from the standard: line, number and name of the kind
     > {\"ask\":\"findings\",\"document\":1}
     < {\"rows\":[[13,3,\"BadExpression\"]]}
-  tell a release, its form, state and revision, and its packages with conclusion and choice
+  show a release, its form, state and revision, and its packages with conclusion and choice
     > {\"ask\":\"release\",\"release\":\"r1\"}
     < {\"rows\":[[\"r1\",\"binary\",\"frozen\",1],[1,\"SPDXRef-p\",\"p\",\"MIT\",[\"mit\"]]]}
-  list the sets of terms that a package's conclusion is true under, none of them too large
+  list the sets of terms that satisfy a package's conclusion, with no term to spare
     > {\"ask\":\"alternatives\",\"document\":1,\"package\":\"SPDXRef-p\"}
     < {\"rows\":[[\"mit\"],[\"a\",\"b\"]]}
-  tell the set that owes the fewest duties in a form, with their number
+  show the set that owes the fewest duties in a form, with their number
     > {\"ask\":\"cheapest\",\"document\":1,\"form\":\"binary\",\"package\":\"SPDXRef-p\"}
     < {\"rows\":[[1,[\"a\",\"b\"]]]}
   list all releases, each with its totals
@@ -103,22 +103,25 @@ Requests, with an example of each and its reply:
   list the open duties of all releases
     > {\"ask\":\"open\"}
     < {\"rows\":[[2,\"r2\",1,\"SPDXRef-p\",\"mit\",\"MIT\",\"include-text\",\"2025-03-05\"]]}
-  list all that stands in the way of a freeze, as the refusals that a freeze would meet
+  list everything that prevents a freeze, as the refusals that a freeze would meet
     > {\"ask\":\"wanting\",\"release\":\"r3\"}
     < {\"rows\":[{\"at\":[1,\"SPDXRef-p\"],\"name\":\"NoChoice\",\"refused\":19}]}
+  list the duties that keep a frozen release from being ready, or, with a day, from being so on it
+    > {\"ask\":\"ready\",\"release\":\"r1\"}
+    < {\"rows\":[]}
 
-What is refused changes nothing, and is told with its number, its name and where it is:
+A refused request changes nothing; the reply has the refusal's number, its name and the place:
 
     < {\"at\":[\"mit\"],\"name\":\"NotMinimal\",\"refused\":18}",
     after_help: "\
-Any other file that keeps no desk of this version is left as it is, and one line says so:
+Any other file without a desk of this version is left unchanged, and one line says so:
 
   fault: NotADesk    it is a database of something else
   fault: BadVersion  it keeps a desk of another version
   fault: Bad..       its tables aren't sound: desk audit --help has the names
 
-One program at a time has the file open. While one does, and after it was stopped, the last changes
-stand in FILE-wal beside it: keep and copy both files together.
+One program at a time has the file open. While it is open, or after that program was killed, recent
+changes are in FILE-wal next to it: keep and copy both files together.
 
 Examples:
   desk script <requests.jsonl

@@ -4,19 +4,18 @@ use crate::Help;
 
 /// The help of `serve`.
 pub const SERVE: Help = Help {
-    about: "Replies over HTTP by the desk that a file keeps, to this machine alone",
+    about: "Serves the desk in a file over HTTP, to this machine only",
     long_about: "\
-Replies over HTTP by the desk that a file keeps, to this machine alone
+Serves the desk in a file over HTTP, to this machine only
 
 Listens at PORT of 127.0.0.1, which no other machine reaches, and prints one line:
 
   listening on 127.0.0.1:PORT
 
-It serves N connections, one after the other, and ends. Port 0 takes a port that is free, which the line
-names.",
+It serves N connections, one after the other, and ends. Port 0 picks a free port, which the line names.",
     after_help: "\
-A FILE that is not there, is empty, or is a database with no tables becomes an empty desk first.
-Any other that keeps no desk of this version is left as it is, and one line says so:
+A FILE that does not exist, is empty, or is a database with no tables becomes an empty desk first.
+Any other file without a desk of this version is left unchanged, and one line says so:
 
   fault: NotADesk    it is a database of something else
   fault: BadVersion  it keeps a desk of another version
@@ -30,7 +29,7 @@ Examples:
   desk serve --db desk.db --port 0 --limit 1
 
 Statuses:
-  0  so many connections were served
+  0  that many connections were served
   1  FILE keeps no such desk
   2  the command line is wrong
   3  no memory, or a file, stream or socket failed",

@@ -9,8 +9,9 @@ pub const DO: Help = Help {
 Carries out one command, given in words
 
 The words are a command and KEY=VALUE for each of its keys, those of the same request in JSON
-(desk script --help). The terms of a choice have commas between them. The reply is the line that
-script writes.
+(desk script --help). The terms of a choice are separated by commas; day=today and until=today are
+the day of the system's clock in its zone (TZ, or /etc/localtime). A terminal gets the reply in
+columns and words; a file, a pipe and --json get the line that script writes.
 
   catalogue  text                          load a catalogue of duties
   import     text [profile]                import an SPDX document
@@ -28,16 +29,17 @@ script writes.
   withdraw   release day text              withdraw a release
   close      day                           end the waivers whose last day is before this one
 
-A word that is not known and a key that is unknown, missing or given twice, or whose value is of
-the wrong kind, is an error of the command line, and no file is opened.",
+An unknown word, or a key that is unknown, missing or given twice, or whose value is of the wrong
+kind, is an error of the command line, and no file is opened.",
     after_help: "\
-A file that is not there becomes an empty desk first. Of the texts of files, use import and
-catalogue.
+A file that does not exist becomes an empty desk first. text=@FILE takes the text of a catalogue or a
+document from a file; import and catalogue do the same.
 
 Examples:
+  desk do --db desk.db import text=@kettle.spdx
   desk do --db desk.db open release=r1 form=binary
   desk do --db desk.db choose release=r1 document=1 package=SPDXRef-p terms=MIT,Zlib
-  desk do --db desk.db meet duty=12 day=2025-03-04 text='licences/kettle.txt'
+  desk do --db desk.db meet duty=12 day=today text='licences/kettle.txt'
 
 Statuses:
   0  it was done
@@ -53,7 +55,8 @@ pub const ASK: Help = Help {
 Answers one question, given in words
 
 The words are a question and KEY=VALUE for each of its keys, those of the same request in JSON
-(desk script --help). The reply is the line that script writes.
+(desk script --help); day=today is the day of the system's clock. A terminal gets the answer in
+columns and words; a file, a pipe and --json get the line that script writes.
 
   duties        release                the duties of a release
   totals        release                how many of them are in each state
@@ -63,12 +66,13 @@ The words are a question and KEY=VALUE for each of its keys, those of the same r
   alternatives  document package       the sets of terms that satisfy a package's licence
   cheapest      document package form  the set of them that owes the fewest duties
   releases, documents, open            all releases, documents and open duties
-  wanting       release                all that stands in the way of a freeze
+  wanting       release                everything that prevents a freeze
+  ready         release [day]          the duties that keep a frozen release from being ready
 
-A word that is not known and a key that is unknown, missing or given twice, or whose value is of
-the wrong kind, is an error of the command line, and no file is opened.",
+An unknown word, or a key that is unknown, missing or given twice, or whose value is of the wrong
+kind, is an error of the command line, and no file is opened.",
     after_help: "\
-A file that is not there becomes an empty desk first.
+A file that does not exist becomes an empty desk first.
 
 Examples:
   desk ask --db desk.db alternatives document=1 package=SPDXRef-p

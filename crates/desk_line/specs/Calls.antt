@@ -1,7 +1,7 @@
 -- The call that the words of a command line hold.
 use Rattle.std.specs.Prelude.{ℕ, ◌≡◌, ◌≢◌, ◌-◌, Bool, true, false, [], ◌∷◌, List, codes}
 use Rattle.std.specs.Prelude.{if◌then◌else◌, Option, None, Some, option_map, option_and_then}
-use Rattle.std.specs.Prelude.{is_some, ◌||◌}
+use Rattle.std.specs.Prelude.{is_some, ◌||◌, unwrap_or}
 use Rattle.std.specs.Str.{bytes_eq}
 use Rattle.clap.specs.Words.{IsAmong, Kinds, Row, Text, all_of, fault_of, first_of, kind_of, one_of, subcommand_of}
 use Rattle.clap.specs.Kinds.{or_else}
@@ -18,7 +18,7 @@ use Rattle.desk_line.specs.declared.call.Call.{Call}
 use Rattle.desk_line.specs.declared.call.Call.TheVariants.{Check, Alternatives, Script, File}
 use Rattle.desk_line.specs.declared.call.Call.TheVariants.{Gather, Lint, Convert, Explain, Propose}
 use Rattle.desk_line.specs.declared.call.FileCall.TheVariants.{Import, Catalogue, Notices, Duties}
-use Rattle.desk_line.specs.declared.call.FileCall.TheVariants.{Totals, Changes, Page, Wanting}
+use Rattle.desk_line.specs.declared.call.FileCall.TheVariants.{Totals, Changes, Page, Ready, Wanting}
 use Rattle.desk_line.specs.declared.call.FileCall.TheVariants.{Choices, Audit, Migrate, Serve}
 use Rattle.desk_line.specs.declared.call.FileCall.TheVariants as file
 use Rattle.desk_line.specs.declared.call.Listed.{Listed}
@@ -35,6 +35,7 @@ abbrev pub profile_written : Text → Option Profile
 profile_written (digit ∷ []) = profile_numbered (digit - 48)
 profile_written _ = None
 
+-- the profile among these values; nothing if the word names none
 abbrev pub profile_in : List Row → Option Profile
 profile_in rows = option_and_then profile_written (first_of (codes "PROFILE") rows)
 
@@ -60,13 +61,20 @@ abbrev pub script_in : List Row → Call
 script_in rows = Script (first_of (codes "FILE") rows) (is_true (first_of (codes "EXPLAIN") rows))
     (is_true (first_of (codes "STOP") rows))
 
+-- whether `--json` is used
+abbrev pub is_json : List Row → Bool
+is_json rows = is_true (first_of (codes "JSON") rows)
+
 -- the calls of `do` and `ask` with these values
 abbrev pub do_in : List Row → Option Call
-do_in rows = option_and_then (λ database. option_map (λ words. File database (file.Do words))
+do_in rows = option_and_then
+    (λ database. option_map (λ words. File database (file.Do words (is_json rows)))
     (all_of (codes "WORD") rows)) (first_of (codes "FILE") rows)
 
+-- for `ask` the words are a question
 abbrev pub ask_in : List Row → Option Call
-ask_in rows = option_and_then (λ database. option_map (λ words. File database (file.Ask words))
+ask_in rows = option_and_then
+    (λ database. option_map (λ words. File database (file.Ask words (is_json rows)))
     (all_of (codes "WORD") rows)) (first_of (codes "FILE") rows)
 
 -- the call of `import` with these values
@@ -96,7 +104,7 @@ gather_in rows = option_and_then
 
 -- the call of `lint` with these values
 abbrev pub lint_in : List Row → Option Call
-lint_in rows = option_map (λ folder. Lint folder (is_true (first_of (codes "JSON") rows)))
+lint_in rows = option_map (λ folder. Lint folder (is_json rows))
     (first_of (codes "DIR") rows)
 
 -- the number that a value is, as `clap` reads it, if it has at most this many bits
@@ -117,14 +125,21 @@ release_in rows = option_and_then
     record { database = database; release = release } in found)
     (first_of (codes "RELEASE") rows)) (first_of (codes "FILE") rows)
 
+-- the values of an argument, none if it isn't used
+abbrev pub all_or_none : Text → List Row → List Text
+all_or_none id rows = unwrap_or (all_of id rows) []
+
 -- the calls of the subcommands that write a text about a release
 abbrev pub notices_in : List Row → Option Call
-notices_in rows = option_map (λ found. File found.database (Notices found.release))
-    (release_in rows)
+notices_in rows = option_map (λ found. File found.database
+    (Notices found.release (all_or_none (codes "EXTRA") rows)
+    (is_true (first_of (codes "COMPLETE") rows)))) (release_in rows)
 
+-- the call of `duties`
 abbrev pub duties_in : List Row → Option Call
 duties_in rows = option_map (λ found. File found.database (Duties found.release)) (release_in rows)
 
+-- the call of `totals`
 abbrev pub totals_in : List Row → Option Call
 totals_in rows = option_map (λ found. File found.database (Totals found.release)) (release_in rows)
 
@@ -169,6 +184,7 @@ held_proposals_in database rows =
     else option_map (λ document. File database (file.Proposals document))
     (option_and_then (number_written 32) (first_of (codes "DOC") rows))
 
+-- with a file, the word is the number of its document; without one, a path
 abbrev pub proposals_by : Option Text → List Row → Option Call
 proposals_by None rows = filed_proposals_in rows
 proposals_by (Some database) rows = held_proposals_in database rows
@@ -182,8 +198,15 @@ abbrev pub choices_in : List Row → Option Call
 choices_in rows = option_map (λ found. File found.database (Choices found.release))
     (release_in rows)
 
+-- the call of `wanting`
 abbrev pub wanting_in : List Row → Option Call
 wanting_in rows = option_map (λ found. File found.database (Wanting found.release))
+    (release_in rows)
+
+-- the call of `ready` with these values
+abbrev pub ready_in : List Row → Option Call
+ready_in rows = option_map
+    (λ found. File found.database (Ready found.release (first_of (codes "DAY") rows)))
     (release_in rows)
 
 -- which duties are listed
@@ -195,6 +218,7 @@ filter_in rows = record {
   past = first_of (codes "DAY") rows;
 }
 
+-- some filter is given
 abbrev pub has_filter : Filter → Bool
 has_filter filter = is_some filter.release
     || (is_some filter.code || (filter.is_open || is_some filter.past))
@@ -214,6 +238,7 @@ listed_as what filter =
     else if bytes_eq what (codes "documents") then Some listed.Documents
     else None
 
+-- what is to be listed; nothing if the word isn't known, or the day that is given doesn't exist
 abbrev pub listed_in : List Row → Option Listed
 listed_in rows =
     if is_day_if_given (first_of (codes "DAY") rows)
@@ -257,6 +282,7 @@ kind_at name =
     else if bytes_eq name (codes "propose") then Some kind.Propose
     else if bytes_eq name (codes "choices") then Some kind.Choices
     else if bytes_eq name (codes "wanting") then Some kind.Wanting
+    else if bytes_eq name (codes "ready") then Some kind.Ready
     else if bytes_eq name (codes "list") then Some kind.List
     else if bytes_eq name (codes "page") then Some kind.Page
     else if bytes_eq name (codes "convert") then Some kind.Convert
@@ -284,10 +310,12 @@ call_by kind.Explain rows = explain_in rows
 call_by kind.Propose rows = propose_in rows
 call_by kind.Choices rows = choices_in rows
 call_by kind.Wanting rows = wanting_in rows
+call_by kind.Ready rows = ready_in rows
 call_by kind.List rows = list_in rows
 call_by kind.Page rows = page_in rows
 call_by kind.Convert rows = convert_in rows
 
+-- the call of the subcommand with this name, if there is one
 abbrev pub call_in : Text → List Row → Option Call
 call_in name rows = option_and_then (λ kind. call_by kind rows) (kind_at name)
 

@@ -19,5 +19,6 @@ abbrev pub can_stand : List ℕ → Bool
 can_stand value = not (list_any (λ b. b == 10) value)
     && (not (begins_otherwise value) && not (ends_otherwise value))
 
+-- the value, if it is read back as it was written
 abbrev pub if_stands : List ℕ → Option (List ℕ)
 if_stands value = if can_stand value then Some value else None

@@ -4,6 +4,7 @@ use Rattle.std.specs.List.{list_all}
 use Rattle.std.specs.Char.{digit_value}
 use Rattle.std.specs.Str.Parse.{digits_value, without_leading_plus}
 
+-- an ASCII digit
 abbrev pub is_digit : ℕ → Bool
 is_digit byte = nat_lt (digit_value byte) 10
 

@@ -3,7 +3,7 @@ use Rattle.std.specs.Prelude.{ℕ, pos, codes, [], ◌∷◌, Some, true}
 use Rattle.clap.specs.Lexer.{usize_max}
 use Rattle.clap.specs.Words.{App, Rule, Text, new_app, new_rule, with_rule, with_subcommand}
 use Rattle.clap.specs.Simple.{on_top}
-use Rattle.clap.specs.declared.builder.action.ArgAction.TheVariants.{SetTrue}
+use Rattle.clap.specs.declared.builder.action.ArgAction.TheVariants.{Append, SetTrue}
 use Rattle.clap.specs.declared.builder.value_parser.ValueParser.TheVariants.{Signed}
 
 -- a required word at its position
@@ -38,6 +38,13 @@ alternatives_app = with_rule (with_rule (new_app (codes "alternatives")) profile
 abbrev pub optional : Text → Text → Rule
 optional name long = record (new_rule name) { long = Some long }
 
+-- `--LONG NAME ..`, optional, with one value or more each time
+abbrev pub several : Text → Text → Rule
+several name long = record (optional name long) {
+  action = Some Append;
+  range = Some (record { start_inclusive = 1; end_inclusive = usize_max });
+}
+
 -- `--LONG`, which has no value
 abbrev pub flag : Text → Text → Rule
 flag name long = record (new_rule name) { long = Some long; action = Some SetTrue }
@@ -46,6 +53,7 @@ flag name long = record (new_rule name) { long = Some long; action = Some SetTru
 abbrev pub kept_script_app : App
 kept_script_app = with_rule (new_app (codes "script")) (optional (codes "FILE") (codes "db"))
 
+-- with its two flags
 abbrev pub script_app : App
 script_app = with_rule (with_rule kept_script_app (flag (codes "EXPLAIN") (codes "explain")))
     (flag (codes "STOP") (codes "stop"))
@@ -58,9 +66,14 @@ wanted name long = record (new_rule name) { long = Some long; required = true }
 abbrev pub database_option : Rule
 database_option = wanted (codes "FILE") (codes "db")
 
--- `NAME --db FILE WORD..`, a request in words
+-- `--json`
+abbrev pub json_flag : Rule
+json_flag = flag (codes "JSON") (codes "json")
+
+-- `NAME --db FILE [--json] WORD..`, a request in words
 abbrev pub request_app : Text → App
-request_app name = with_rule (with_rule (new_app name) database_option) (words (codes "WORD"))
+request_app name = with_rule (with_rule (with_rule (new_app name) database_option) json_flag)
+    (words (codes "WORD"))
 
 -- `import --db FILE [--profile PROFILE] DOC`
 abbrev pub import_app : App
@@ -77,14 +90,14 @@ abbrev pub named_tree_app : App
 named_tree_app = with_rule (with_rule (new_app (codes "gather")) (word (codes "DIR")))
     (wanted (codes "NAME") (codes "name"))
 
+-- with its other two values
 abbrev pub gather_app : App
 gather_app = with_rule (with_rule named_tree_app (wanted (codes "NAMESPACE") (codes "namespace")))
     (wanted (codes "CREATED") (codes "created"))
 
 -- `lint DIR [--json]`
 abbrev pub lint_app : App
-lint_app = with_rule (with_rule (new_app (codes "lint")) (word (codes "DIR")))
-    (flag (codes "JSON") (codes "json"))
+lint_app = with_rule (with_rule (new_app (codes "lint")) (word (codes "DIR"))) json_flag
 
 -- `--LONG NAME`, a whole number from 0 to this one, required
 abbrev pub number_option : Text → Text → ℕ → Rule
@@ -105,6 +118,12 @@ count name most = record (word name) { parser = Some (Signed (pos 0) (pos most))
 -- `NAME --db FILE RELEASE`, which writes a text about a release
 abbrev pub release_app : Text → App
 release_app name = with_rule (with_rule (new_app name) database_option) (word (codes "RELEASE"))
+
+-- `notices --db FILE [--fill EXTRA ..] [--complete] RELEASE`
+abbrev pub notices_app : App
+notices_app = with_rule (with_rule (with_rule (with_rule (new_app (codes "notices")) database_option)
+    (several (codes "EXTRA") (codes "fill"))) (flag (codes "COMPLETE") (codes "complete")))
+    (word (codes "RELEASE"))
 
 -- `changes --db FILE DUTY`, limited to the numbers that a duty may have
 abbrev pub changes_app : App
@@ -136,14 +155,16 @@ abbrev pub scripting_app : App
 scripting_app = with_subcommand (with_subcommand (with_subcommand judging_app script_app.top)
     (request_app (codes "do")).top) (request_app (codes "ask")).top
 
+-- and with those that import a document and load a catalogue
 abbrev pub requesting_app : App
 requesting_app = with_subcommand (with_subcommand scripting_app import_app.top) catalogue_app.top
 
 -- and with those that write texts
 abbrev pub counting_app : App
-counting_app = with_subcommand (with_subcommand requesting_app (release_app (codes "notices")).top)
+counting_app = with_subcommand (with_subcommand requesting_app notices_app.top)
     (release_app (codes "duties")).top
 
+-- and with those that count duties and list the changes of one
 abbrev pub reporting_app : App
 reporting_app = with_subcommand (with_subcommand counting_app (release_app (codes "totals")).top)
     changes_app.top
@@ -181,6 +202,7 @@ explaining_app = with_subcommand serving_app explain_app.top
 abbrev pub kept_proposals_app : App
 kept_proposals_app = with_rule (new_app (codes "propose")) (optional (codes "FILE") (codes "db"))
 
+-- with its other values
 abbrev pub propose_app : App
 propose_app = with_rule (with_rule
     (with_rule kept_proposals_app (optional (codes "PROFILE") (codes "profile")))
@@ -195,18 +217,28 @@ abbrev pub freezing_app : App
 freezing_app = with_subcommand (with_subcommand proposing_app (release_app (codes "choices")).top)
     (release_app (codes "wanting")).top
 
+-- `ready --db FILE [--day DAY] RELEASE`
+abbrev pub ready_app : App
+ready_app = with_rule (with_rule (with_rule (new_app (codes "ready")) database_option)
+    (optional (codes "DAY") (codes "day"))) (word (codes "RELEASE"))
+
+-- and with the one that says whether a release is ready
+abbrev pub readying_app : App
+readying_app = with_subcommand freezing_app ready_app.top
+
 -- `list --db FILE [--release RELEASE] [--code CODE] [--open] [--past DAY] WHAT`
 abbrev pub filtered_app : App
 filtered_app = with_rule (with_rule (with_rule (new_app (codes "list")) database_option)
     (optional (codes "RELEASE") (codes "release"))) (optional (codes "CODE") (codes "code"))
 
+-- with the other filters, and what is listed
 abbrev pub list_app : App
 list_app = with_rule (with_rule (with_rule filtered_app (flag (codes "OPEN") (codes "open")))
     (optional (codes "DAY") (codes "past"))) (word (codes "WHAT"))
 
 -- and with those that show what a desk holds
 abbrev pub showing_app : App
-showing_app = with_subcommand (with_subcommand freezing_app list_app.top)
+showing_app = with_subcommand (with_subcommand readying_app list_app.top)
     (release_app (codes "page")).top
 
 -- `convert JSON`

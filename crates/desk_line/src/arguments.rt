@@ -23,6 +23,8 @@ pub(crate) enum Form {
     Wanted(&'static str),
     /// An optional value with this name.
     Optional(&'static str),
+    /// Optional values with this name, one or more each time.
+    Several(&'static str),
     /// A flag with this name, without a value.
     Flag(&'static str),
     /// A whole number from 0 to this one, required at its position.
@@ -81,11 +83,7 @@ const FOLDER: Argument = argument!("DIR", Form::Word, "The folder of the tree");
 pub(crate) const CHECK: [Argument; 3] = [
     PROFILE,
     EXPRESSION,
-    argument!(
-        "TERM",
-        Form::Words,
-        "The terms that were chosen, a word each"
-    ),
+    argument!("TERM", Form::Words, "The chosen terms, one word each"),
 ];
 
 pub(crate) const ALTERNATIVES: [Argument; 2] = [PROFILE, EXPRESSION];
@@ -100,13 +98,18 @@ pub(crate) const SCRIPT: [Argument; 3] = [
     argument!(
         "STOP",
         Form::Flag("stop"),
-        "Ends with the first line that is not done"
+        "Ends at the first line that is not carried out"
     ),
 ];
 
 // For `do` and `ask`.
-pub(crate) const REQUEST: [Argument; 2] = [
+pub(crate) const REQUEST: [Argument; 3] = [
     DATABASE,
+    argument!(
+        "JSON",
+        Form::Flag("json"),
+        "Prints the line of a script on a terminal too"
+    ),
     argument!(
         "WORD",
         Form::Words,
@@ -124,6 +127,31 @@ pub(crate) const CATALOGUE: [Argument; 2] = [
 // For each subcommand about a release.
 pub(crate) const RELEASE: [Argument; 2] = [
     DATABASE,
+    argument!("RELEASE", Form::Word, "The name of the release"),
+];
+
+pub(crate) const READY: [Argument; 3] = [
+    DATABASE,
+    argument!(
+        "DAY",
+        Form::Optional("day"),
+        "The day to which waivers must last, YYYY-MM-DD or today"
+    ),
+    argument!("RELEASE", Form::Word, "The name of the release"),
+];
+
+pub(crate) const NOTICES: [Argument; 4] = [
+    DATABASE,
+    argument!(
+        "EXTRA",
+        Form::Several("fill"),
+        "Files with texts and credits for what is missing"
+    ),
+    argument!(
+        "COMPLETE",
+        Form::Flag("complete"),
+        "Writes nothing if something is missing"
+    ),
     argument!("RELEASE", Form::Word, "The name of the release"),
 ];
 
@@ -164,7 +192,7 @@ pub(crate) const SERVE: [Argument; 3] = [
     argument!(
         "PORT",
         Form::Number("port", 65_535),
-        "The port, up to 65535; 0 takes a free one"
+        "The port, up to 65535; 0 picks a free one"
     ),
     argument!(
         "N",
@@ -184,7 +212,7 @@ pub(crate) const PROPOSE: [Argument; 4] = [
     argument!(
         "PROFILE",
         Form::Optional("profile"),
-        "How operators are written: 1 AND, OR, WITH, if it isn't given; 2 also and, or, with"
+        "How operators are written: 1 (the default) AND, OR, WITH; 2 also and, or, with"
     ),
     argument!(
         "N",
@@ -214,7 +242,7 @@ pub(crate) const LIST: [Argument; 6] = [
     argument!(
         "DAY",
         Form::Optional("past"),
-        "Lists the duties whose waivers' last days lie before this day, YYYY-MM-DD"
+        "Lists only duties whose waiver has its last day before this day, YYYY-MM-DD"
     ),
     argument!("WHAT", Form::Word, "releases, documents or duties"),
 ];
@@ -244,6 +272,7 @@ fn arg<'a>(alloc: Global, row: &Argument) -> Arg<'a>
         Form::Preset(long, value) => arg.long(long).default_value(value),
         Form::Wanted(long) => arg.long(long).required(true),
         Form::Optional(long) => arg.long(long),
+        Form::Several(long) => arg.long(long).action(ArgAction::Append).num_args(1..),
         Form::Flag(long) => arg.long(long).action(ArgAction::SetTrue),
         Form::Count(most) => arg.required(true).value_parser(whole(most)),
         Form::Number(long, most) => arg.long(long).required(true).value_parser(whole(most)),

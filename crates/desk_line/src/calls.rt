@@ -12,7 +12,8 @@ use crate::files::{
 use crate::lists::list_from;
 use crate::propose::propose_from;
 use crate::reports::{
-    changes_from, choices_from, duties_from, notices_from, page_from, totals_from, wanting_from,
+    changes_from, choices_from, duties_from, notices_from, page_from, ready_from, totals_from,
+    wanting_from,
 };
 use crate::script::script_from;
 use crate::subcommands::{Kind, kind_at};
@@ -51,6 +52,7 @@ pub(crate) fn call_from(
         Kind::Propose => propose_from(alloc, matches),
         Kind::Choices => choices_from(alloc, matches),
         Kind::Wanting => wanting_from(alloc, matches),
+        Kind::Ready => ready_from(alloc, matches),
         Kind::List => list_from(alloc, matches),
         Kind::Page => page_from(alloc, matches),
         Kind::Convert => convert_from(alloc, matches),

@@ -6,7 +6,7 @@ ghost use Rattle.desk_line.specs.Calls.{ask_in, audit_in, do_in, catalogue_in, i
 ghost use Rattle.desk_line.specs.Unfound.{IsFound};
 
 use crate::call::{Call, FileCall};
-use crate::values::{Unfound, number_in, profile_in, require, wanted_text, wanted_texts};
+use crate::values::{Unfound, is_used, number_in, profile_in, require, wanted_text, wanted_texts};
 use clap::ArgMatches;
 use std::alloc::Global;
 
@@ -16,7 +16,8 @@ pub(crate) fn do_from(alloc: Global, matches: &ArgMatches<'_>) -> Result<Call, U
 {
     let database = wanted_text(alloc, matches, "FILE")?;
     let words = wanted_texts(alloc, matches, "WORD")?;
-    let call = FileCall::Do { words };
+    let json = is_used(matches, "JSON");
+    let call = FileCall::Do { words, json };
     Ok(Call::File { database, call })
 }
 
@@ -26,7 +27,8 @@ pub(crate) fn ask_from(alloc: Global, matches: &ArgMatches<'_>) -> Result<Call, 
 {
     let database = wanted_text(alloc, matches, "FILE")?;
     let words = wanted_texts(alloc, matches, "WORD")?;
-    let call = FileCall::Ask { words };
+    let json = is_used(matches, "JSON");
+    let call = FileCall::Ask { words, json };
     Ok(Call::File { database, call })
 }
 

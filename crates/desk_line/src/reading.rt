@@ -13,9 +13,9 @@ use clap::error::ErrorKind;
 use clap::{ArgMatches, Command, Error};
 use std::alloc::{AllocError, Global};
 
-const NO_SUBCOMMAND: &str = "a subcommand is wanted";
+const NO_SUBCOMMAND: &str = "a subcommand is required";
 
-const NO_FIELD: &str = "a value of --name, --namespace or --created cannot stand in its field: it \
+const NO_FIELD: &str = "a value of --name, --namespace or --created does not fit its field: it \
 has a line feed or a blank at an end, or begins with <text>";
 
 const NO_LIST: &str =

@@ -1,11 +1,13 @@
 //! The subcommands that write what a desk in a file holds of a release or of a duty.
 
 ghost use Rattle.clap.specs.Words.{found_of, rows_of};
-ghost use Rattle.desk_line.specs.Calls.{changes_in, choices_in, duties_in, notices_in, page_in, release_in, totals_in, wanting_in};
+ghost use Rattle.desk_line.specs.Calls.{changes_in, choices_in, duties_in, notices_in, page_in, ready_in, release_in, totals_in, wanting_in};
 ghost use Rattle.desk_line.specs.Unfound.{IsFound};
 
 use crate::call::{Call, FileCall};
-use crate::values::{Unfound, number_in, require, wanted_text};
+use crate::values::{
+    Unfound, is_used, number_in, optional_text, optional_texts, require, wanted_text,
+};
 use clap::ArgMatches;
 use desk_base::Text;
 use std::alloc::Global;
@@ -30,7 +32,11 @@ pub(crate) fn notices_from(alloc: Global, matches: &ArgMatches<'_>) -> Result<Ca
     ensures { IsFound (notices_in (rows_of (found_of matches.now))) result }
 {
     let Release { database, release } = release_in(alloc, matches)?;
-    let call = FileCall::Notices { release };
+    let call = FileCall::Notices {
+        release,
+        fills: optional_texts(alloc, matches, "EXTRA")?,
+        is_complete: is_used(matches, "COMPLETE"),
+    };
     Ok(Call::File { database, call })
 }
 
@@ -76,6 +82,16 @@ pub(crate) fn wanting_from(alloc: Global, matches: &ArgMatches<'_>) -> Result<Ca
 {
     let Release { database, release } = release_in(alloc, matches)?;
     let call = FileCall::Wanting { release };
+    Ok(Call::File { database, call })
+}
+
+/// The call of `ready`.
+pub(crate) fn ready_from(alloc: Global, matches: &ArgMatches<'_>) -> Result<Call, Unfound>
+    ensures { IsFound (ready_in (rows_of (found_of matches.now))) result }
+{
+    let Release { database, release } = release_in(alloc, matches)?;
+    let day = optional_text(alloc, matches, "DAY")?;
+    let call = FileCall::Ready { release, day };
     Ok(Call::File { database, call })
 }
 

@@ -15,7 +15,7 @@ use std::alloc::{AllocError, Global};
 
 const VERSION: &str = "1.0.0 (tables 3)";
 
-const ABOUT: &str = "Tells what a firm owes when it ships open-source software";
+const ABOUT: &str = "Records what a firm owes when it ships open-source software";
 
 const STATUSES: &str = "\
 Statuses:
@@ -47,6 +47,7 @@ pub(crate) enum Kind {
     Propose,
     Choices,
     Wanting,
+    Ready,
     List,
     Page,
     Convert,
@@ -71,7 +72,7 @@ macro_rules! subcommand {
 }
 
 /// The subcommands.
-const SUBCOMMANDS: [Subcommand; 23] = [
+const SUBCOMMANDS: [Subcommand; 24] = [
     subcommand!(Kind::Check, "check", arguments::CHECK),
     subcommand!(Kind::Alternatives, "alternatives", arguments::ALTERNATIVES),
     subcommand!(Kind::Script, "script", arguments::SCRIPT),
@@ -79,7 +80,7 @@ const SUBCOMMANDS: [Subcommand; 23] = [
     subcommand!(Kind::Ask, "ask", arguments::REQUEST),
     subcommand!(Kind::Import, "import", arguments::IMPORT),
     subcommand!(Kind::Catalogue, "catalogue", arguments::CATALOGUE),
-    subcommand!(Kind::Notices, "notices", arguments::RELEASE),
+    subcommand!(Kind::Notices, "notices", arguments::NOTICES),
     subcommand!(Kind::Duties, "duties", arguments::RELEASE),
     subcommand!(Kind::Totals, "totals", arguments::RELEASE),
     subcommand!(Kind::Changes, "changes", arguments::CHANGES),
@@ -92,6 +93,7 @@ const SUBCOMMANDS: [Subcommand; 23] = [
     subcommand!(Kind::Propose, "propose", arguments::PROPOSE),
     subcommand!(Kind::Choices, "choices", arguments::RELEASE),
     subcommand!(Kind::Wanting, "wanting", arguments::RELEASE),
+    subcommand!(Kind::Ready, "ready", arguments::READY),
     subcommand!(Kind::List, "list", arguments::LIST),
     subcommand!(Kind::Page, "page", arguments::RELEASE),
     subcommand!(Kind::Convert, "convert", arguments::CONVERT),
@@ -119,6 +121,7 @@ fn help_of(kind: Kind) -> &'static Help {
         Kind::Propose => &desk_help::PROPOSE,
         Kind::Choices => &desk_help::CHOICES,
         Kind::Wanting => &desk_help::WANTING,
+        Kind::Ready => &desk_help::READY,
         Kind::List => &desk_help::LISTS,
         Kind::Page => &desk_help::PAGE,
         Kind::Convert => &desk_help::CONVERT,

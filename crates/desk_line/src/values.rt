@@ -2,7 +2,7 @@
 
 ghost use Rattle.std.specs.Prelude.{◌≡◌, IfOk, map, option_map};
 ghost use Rattle.clap.specs.Words.{all_of, first_of, found_of, rows_of};
-ghost use Rattle.desk_line.specs.Calls.{is_true, number_in, profile_in, profile_written};
+ghost use Rattle.desk_line.specs.Calls.{all_or_none, is_true, number_in, profile_in, profile_written};
 ghost use Rattle.desk_line.specs.Unfound.{IsFound};
 
 use clap::ArgMatches;
@@ -95,6 +95,20 @@ pub(crate) fn wanted_texts(
     match matches.get_strs(id) {
         Some(values) => Ok(copy_texts(alloc, values)?),
         None => Err(Unfound::Lacking),
+    }
+}
+
+/// Copies of the values of an argument, none if it isn't used.
+pub(crate) fn optional_texts(
+    alloc: Global,
+    matches: &ArgMatches<'_>,
+    id: &str,
+) -> Result<Items<Text>, AllocError>
+    ensures { IfOk result (λ texts. texts ≡ all_or_none id.now (rows_of (found_of matches.now))) }
+{
+    match matches.get_strs(id) {
+        Some(values) => copy_texts(alloc, values),
+        None => Ok(Items::new(alloc)),
     }
 }
 

@@ -34,6 +34,7 @@ abbrev pub are_texts : Items → Bool
 are_texts no_items = true
 are_texts (item d ds) = is_some (as_str d) && are_texts ds
 
+-- the same of a value that may be no list
 abbrev pub are_texts_in : Option Items → Bool
 are_texts_in None = false
 are_texts_in (Some items) = are_texts items

@@ -3,9 +3,13 @@
 /// What the value of a key must be.
 #[derive(Clone, Copy, Debug, PartialEq, Eq)]
 pub enum Wanted {
+    /// A text.
     Text,
+    /// A whole number, 0 to 9,223,372,036,854,775,807.
     Number,
+    /// The number of a profile of operators.
     Profile,
+    /// A list of texts.
     Texts,
 }
 
@@ -29,6 +33,12 @@ const DAY: Key = Key {
     name: "day",
     wanted: Wanted::Text,
     is_optional: false,
+};
+
+const OPTIONAL_DAY: Key = Key {
+    name: "day",
+    wanted: Wanted::Text,
+    is_optional: true,
 };
 
 const DOCUMENT: Key = Key {
@@ -164,7 +174,7 @@ pub(crate) const COMMANDS: [Form; 14] = [
 ];
 
 /// The forms that the value of `ask` can name.
-pub(crate) const QUERIES: [Form; 11] = [
+pub(crate) const QUERIES: [Form; 12] = [
     Form {
         word: "duties",
         keys: &[RELEASE],
@@ -208,6 +218,10 @@ pub(crate) const QUERIES: [Form; 11] = [
     Form {
         word: "wanting",
         keys: &[RELEASE],
+    },
+    Form {
+        word: "ready",
+        keys: &[RELEASE, OPTIONAL_DAY],
     },
 ];
 

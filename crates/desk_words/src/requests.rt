@@ -23,8 +23,10 @@ pub enum RequestTrouble {
     /// It is not JSON, as the byte with this number shows, counted from 1.
     #[error("it is no JSON, which shows at byte {0}")]
     NotJson(usize),
+    /// It is JSON, but no object.
     #[error("it is no JSON object")]
     NotObject,
+    /// It names neither a command nor a question.
     #[error("it has neither the key do nor the key ask with a text")]
     NoWord,
     /// The value of `do` names no command.

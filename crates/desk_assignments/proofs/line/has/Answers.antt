@@ -1,4 +1,4 @@
-use Rattle.std.proofs.Common.{◌≡◌, ap, ◌∙◌, Option, Some, None, Bor, refl, option_map, sym}
+use Rattle.std.proofs.Common.{◌≡◌, ap, ◌∙◌, Option, Some, None, Bor, refl, option_map}
 use Rattle.std.specs.Prelude.{is_some}
 use Rattle.serde_json.specs.View.{view}
 use Rattle.serde_json.specs.declared.value.Value.{Value}

@@ -1,5 +1,5 @@
-use Rattle.std.proofs.Common.{◌≡◌, ◌≤◌, ◌∙◌, refl, ap, arith, Some}
-use Rattle.serde_json.specs.Data.{depth, members_depth, object}
+use Rattle.std.proofs.Common.{◌∙◌, ap, arith, Some}
+use Rattle.serde_json.specs.Data.{object}
 use Rattle.serde_json.specs.View.{members_view}
 use Rattle.serde_json.proofs.Views.{view-Object}
 use Rattle.desk_assignments.specs.Words.{object_of}

@@ -1,4 +1,4 @@
-use Rattle.std.proofs.Common.{◌≡◌, ◌∷◌, ℕ, true, false, inl, inr, rules, refl, ap, sym, Some, None}
+use Rattle.std.proofs.Common.{◌≡◌, ◌∷◌, false, inl, inr, rules, refl, ap, Some}
 use Rattle.std.specs.Str.{is_utf8}
 use Rattle.std.proofs.lemmas.Bool.{cases_Bool}
 use Rattle.std.proofs.lemmas.Str.{IsUtf8-from_is_utf8, is_utf8-from_IsUtf8}
