@@ -8,3 +8,5 @@ mod Blocks
 mod SaidLines
 mod SaidSteps
 mod Reread
+mod InputLemmas
+mod Cuts

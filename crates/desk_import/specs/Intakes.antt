@@ -17,6 +17,7 @@ use Rattle.desk_import.specs.declared.summary.Summary.{Summary}
 abbrev pub IsDocument : List ℕ → Type 0
 IsDocument bytes = (d : DocumentText) × Spells bytes (Ok d)
 
+-- the bytes have a fault as a tag-value document
 abbrev pub IsNoDocument : List ℕ → Type 0
 IsNoDocument bytes = (fault : DocFault) × Spells bytes (Err fault)
 

@@ -1,4 +1,5 @@
 pub mod Results
+pub mod Inputs
 pub mod Intakes
 pub mod Said
 pub mod Summaries

@@ -23,9 +23,11 @@ abbrev pub line_in : WhatText → List LineText
 line_in (put line) = line ∷ []
 line_in _ = []
 
+-- the line that a step writes, if it writes one
 abbrev pub lines_in : StepText → List LineText
 lines_in s = line_in s.what
 
+-- the lines that steps write, in order
 abbrev pub lines_of : List StepText → List LineText
 lines_of steps = flat_map lines_in steps
 
@@ -35,6 +37,7 @@ Goes (put line) = Stands line
 Goes (left_out kind) = Unit {0}
 Goes _ = ⊥
 
+-- a step that doesn't stop the conversion
 abbrev pub Passes : StepText → Type 0
 Passes s = Goes s.what
 
@@ -46,6 +49,7 @@ FailsAt at missing fault = fault ≡ faults.Missing at
 FailsAt at bad_type fault = fault ≡ faults.BadType at
 FailsAt at bad_value fault = fault ≡ faults.BadValue at
 
+-- a step that stops the conversion with this fault
 abbrev pub Fails : StepText → ConvertFault → Type 0
 Fails s fault = FailsAt s.at s.what fault
 
@@ -69,22 +73,27 @@ IsStopped steps fault = (fault ≡ faults.Memory) ⊎ FailsFirst steps fault
 
 -- ---- what is left out, by its kind
 
+-- a number for each kind, to compare them by
 abbrev pub kind_number : Kind → ℕ
 kind_number kinds.ExternalDocument = 1
 kind_number kinds.Annotation = 2
 kind_number kinds.ExternalReference = 3
 kind_number kinds.Field = 4
 
+-- something of this kind is left out
 abbrev pub is_of_kind : Kind → WhatText → Bool
 is_of_kind kind (left_out other) = kind_number kind == kind_number other
 is_of_kind kind _ = false
 
+-- the step leaves out something of this kind
 abbrev pub is_left : Kind → StepText → Bool
 is_left kind s = is_of_kind kind s.what
 
+-- how many steps leave out something of this kind
 abbrev pub count_left : Kind → List StepText → ℕ
 count_left kind steps = count_by (is_left kind) steps
 
+-- how much is left out, by kind
 abbrev pub skipped_of : List StepText → Skipped
 skipped_of steps = record {
   external_documents = count_left kinds.ExternalDocument steps;
@@ -103,15 +112,17 @@ json_bytes = 67108864
 abbrev pub json_in : List ℕ → Option Data
 json_in bytes = if is_utf8 bytes then read bytes else None
 
--- the same, if a byte order mark at the start is skipped (section 8.1)
+-- the same, if a byte order mark at the start is skipped (RFC 8259, section 8.1)
 abbrev pub json_of : List ℕ → Option Data
 json_of bytes = json_in (behind_mark bytes)
 
+-- the text of all lines, and how much is left out; no step fails
 pub record IsOf (steps : List StepText) (c : Converted) : Type 0 where
   pub text : string_bytes c.text ≡ text_of_lines (lines_of steps)
   pub pass : All Passes steps
   pub skipped : c.skipped ≡ skipped_of steps
 
+-- the bytes are JSON within the limit, and its steps give the text
 abbrev pub IsConverted : List ℕ → Converted → Type 0
 IsConverted bytes c = (length bytes ≤ json_bytes) × (d : Data) × (json_of bytes ≡ Some d)
     × IsOf (document_steps d) c

@@ -25,6 +25,7 @@ use Rattle.desk_import.specs.Results.{lines_of}
 abbrev pub fields_in : List LineText → List EntryText
 fields_in lines = map read_entry (fields_of_lines 1 lines)
 
+-- the fields of the lines that steps write
 abbrev pub entries_of : List StepText → List EntryText
 entries_of steps = fields_in (lines_of steps)
 
@@ -33,6 +34,7 @@ abbrev pub items_by : {A : Type 0} → (A → Data) → List A → Items
 items_by of_item [] = no_items
 items_by of_item (x ∷ xs) = item (of_item x) (items_by of_item xs)
 
+-- the array itself
 abbrev pub array_by : {A : Type 0} → (A → Data) → List A → Data
 array_by of_item xs = array (items_by of_item xs)
 
@@ -42,6 +44,7 @@ values_of tag es = map (λ (e : EntryText). e.value) (filter (has_tag tag) es)
 
 -- ---- a package (clause 7), with the files that it contains
 
+-- what the desk reads of a package, and the files that it lists as its own
 pub record PackageSaid : Type 0 where
   pub name : List ℕ
   pub id : List ℕ
@@ -54,9 +57,11 @@ pub record PackageSaid : Type 0 where
   pub copyright : List ℕ
   pub contained : List (List ℕ)
 
+-- that a package contains a file
 abbrev pub contains_line : List ℕ → List ℕ → LineText
 contains_line id contained = relationship_line id (codes "CONTAINS") contained
 
+-- the lines of a package; those for its files come right behind its fields
 abbrev pub package_lines : PackageSaid → List LineText
 package_lines p =
     blank
@@ -71,10 +76,12 @@ package_lines p =
     ∷ copyright_line tags.PackageCopyright p.copyright
     ∷ map (contains_line p.id) p.contained
 
+-- a verification code that excludes no file
 abbrev pub code_object : List ℕ → Data
 code_object code = object
     (member (codes "packageVerificationCodeValue") (string code) no_members)
 
+-- the package in JSON, its members by key
 abbrev pub package_object : PackageSaid → Data
 package_object p = object
     (member (codes "SPDXID") (string p.id)
@@ -88,6 +95,7 @@ package_object p = object
     (member (codes "packageVerificationCode") (code_object p.code)
     (member (codes "versionInfo") (string p.version) no_members))))))))))
 
+-- the package that is read says the same
 pub record IsPackage (p : PackageSaid) (q : PackageText) : Type 0 where
   pub name : q.name ≡ p.name
   pub id : q.id ≡ p.id
@@ -101,6 +109,7 @@ pub record IsPackage (p : PackageSaid) (q : PackageText) : Type 0 where
 
 -- ---- a file (clause 8)
 
+-- what the desk reads of a file
 pub record FileSaid : Type 0 where
   pub name : List ℕ
   pub id : List ℕ
@@ -109,6 +118,7 @@ pub record FileSaid : Type 0 where
   pub in_file : List (List ℕ)
   pub copyright : List ℕ
 
+-- the lines of a file
 abbrev pub file_lines : FileSaid → List LineText
 file_lines f =
     blank
@@ -118,11 +128,13 @@ file_lines f =
     ∷ one_line tags.FileConcluded f.concluded
     ∷ (map (one_line tags.FileLicense) f.in_file ++ copyright_line tags.FileCopyright f.copyright ∷ [])
 
+-- its SHA1 in JSON
 abbrev pub checksum_object : List ℕ → Data
 checksum_object digits = object
     (member (codes "algorithm") (string (codes "SHA1"))
     (member (codes "checksumValue") (string digits) no_members))
 
+-- the file in JSON, its members by key
 abbrev pub file_object : FileSaid → Data
 file_object f = object
     (member (codes "SPDXID") (string f.id)
@@ -132,6 +144,7 @@ file_object f = object
     (member (codes "licenseConcluded") (string f.concluded)
     (member (codes "licenseInfoInFiles") (array_by string f.in_file) no_members))))))
 
+-- the file that is read says the same; licences in it are compared for all files together
 pub record IsFile (f : FileSaid) (q : FileText) : Type 0 where
   pub name : q.name ≡ f.name
   pub id : q.id ≡ f.id
@@ -141,53 +154,65 @@ pub record IsFile (f : FileSaid) (q : FileText) : Type 0 where
 
 -- ---- a snippet (clause 9)
 
+-- the lines of a snippet: its identifier alone
 abbrev pub snippet_lines : List ℕ → List LineText
 snippet_lines id = blank ∷ one_line tags.SnippetIdentifier id ∷ []
 
+-- the snippet in JSON
 abbrev pub snippet_object : List ℕ → Data
 snippet_object id = object (member (codes "SPDXID") (string id) no_members)
 
+-- the snippet that is read has the same identifier
 abbrev pub IsSnippet : List ℕ → SnippetText → Type 0
 IsSnippet id q = q.id ≡ id
 
 -- ---- an extracted licence (clause 10)
 
+-- an extracted licence
 pub record LicenceSaid : Type 0 where
   pub id : List ℕ
   pub text : List ℕ
 
+-- the lines of an extracted licence
 abbrev pub licence_lines : LicenceSaid → List LineText
 licence_lines l =
     blank ∷ one_line tags.LicenseIdentifier l.id ∷ in_text tags.ExtractedText l.text ∷ []
 
+-- the licence in JSON
 abbrev pub licence_object : LicenceSaid → Data
 licence_object l = object
     (member (codes "extractedText") (string l.text)
     (member (codes "licenseId") (string l.id) no_members))
 
+-- the licence that is read says the same
 pub record IsLicence (l : LicenceSaid) (q : ExtractedText) : Type 0 where
   pub id : q.id ≡ l.id
   pub text : q.text ≡ Some l.text
 
 -- ---- a relationship (clause 11)
 
+-- a relationship: two elements and its type
 pub record EdgeSaid : Type 0 where
   pub left : List ℕ
   pub kind : List ℕ
   pub right : List ℕ
 
+-- the line of a relationship
 abbrev pub edge_line : EdgeSaid → LineText
 edge_line e = relationship_line e.left e.kind e.right
 
+-- the relationship in JSON
 abbrev pub relationship_object : EdgeSaid → Data
 relationship_object e = object
     (member (codes "relatedSpdxElement") (string e.right)
     (member (codes "relationshipType") (string e.kind)
     (member (codes "spdxElementId") (string e.left) no_members)))
 
+-- a relationship of these three words
 abbrev pub said : List ℕ → List ℕ → List ℕ → EdgeSaid
 said left kind right = record { left = left; kind = kind; right = right }
 
+-- the relationship that is read says the same
 pub record IsEdge (e : EdgeSaid) (q : EdgeText) : Type 0 where
   pub left : q.left ≡ e.left
   pub kind : q.kind ≡ e.kind
@@ -195,6 +220,7 @@ pub record IsEdge (e : EdgeSaid) (q : EdgeText) : Type 0 where
 
 -- ---- the document (clause 6), with the elements that it describes
 
+-- what the desk reads of a document
 pub record DocumentSaid : Type 0 where
   pub version : List ℕ
   pub data_license : List ℕ
@@ -210,9 +236,11 @@ pub record DocumentSaid : Type 0 where
   pub edges : List EdgeSaid
   pub described : List (List ℕ)
 
+-- that the document describes an element
 abbrev pub describes : List ℕ → EdgeSaid
 describes id = said (codes "SPDXRef-DOCUMENT") (codes "DESCRIBES") id
 
+-- the document's own lines
 abbrev pub head_lines : DocumentSaid → List LineText
 head_lines d =
     one_line tags.Version d.version
@@ -222,9 +250,11 @@ head_lines d =
     ∷ one_line tags.DocumentNamespace d.namespace
     ∷ (map (one_line tags.Creator) d.creators ++ one_line tags.Created d.created ∷ [])
 
+-- what the document describes, then the relationships that it lists
 abbrev pub edge_lines : DocumentSaid → List LineText
 edge_lines d = map (λ id. edge_line (describes id)) d.described ++ map edge_line d.edges
 
+-- all lines: the head, the files, the snippets, the packages, the licences, the relationships
 abbrev pub document_lines : DocumentSaid → List LineText
 document_lines d =
     head_lines d
@@ -233,11 +263,13 @@ document_lines d =
     ++ (flat_map package_lines d.packages
     ++ (flat_map licence_lines d.licences ++ edge_lines d))))
 
+-- who made the document, and when (clauses 6.8 and 6.9)
 abbrev pub creation_object : DocumentSaid → Data
 creation_object d = object
     (member (codes "created") (string d.created)
     (member (codes "creators") (array_by string d.creators) no_members))
 
+-- the whole document in JSON, its members by key
 abbrev pub document_object : DocumentSaid → Data
 document_object d = object
     (member (codes "SPDXID") (string d.id)
@@ -255,15 +287,18 @@ document_object d = object
 
 -- ---- normal form
 
+-- the code, the identifier and those of the package's files are words without blanks
 pub record IsNormalPackage (p : PackageSaid) : Type 0 where
   pub code : is_word p.code ≡ true
   pub id : is_word p.id ≡ true
   pub contained : All (λ id. is_word id ≡ true) p.contained
 
+-- the digest is a word, and one of SHA1
 pub record IsNormalFile (f : FileSaid) : Type 0 where
   pub digits : is_word f.sha1 ≡ true
   pub sha1 : is_sha1 (codes "SHA1: " ++ f.sha1) ≡ true
 
+-- the three are words, and the relationship doesn't say what the document describes
 pub record IsNormalEdge (e : EdgeSaid) : Type 0 where
   pub left : is_word e.left ≡ true
   pub kind : is_word e.kind ≡ true
@@ -287,6 +322,7 @@ edges_said d =
     flat_map (λ (p : PackageSaid). map (said p.id (codes "CONTAINS")) p.contained) d.packages
     ++ (map describes d.described ++ d.edges)
 
+-- the document that is read says the same, part by part, and has no other elements
 pub record IsSaid (d : DocumentSaid) (x : DocumentText) : Type 0 where
   pub version : value_of tags.Version x.entries ≡ Some d.version
   pub data_license : value_of tags.DataLicense x.entries ≡ Some d.data_license

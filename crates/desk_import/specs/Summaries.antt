@@ -23,6 +23,7 @@ standing_of reads p true =
     if is_licence reads p.concluded then Concluded else if is_licence reads p.declared then Declared
     else Neither
 
+-- the standings of packages, each by its mark
 abbrev pub standings_of : (List ℕ → Option Tree) → List PackageText → List Bool → List Standing
 standings_of reads [] marks = []
 standings_of reads (p ∷ ps) marks = standing_of reads p (slice_index_or marks 0 false)
@@ -35,6 +36,7 @@ IsSummary reads d s =
     × (s.standings.items ≡ standings_of reads d.packages marks))
     × AreFindings reads d s.findings.items
 
+-- two standings are the same
 abbrev pub same_standing : Standing → Standing → Bool
 same_standing Aside Aside = true
 same_standing Concluded Concluded = true

@@ -11,6 +11,9 @@
 //! linear in the number of bytes. Objects and arrays nest at most 127 deep, the limit of
 //! `serde_json`.
 //!
+//! `read_input` and `read_text` read the bytes of an input file: all of them or, of a larger one, as
+//! much as shows that it is too large (`specs/Inputs.antt`).
+//!
 //! `intake_of` decides what is imported of the bytes of a file (`specs/Intakes.antt`): what `read`
 //! takes as it is, and anything else as what it converts to, if it is a document in JSON.
 //!
@@ -22,6 +25,7 @@
 
 mod converting;
 mod faults;
+mod input;
 mod intake;
 pub mod laws;
 mod licences;
@@ -31,6 +35,7 @@ mod writing;
 
 pub use converting::{Converted, Skipped, convert};
 pub use faults::ConvertFault;
+pub use input::{read_input, read_text};
 pub use intake::{Intake, Origin, intake_of};
 pub use proposals::{Proposals, proposals_of};
 pub use summary::{Standing, Summary, summary_of};

@@ -27,7 +27,9 @@ use std::fmt;
 /// line for each that ships with only a declared licence, with the request `conclude`.
 #[derive(Drop)]
 pub struct Proposals {
+    /// The standing of each package, in the order of the document.
     pub standings: Vec<Standing>,
+    /// The lines that are proposed, as a script reads them.
     pub lines: String,
 }
 

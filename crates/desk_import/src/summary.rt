@@ -32,7 +32,9 @@ pub enum Standing {
 /// the standard has it.
 #[derive(Drop)]
 pub struct Summary {
+    /// The standing of each package, in the order of the document.
     pub standings: Vec<Standing>,
+    /// What isn't as the standard has it, by line.
     pub findings: Vec<Finding>,
 }
 

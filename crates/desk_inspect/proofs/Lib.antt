@@ -1,1 +1,3 @@
 pub mod InspectLemmas
+pub mod ListingLemmas
+pub mod ProposingLemmas

@@ -1,2 +1,4 @@
 pub mod Idle
 pub mod Inspecting
+pub mod Listing
+pub mod Proposing

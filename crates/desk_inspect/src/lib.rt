@@ -7,11 +7,17 @@
 //! - `wanting` writes the refusals that keep a release from being frozen, one on each line, and
 //!   `choices` the requests for choices that leave nothing to choose (`specs/Inspecting.antt`).
 //!   Notes of `wanting` say which documents of a release ship no package (`specs/Idle.antt`).
+//! - `releases`, `documents` and `duties` write lists of what the desk holds (`specs/Listing.antt`).
+//! - `proposals` writes the requests that are proposed for a document (`specs/Proposing.antt`).
 #![tactic(auto)]
 
 mod choosing;
 mod freezing;
 mod idle;
+mod listing;
+mod proposing;
 
 pub use choosing::choices;
 pub use freezing::wanting;
+pub use listing::{documents, duties, releases};
+pub use proposing::proposals;

@@ -1,4 +1,5 @@
-//! Whether a choice of terms satisfies an expression, and whether it does without one of them.
+//! Whether a choice of terms satisfies an expression, and whether it still does without one of
+//! them.
 
 ghost use Rattle.std.specs.Prelude.{◌≡◌, ◌++◌, ◌∷◌, [], ℕ, IfOk, IfErr, List, map};
 ghost use Rattle.std.specs.Io.KnownBytes.{Appends, Keeps};

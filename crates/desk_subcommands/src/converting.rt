@@ -1,4 +1,4 @@
-//! SPDX documents in JSON, written as the tag-value documents that say the same.
+//! Writes SPDX documents in JSON as the tag-value documents that say the same.
 
 ghost use Rattle.std.specs.Prelude.{◌≡◌, ◌++◌, ◌∷◌, [], ℕ, List, IfOk, IfErr, OnOk, codes};
 ghost use Rattle.std.specs.String.{string_bytes};
@@ -60,7 +60,7 @@ fn left_out_line(alloc: Global, skipped: Skipped) -> Result<String, AllocError>
     )
 }
 
-// The line of why bytes that are no tag-value document are none in JSON either.
+// The line that says why bytes that aren't a tag-value document aren't one in JSON either.
 fn neither_line(alloc: Global, fault: &ConvertFault) -> Result<String, AllocError>
     ensures { IfOk result (λ line. string_bytes line
         ≡ (codes "nor is it a document in JSON: " ++ fault_words fault.now) ++ 10 ∷ []) }
@@ -72,8 +72,8 @@ fn neither_line(alloc: Global, fault: &ConvertFault) -> Result<String, AllocErro
     Ok(line)
 }
 
-/// The lines on what a file is whose bytes are imported: what is left out of a document in JSON, or
-/// why bytes that are no document aren't one in JSON either.
+/// The lines on what an imported file is: what is left out of a document in JSON, or why bytes that
+/// aren't a tag-value document aren't one in JSON either.
 pub(crate) fn origin_text(alloc: Global, origin: &Origin) -> Result<String, AllocError>
     ensures { IfOk result (λ text. string_bytes text ≡ origin_text origin.now) }
 {

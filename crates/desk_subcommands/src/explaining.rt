@@ -1,4 +1,4 @@
-//! Explains in words which lines of a script aren't done.
+//! Explains in words which lines of a script aren't carried out.
 
 ghost use Rattle.std.specs.Prelude.{◌≡◌};
 
@@ -43,25 +43,26 @@ impl Counts {
     }
 }
 
-/// Watches a script and reports, for each line that isn't done, which it is and why, and at the end
-/// how many there were.
+/// Watches a script and reports each line that isn't carried out, with its number and the reason,
+/// and at the end how many there were.
 #[derive(Drop)]
 pub struct Explainer<E: Write> {
     alloc: Global,
     writer: E,
     /// Whether anything is reported.
     is_told: bool,
-    /// Whether the script ends at the first line that isn't done.
+    /// Whether the script ends at the first line that isn't carried out.
     is_stopped: bool,
     /// The number of the current line.
     line: u64,
-    /// Why it is no request, if it is none.
+    /// Why it isn't a request, if it isn't one.
     trouble: Option<RequestTrouble>,
     counts: Counts,
 }
 
 impl<E: Write> Explainer<E> {
-    /// Reports what isn't done or keeps silent, and ends the script there or lets it go on.
+    /// Reports what isn't carried out or stays silent, and ends the script there or lets it
+    /// continue.
     pub fn new(alloc: Global, writer: E, is_told: bool, is_stopped: bool) -> Explainer<E>
         ensures { result.is_stopped ≡ is_stopped }
     {
@@ -82,7 +83,7 @@ impl<E: Write> Explainer<E> {
         }
     }
 
-    // The words for the current line, if it isn't done.
+    // The words for the current line, if it isn't carried out.
     fn words(&self, reply: &Reply) -> Result<Option<String>, AllocError> {
         let (alloc, line) = (self.alloc, self.line);
         match reply {
@@ -108,7 +109,7 @@ impl<E: Write> Explainer<E> {
         Ok(())
     }
 
-    /// Reports how many lines were done and how many were not.
+    /// Reports how many lines were carried out and how many were not.
     pub fn tell_counts(&mut self) -> Result<(), Failure> {
         if self.is_told {
             let line = self.counts.line(self.alloc)?;

@@ -8,7 +8,7 @@ use std::alloc::AllocError;
 use std::io;
 use thiserror::Error;
 
-/// A fault of the program's surroundings, not of what the words asked for.
+/// A fault of the program's environment, not of what the words asked for.
 #[derive(Debug, Drop, Error)]
 pub enum Failure {
     #[error("no memory is left")]
@@ -21,7 +21,7 @@ pub enum Failure {
     /// This many requests of a script failed.
     #[error("requests that failed: {0}")]
     Failed(u64),
-    /// A desk failed at a command. During the run its rows are as they were; the file may have the
+    /// A desk failed at a command. During the run its rows are unchanged; the file may have the
     /// rows after the command.
     #[error("the request failed: {0}; it was applied fully or not at all: check before you send it again")]
     Request(Fault),
@@ -55,8 +55,8 @@ impl Failure {
     ghost use Rattle.std.specs.Prelude.{◌≡◌};
     ghost use Rattle.desk_subcommands.specs.Failures.{failure_status};
 
-    /// The program's status: 2 if a value can't be written in its field or a name is unknown, and
-    /// else 3.
+    /// The program's status: 2 if a value can't be written in its field or a name is unknown,
+    /// otherwise 3.
     pub fn status(&self) -> u8
         ensures { result ≡ failure_status self.now }
     {

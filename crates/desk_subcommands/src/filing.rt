@@ -21,7 +21,7 @@ use desk_snapshot::AuditFault;
 use std::alloc::{AllocError, Global};
 use std::io::Write;
 
-/// Why a file keeps no desk that this program can use.
+/// Why a file contains no desk that this program can use.
 #[derive(Clone, Copy, Drop, PartialEq, Eq)]
 pub enum NoDesk {
     /// It has a table `meta`, but not exactly the tables of a desk.
@@ -32,7 +32,7 @@ pub enum NoDesk {
     Unsound(AuditFault),
 }
 
-// The name of the reason why a file keeps no desk.
+// The name of the reason why a file contains no desk.
 fn no_desk_name(reason: NoDesk) -> &'static str
     ensures { result.now ≡ no_desk_name reason }
 {
@@ -134,7 +134,7 @@ fn load_text<D: Desk>(desk: &mut D, text: Text) -> Outcome
     Outcome::from(became)
 }
 
-// Writes the reply to an outcome as `tell` does, and reports why it isn't done.
+// Writes the reply to an outcome as `tell` does, and reports why the request isn't carried out.
 fn answer<W: Write, E: Write>(
     alloc: Global,
     outcome: Outcome,
@@ -157,10 +157,10 @@ fn answer<W: Write, E: Write>(
     told
 }
 
-/// Lets a desk import a document, as the request `import` does, writes the reply as a line, and
+/// Has a desk import a document, as the request `import` does, writes the reply as a line, and
 /// returns the program's status. If the desk fails, both the reply and the failure say so. If the
-/// reply can't be written, what the desk did is not undone. What the file of the bytes is, is
-/// reported besides the reply.
+/// reply can't be written, what the desk did is not undone. Besides the reply, it reports what the
+/// file of the bytes is.
 pub fn import<D: Desk, W: Write, E: Write>(
     alloc: Global,
     desk: &mut D,
@@ -188,7 +188,7 @@ pub fn import<D: Desk, W: Write, E: Write>(
     told
 }
 
-/// Lets a desk load a catalogue, as the request `catalogue` does, writes the reply as a line, and
+/// Has a desk load a catalogue, as the request `catalogue` does, writes the reply as a line, and
 /// returns the program's status. If the desk fails, both the reply and the failure say so. If the
 /// reply can't be written, what the desk did is not undone.
 pub fn catalogue<D: Desk, W: Write, E: Write>(
@@ -225,7 +225,7 @@ pub fn text_of(alloc: Global, bytes: &[u8]) -> Result<Option<Text>, AllocError>
     }
 }
 
-/// Writes the reply to the loading of a catalogue that is no text, which is refused as not being a
+/// Writes the reply to the loading of a catalogue that isn't text, which is refused as not being a
 /// TOML document, and returns the program's status.
 pub fn refuse_catalogue<W: Write, E: Write>(
     alloc: Global,
@@ -244,7 +244,7 @@ pub fn refuse_catalogue<W: Write, E: Write>(
     answer(alloc, outcome, writer, teller)
 }
 
-// The line that says why a file keeps no desk, without its end.
+// The line that says why a file contains no desk, without its end.
 fn no_desk_text(alloc: Global, reason: NoDesk) -> Result<String, AllocError>
     ensures { IfOk result (λ text. string_bytes text ≡ codes "fault: " ++ no_desk_name reason) }
 {
@@ -253,7 +253,7 @@ fn no_desk_text(alloc: Global, reason: NoDesk) -> Result<String, AllocError>
     Ok(text)
 }
 
-/// Writes why a file keeps no desk, as a line, and returns the program's status.
+/// Writes why a file contains no desk, as a line, and returns the program's status.
 pub fn refuse_database<W: Write>(
     alloc: Global,
     reason: NoDesk,

@@ -16,7 +16,7 @@ use desk_tree_gather::SourceFile;
 use std::alloc::{AllocError, Global};
 use std::io::Write;
 
-/// What a document says of itself.
+/// What a document says about itself.
 #[derive(Clone, Copy)]
 pub struct Title<'a> {
     /// Its name.
@@ -51,7 +51,7 @@ fn gathering_of(
     }
 }
 
-// The line on the files of which a document says no licence or no notice, if there are any.
+// The line on the files for which a document gives no licence or no notice, if there are any.
 fn gaps_line(alloc: Global, gaps: Gaps) -> Result<String, AllocError>
     ensures { IfOk result (λ line. string_bytes line ≡ gaps_line gaps) }
 {
@@ -85,7 +85,7 @@ fn tell<T: Write>(
     Ok(())
 }
 
-// Writes a text; a terminal gets it as it shows it.
+// Writes a text; on a terminal, in the form that is safe to show.
 fn write_on<W: Write>(
     alloc: Global,
     text: &str,
@@ -107,10 +107,11 @@ fn write_on<W: Write>(
     Ok(())
 }
 
-/// Writes the document of a tree of files, or one line with the fault for which there is none, and
-/// returns the program's status. A terminal gets the text as it shows it. If no memory is left, or
-/// some value can't be written in its field, nothing is written. A fault is also reported to another
-/// writer, as is of how many files the document says no licence or no notice.
+/// Writes the document of a tree of files, or one line with the fault because of which there is
+/// none, and returns the program's status. On a terminal, the text is in the form that is safe to
+/// show. If no memory is left, or some value can't be written in its field, nothing is written.
+/// Another writer gets the fault too, or for how many files the document gives no licence or no
+/// notice.
 pub fn gather<W: Write, T: Write>(
     alloc: Global,
     files: Vec<SourceFile>,

@@ -5,12 +5,12 @@
 //! subcommand could not do its work, and has a status of its own. The contracts are the same over
 //! any desk, reader and writer, so they hold for the desk in memory and for the one in a file.
 //!
-//! - `check` judges a choice of terms (`specs/Report.antt`), and `alternatives` lists the choices
-//!   that there are (`specs/Listing.antt`).
-//! - `script` replies to requests, and `Explainer` says in words which lines aren't done. `import`
-//!   and `catalogue` do one request each (`specs/Filing.antt`).
-//! - `tell_report` writes what an audit reports (`specs/Auditing.antt`), and `tell_migration` from
-//!   which version to which a file was migrated (`specs/Migrating.antt`).
+//! - `check` judges a choice of terms (`specs/Report.antt`), and `alternatives` lists the possible
+//!   choices (`specs/Listing.antt`).
+//! - `script` replies to requests, and `Explainer` says in words which lines aren't carried out.
+//!   `import` and `catalogue` carry out one request each (`specs/Filing.antt`).
+//! - `tell_report` writes what an audit reports (`specs/Auditing.antt`), and `tell_migration`
+//!   between which versions a file was migrated (`specs/Migrating.antt`).
 //! - `gather` writes the document of a tree of files (`specs/Gathering.antt`), and `lint` what is
 //!   wrong in it (`specs/Linting.antt`).
 //! - `convert` writes the tag-value document that says the same as one in JSON

@@ -13,7 +13,7 @@ use desk_expr::{Expr, ParseFault, Profile, parse_in, print_term, unless_memory};
 use std::alloc::{AllocError, Global};
 use std::io::Write;
 
-/// The answer to `alternatives`.
+/// The answer of `alternatives`.
 #[derive(Drop)]
 pub enum Listing {
     /// The minimal sets of the expression.

@@ -11,7 +11,7 @@ use desk_explain::{Entry, entries, explanation};
 use std::alloc::Global;
 use std::io::Write;
 
-/// Writes what the tables say of a name, a block for each entry that has it, and returns the
+/// Writes what the tables say about a name, a block for each entry with it, and returns the
 /// program's status. If none has it, or no memory is left, nothing is written.
 pub fn explain<W: Write>(
     alloc: Global,

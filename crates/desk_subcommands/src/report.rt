@@ -1,9 +1,9 @@
-//! What `check` says of a choice of terms.
+//! What `check` says about a choice of terms.
 
 use desk_expr::ParseFault;
 use std::fmt;
 
-/// The answer to `check`, which prints as its line.
+/// The answer of `check`, which is printed as one line.
 #[derive(Drop)]
 pub enum Report<'a> {
     /// The terms satisfy the expression, and no smaller set of them does.

@@ -15,7 +15,7 @@ use std::alloc::Global;
 use std::io::{Read, Write};
 
 /// Replies to the requests that the reader gives, one on each line, and returns the program's
-/// status. If the watcher says so, it ends at the first line that isn't done.
+/// status. If the watcher says so, it ends at the first line that isn't carried out.
 pub fn script<D: Desk, R: Read, W: Write, V: Watch>(
     alloc: Global,
     desk: &mut D,

@@ -1,4 +1,4 @@
-//! Explains in words why a request isn't done, if somebody reads them.
+//! Explains in words why a request isn't carried out, if somebody reads them.
 
 ghost use Rattle.std.specs.Prelude.{◌≡◌, OnOk};
 ghost use Rattle.std.specs.Io.KnownBytes.{Appends};
@@ -12,7 +12,7 @@ use desk_words::RefusalWords;
 use std::alloc::{AllocError, Global};
 use std::io::Write;
 
-/// The words for an outcome, if it is one of a request that isn't done.
+/// The words for an outcome, if its request isn't carried out.
 pub(crate) fn words_of(alloc: Global, outcome: &Outcome) -> Result<Option<String>, AllocError> {
     match outcome {
         Outcome::Failed(fault) => Ok(Some(format!(in alloc; "the request failed: {fault}")?)),
@@ -24,8 +24,8 @@ pub(crate) fn words_of(alloc: Global, outcome: &Outcome) -> Result<Option<String
     }
 }
 
-/// Explains in words why a request isn't done, besides its reply, or keeps silent if nobody reads
-/// them.
+/// Explains in words, besides the reply, why a request isn't carried out, or stays silent if nobody
+/// reads them.
 #[derive(Drop)]
 pub struct Teller<E: Write> {
     alloc: Global,
@@ -34,7 +34,7 @@ pub struct Teller<E: Write> {
 }
 
 impl<E: Write> Teller<E> {
-    /// A teller that explains or keeps silent.
+    /// A teller that explains or stays silent.
     pub fn new(alloc: Global, writer: E, is_told: bool) -> Teller<E>
         ensures { result.is_told ≡ is_told }
     {
@@ -62,13 +62,13 @@ impl<E: Write> Teller<E> {
         Ok(())
     }
 
-    /// Reports what a file is whose bytes were imported, whoever reads it.
+    /// Reports what an imported file is, even if nobody reads explanations.
     pub fn report(&mut self, origin: &Origin) {
         // If it can't be written, there is nobody left to tell.
         let _told = self.write_origin(origin);
     }
 
-    /// Explains why a request isn't done, by its outcome.
+    /// Explains why a request isn't carried out, by its outcome.
     pub fn explain(&mut self, outcome: &Outcome) {
         if self.is_told {
             // If it can't be written, there is nobody left to tell.

@@ -1,3 +1,5 @@
 pub mod ShowingLemmas
 pub mod PageLemmas
 pub mod RefusalLemmas
+pub mod ReadyingLemmas
+mod FillingLemmas

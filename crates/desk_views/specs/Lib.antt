@@ -1,8 +1,10 @@
 pub mod Showing
 pub mod Listing
 pub mod Wanting
+pub mod Readying
 pub mod Paging
 pub mod Proposals
 pub mod Proposing
 pub mod Asking
 pub mod Choosing
+pub mod Filling

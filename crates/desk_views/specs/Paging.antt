@@ -78,6 +78,7 @@ abbrev pub Gathers : Readings → List Command → List ℕ → Result Contents 
 Gathers w h release (Ok c) = AreContents w h release c
 Gathers w h release (Err outcome) = IsOther w h release outcome
 
+-- the page that these make, as HTML
 abbrev pub contents_text : Contents → List ℕ
 contents_text c = page_text c.bill c.totals c.duties c.changes.items
 

@@ -1,13 +1,17 @@
 -- What is proposed for a document that a desk holds: its declared licences as conclusions, and the
 -- choices for packages that have only one.
-use Rattle.std.specs.Prelude.{◌⊎◌, ◌==◌, ◌&&◌, ℕ, ℤ, pos, Bool, List, Option, Some, Ok, is_some, filter, find, map}
+use Rattle.std.specs.Prelude.{◌⊎◌, ◌==◌, ◌&&◌, ℕ, ℤ, pos, Bool, List, [], Option, Some, Result, Ok}
+use Rattle.std.specs.Prelude.{is_some, filter, find, map}
 use Rattle.std.specs.Option.{option_map_or}
 use Rattle.std.specs.Ordering.{int_eq}
+use Rattle.std.specs.Result.{result_unwrap_or}
 use Rattle.std.specs.Str.{bytes_eq}
 use Rattle.desk_expr.specs.Tree.{Tree}
 use Rattle.desk_model.specs.Names.{release_state_name}
 use Rattle.desk_model.specs.Readings.{Readings}
+use Rattle.desk_model.specs.declared.refusal.Refusal.{Refusal}
 use Rattle.desk_model.specs.declared.state.ReleaseState.TheVariants as release
+use Rattle.desk_wanting.specs.Requests.{choice_lines_text}
 use Rattle.desk_wanting.specs.declared.sole_choice.SoleChoice.{SoleChoice}
 use Rattle.desk_snapshot.specs.Rows.{is_attachment, is_conclusion}
 use Rattle.desk_snapshot.specs.declared.rows.StoredDocument.{StoredDocument}
@@ -17,6 +21,7 @@ use Rattle.desk_views.specs.Proposals.{HasLines, IsRefused}
 use Rattle.desk_tagvalue.specs.Documents.{Spells}
 use Rattle.desk_tagvalue.specs.Parts.{DocumentText, PackageText}
 
+-- the row of the document with this number
 abbrev pub is_document : ℕ → StoredDocument → Bool
 is_document number row = int_eq row.number (pos number)
 
@@ -52,3 +57,9 @@ open_releases_with s document = map (λ row. row.name) (filter (is_open_with s d
 -- a choice for a package of a document
 abbrev pub is_choice_for : ℕ → SoleChoice → Bool
 is_choice_for document choice = choice.document == document
+
+-- the requests for the choices that were found for packages of a release, as far as they are for
+-- packages of a document; none if they are refused
+abbrev pub choice_lines_for : ℕ → List ℕ → Result (List SoleChoice) Refusal → List ℕ
+choice_lines_for document release found =
+    choice_lines_text release (filter (is_choice_for document) (result_unwrap_or found []))

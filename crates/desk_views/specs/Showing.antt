@@ -32,6 +32,7 @@ answer_text is_terminal (Totals totals) = Some (totals_line totals)
 answer_text is_terminal (Changes rows) = Some (flat_map change_text rows)
 answer_text is_terminal _ = None
 
+-- the text of an outcome: an answer may have one, a fault never has
 abbrev pub outcome_text : Bool → Outcome → Option (List ℕ)
 outcome_text is_terminal (Answered answer) = answer_text is_terminal answer
 outcome_text is_terminal (Failed fault) = None

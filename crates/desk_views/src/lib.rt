@@ -4,14 +4,18 @@
 //! Each function is given what it writes about and a writer, and returns the program's status, as
 //! those of `desk_subcommands` do.
 //!
-//! - `answer_request` answers a request as a script does (`specs/Asking.antt`).
+//! - `answer_request` answers a request as a script does, or as a terminal shows the answer
+//!   (`specs/Asking.antt`), and `refuse_text` refuses a catalogue that isn't text.
 //! - `show` writes the text of an answer: notices, the table of duties, totals, changes
-//!   (`specs/Showing.antt`).
+//!   (`specs/Showing.antt`). `show_ready` writes the duties that keep a release from being ready, and
+//!   its status says whether there are any (`specs/Readying.antt`). `show_filled` writes notices with
+//!   their gaps filled from files (`specs/Filling.antt`).
 //! - `write_releases`, `write_documents` and `write_duties` write lists of `desk_lists` as
 //!   comma-separated values or in columns (`specs/Listing.antt`).
 //! - `page` writes a page on a release (`specs/Paging.antt`).
-//! - `write_choices` writes choices as the requests that make them, and `write_choices_for` those
-//!   for a document; `tell_choices` writes them or why there are none (`specs/Choosing.antt`).
+//! - `write_choices` writes choices as the requests that make them, and `tell_choices` writes them or
+//!   why there are none (`specs/Choosing.antt`). `add_choices_for` adds those for a document to a
+//!   text (`specs/Proposing.antt`).
 //! - `tell_refusal` and `tell_fault` write the reply that a request is refused, or that the desk
 //!   failed.
 //! - `propose` writes the conclusions that are proposed for a document (`specs/Proposals.antt`),
@@ -24,20 +28,24 @@
 
 mod asking;
 mod choosing;
+mod filling;
 mod listing;
 mod paging;
 mod proposals;
 mod proposing;
+mod readying;
 mod replying;
 mod showing;
 mod wanting;
 
-pub use asking::answer_request;
-pub use choosing::{tell_choices, write_choices, write_choices_for};
+pub use asking::{ReplyForm, answer_request, refuse_text};
+pub use choosing::{add_choices_for, tell_choices, write_choices};
+pub use filling::{Filling, show_filled};
 pub use listing::{write_documents, write_duties, write_releases};
 pub use paging::page;
 pub use proposals::{propose, refuse_document, write_proposals};
 pub use proposing::{document_row, open_releases, propose_held};
+pub use readying::show_ready;
 pub use replying::{tell_fault, tell_refusal};
 pub use showing::show;
 pub use wanting::tell_wanting;

@@ -83,7 +83,7 @@ fn outcome_text(
 }
 
 // Writes an outcome as it is shown, and returns the status.
-fn write_outcome<W: Write>(
+pub(crate) fn write_outcome<W: Write>(
     alloc: Global,
     outcome: &Outcome,
     is_terminal: bool,
@@ -109,7 +109,7 @@ fn write_outcome<W: Write>(
 }
 
 // Asks a question.
-fn ask_desk<D: Desk>(desk: &mut D, query: &Query) -> Outcome
+pub(crate) fn ask_desk<D: Desk>(desk: &mut D, query: &Query) -> Outcome
     ensures { Asks D.are_right D.tells D.stands query.now (D.seen desk.old) (D.seen desk.new)
         result }
 {
