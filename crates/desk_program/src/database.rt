@@ -3,98 +3,48 @@
 ghost use Rattle.std.specs.Prelude.{◌≡◌, false, IfOk};
 
 use crate::differences::{Difference, first_difference};
+use crate::filling::{REFUSED, fills_at};
 use crate::input::{bytes_at, require_file, text_at};
 use crate::progress::Step;
-use crate::scripts::{self, Course};
+use crate::scripts::Course;
+use crate::tasks::{
+    Answering, Choices, FilledNotices, List, Page, Proposals, Readying, Serving, Showing, Task,
+    Wanting, teller,
+};
 use crate::trouble::{trouble_at, trouble_of};
-use crate::{USAGE, blocks, looking, progress, serving, summaries};
+use crate::{FAILED, USAGE, blocks, progress, summaries};
 use desk_assignments::{Source, Verb, WordsTrouble, read_words, source_of};
 use desk_base::{Items, Profile, Text};
+use desk_fill::{Fill, Style};
 use desk_import::{Intake, Origin, intake_of};
-use desk_inspect::{choices, wanting};
 use desk_json::Request;
-use desk_line::{FileCall, Listed};
-use desk_model::Query;
-use desk_store::{AdoptFault, CreateFault, MigrateFault, SqlDesk, audit_connection};
+use desk_line::FileCall;
+use desk_model::{Command, Query};
+use desk_snapshot::AuditReport;
+use desk_store::{AdoptFault, CreateFault, MigrateFault, SqlDesk, audit_connection, has_desk};
 use desk_subcommands::{
-    Failure, NoDesk, Teller, Trouble, catalogue, refuse_catalogue, refuse_database, tell_migration,
-    tell_report, text_of,
+    Failure, NoDesk, Trouble, refuse_database, tell_migration, tell_report, text_of,
 };
-use desk_views::{answer_request, page, show};
+use desk_today::{mentions_today, today, with_day};
+use desk_views::{Filling, ReplyForm, refuse_text};
 use sqlite::{Alter, Connection};
 use sqlite_disk::{Disk, Unknown};
+use sqlite_schema::schema::Schema;
 use sqlite_store::FileStore;
 use std::alloc::{AllocError, Global};
 use std::io::{self, BufWriter, IsTerminal, Write};
-use std::rt::Stderr;
-
-/// What a desk in a file is to do.
-#[derive(Drop)]
-enum Task<'a> {
-    /// It replies to the requests of standard input.
-    Script {
-        course: Course,
-    },
-    /// It answers a request.
-    Answer {
-        request: Request,
-    },
-    /// It imports a document.
-    Import {
-        bytes: Items<u8>,
-        profile: Profile,
-        origin: &'a Origin,
-    },
-    /// It loads a catalogue.
-    Load {
-        text: Text,
-    },
-    /// It writes the text of an answer.
-    Show {
-        query: Query,
-    },
-    /// It writes a list of what it holds.
-    List {
-        list: &'a Listed,
-    },
-    /// It writes a page on a release.
-    Page {
-        release: &'a Text,
-    },
-    /// It writes the choices for packages that have only one.
-    Choices {
-        release: &'a Text,
-    },
-    /// It writes what is proposed for a document.
-    Proposals {
-        document: u32,
-    },
-    /// It writes what keeps a release from being frozen.
-    Wanting {
-        release: &'a Text,
-    },
-    /// It serves this many connections over HTTP.
-    Serve {
-        port: u16,
-        limit: u32,
-    },
-}
-
-impl<'a> From<Query> for Task<'a> {
-    fn from(query: Query) -> Task<'a> {
-        Task::Show { query }
-    }
-}
 
 /// What is to be done with a file.
-#[derive(Drop)]
-enum Work<'a> {
-    /// Its tables are audited.
-    Audit,
-    /// Its tables become those of this version.
-    Migrate,
-    /// The desk that it keeps does a task.
-    Do(Task<'a>),
+trait Work {
+    /// Does it over a connection to the file, and returns the program's status.
+    fn over<D: Disk + Drop, W: Write>(
+        self,
+        rt: &HostRuntime,
+        conn: Connection<FileStore<D>>,
+        path: &str,
+        writer: &mut W,
+    ) -> Result<u8, Failure>
+        requires { conn.in_transaction ≡ false };
 }
 
 // Why a file can't keep a desk.
@@ -129,6 +79,16 @@ fn no_desk<S: Alter + Drop>(alloc: Global, conn: &Connection<S>) -> Result<Refus
     })
 }
 
+// Says on standard error how a file's tables differ from a desk's, and where its rows may be one's,
+// how to keep them.
+fn tell_difference(rt: &HostRuntime, path: &str, difference: &Difference) {
+    // If writing to standard error fails, the line on standard output still says it.
+    let _told = eprintln!(rt; "{path:?}: {difference}");
+    if difference.may_have_rows() {
+        let _told = eprintln!(rt; "{path:?}: examples/restore moves a desk's rows into a new file");
+    }
+}
+
 // Reports why a file keeps no desk, and returns the program's status.
 fn refuse<W: Write>(
     rt: &HostRuntime,
@@ -138,8 +98,7 @@ fn refuse<W: Write>(
 ) -> Result<u8, Failure> {
     let status = refuse_database(rt.alloc(), refused.reason, writer)?;
     if let Some(difference) = refused.difference {
-        // If writing to standard error fails, the line on standard output still says it.
-        let _told = eprintln!(rt; "{path:?}: {difference}");
+        tell_difference(rt, path, &difference);
     }
     Ok(status)
 }
@@ -201,62 +160,6 @@ fn close<D: Disk + Drop>(
     }
 }
 
-// Explains on standard error why a request is refused, if that is a terminal.
-fn teller(rt: &HostRuntime) -> Teller<Stderr> {
-    let stderr = rt.stderr();
-    let is_told = stderr.is_terminal();
-    Teller::new(rt.alloc(), stderr, is_told)
-}
-
-// Lets a desk do a task, and returns the program's status.
-fn do_task<S: Alter + Drop, W: Write>(
-    rt: &HostRuntime,
-    desk: &mut SqlDesk<S>,
-    task: Task<'_>,
-    writer: &mut W,
-) -> Result<u8, Failure> {
-    let alloc = rt.alloc();
-    match task {
-        Task::Script { course } => scripts::script(rt, desk, writer, course),
-        Task::Answer { request } => {
-            answer_request(alloc, desk, request, writer, &mut teller(rt))
-        }
-        Task::Import {
-            bytes,
-            profile,
-            origin,
-        } => {
-            let mut teller = teller(rt);
-            desk_subcommands::import(alloc, desk, bytes, profile, origin, writer, &mut teller)
-        }
-        Task::Load { text } => catalogue(alloc, desk, text, writer, &mut teller(rt)),
-        Task::Show { query } => {
-            // (a pipe and a file get comma-separated values, and notices as they are)
-            let is_terminal = rt.stdout().is_terminal();
-            let told = show(alloc, desk, &query, is_terminal, writer, &mut teller(rt));
-            drop(query);
-            told
-        }
-        Task::List { list } => looking::list(rt, desk, list, writer),
-        Task::Page { release } => page(alloc, desk, release, writer, &mut teller(rt)),
-        Task::Choices { release } => choices(alloc, desk, release, writer, &mut teller(rt)),
-        Task::Proposals { document } => {
-            looking::proposals(rt, desk, document, writer, &mut teller(rt))
-        }
-        Task::Wanting { release } => {
-            wanting(
-                alloc,
-                desk,
-                release,
-                writer,
-                &mut teller(rt),
-                &mut rt.stderr(),
-            )
-        }
-        Task::Serve { port, limit } => serving::serve(rt, alloc, desk, port, limit),
-    }
-}
-
 // The result of a piece of work after which the file was closed: the reason why it failed goes
 // before the reason why the file wasn't closed.
 fn closing_status(told: Result<u8, Failure>, closed: Result<(), Failure>) -> Result<u8, Failure> {
@@ -272,11 +175,11 @@ fn closing_status(told: Result<u8, Failure>, closed: Result<(), Failure>) -> Res
 }
 
 // Lets the desk behind a connection do a task. The desk is closed whatever comes of that.
-fn do_over<D: Disk + Drop, W: Write>(
+fn do_over<D: Disk + Drop, W: Write, T: Task + Drop>(
     rt: &HostRuntime,
     conn: Connection<FileStore<D>>,
     path: &str,
-    task: Task<'_>,
+    task: T,
     writer: &mut W,
 ) -> Result<u8, Failure>
     requires { conn.in_transaction ≡ false }
@@ -287,7 +190,7 @@ fn do_over<D: Disk + Drop, W: Write>(
         Ok(desk) => desk,
         Err(refused) => return refuse(rt, refused, path, writer),
     };
-    let told = do_task(rt, &mut desk, task, writer);
+    let told = task.run(rt, &mut desk, writer);
     let closed = close(rt.alloc(), desk.into_connection(), path);
     closing_status(told, closed)
 }
@@ -313,6 +216,18 @@ fn tables_of<S: Alter + Drop>(
     }
 }
 
+// Says on standard error that a file whose rows are sound isn't opened as a desk, and why if there
+// is memory for that.
+fn tell_unopened(rt: &HostRuntime, schema: &Schema, path: &str) {
+    if has_desk(schema) {
+        return;
+    }
+    let _told = eprintln!(rt; "{path:?} isn't opened as a desk (NotADesk)");
+    if let Ok(difference) = first_difference(rt.alloc(), schema) {
+        tell_difference(rt, path, &difference);
+    }
+}
+
 // Audits the tables that a connection shows, and returns the program's status.
 fn audit_tables<S: Alter, W: Write>(
     rt: &HostRuntime,
@@ -325,7 +240,12 @@ fn audit_tables<S: Alter, W: Write>(
     let audited = audit_connection(rt.alloc(), conn);
     progress::clear(rt, path);
     match audited {
-        Ok(report) => tell_report(report, writer),
+        Ok(report) => {
+            if let AuditReport::Sound = report {
+                tell_unopened(rt, conn.schema(), path);
+            }
+            tell_report(report, writer)
+        }
         Err(fault) => Err(unusable(rt.alloc(), path, Trouble::from(fault))),
     }
 }
@@ -373,33 +293,64 @@ fn migrate_over<D: Disk + Drop, W: Write>(
     refuse_database(alloc, reason, writer)
 }
 
-// Does what is to be done with a file.
-fn work_over<D: Disk + Drop, W: Write>(
-    rt: &HostRuntime,
-    conn: Connection<FileStore<D>>,
-    path: &str,
-    work: Work<'_>,
-    writer: &mut W,
-) -> Result<u8, Failure>
-    requires { conn.in_transaction ≡ false }
-{
-    match work {
-        Work::Audit => audit_over(rt, conn, path, writer),
-        Work::Migrate => migrate_over(rt, conn, path, writer),
-        Work::Do(task) => do_over(rt, conn, path, task, writer),
+/// Its tables are audited.
+#[derive(Drop)]
+struct Audit;
+
+impl Work for Audit {
+    fn over<D: Disk + Drop, W: Write>(
+        self,
+        rt: &HostRuntime,
+        conn: Connection<FileStore<D>>,
+        path: &str,
+        writer: &mut W,
+    ) -> Result<u8, Failure> {
+        audit_over(rt, conn, path, writer)
+    }
+}
+
+/// Its tables become those of this version.
+#[derive(Drop)]
+struct Migration;
+
+impl Work for Migration {
+    fn over<D: Disk + Drop, W: Write>(
+        self,
+        rt: &HostRuntime,
+        conn: Connection<FileStore<D>>,
+        path: &str,
+        writer: &mut W,
+    ) -> Result<u8, Failure> {
+        migrate_over(rt, conn, path, writer)
+    }
+}
+
+/// The desk that it keeps does a task.
+#[derive(Drop)]
+struct Do<T: Task + Drop>(T);
+
+impl<T: Task + Drop> Work for Do<T> {
+    fn over<D: Disk + Drop, W: Write>(
+        self,
+        rt: &HostRuntime,
+        conn: Connection<FileStore<D>>,
+        path: &str,
+        writer: &mut W,
+    ) -> Result<u8, Failure> {
+        let Do(task) = self;
+        do_over(rt, conn, path, task, writer)
     }
 }
 
 // Does what is to be done with a file. The disk is assumed to finish a sector whose write has
-// begun, so each commit is synced once. No other function names the connection to a file, since
-// each that does costs the gate a minute.
-fn work_in(rt: &HostRuntime, path: &str, work: Work<'_>) -> Result<u8, Failure> {
+// begun, so each commit is synced once.
+fn work_in<K: Work + Drop>(rt: &HostRuntime, path: &str, work: K) -> Result<u8, Failure> {
     let mut writer = BufWriter::new(rt.alloc(), io::writer(rt))?;
     progress::tell(rt, path, Step::Pages);
     match Connection::open_from(rt, path, false, Unknown) {
         Ok(conn) => {
             progress::tell(rt, path, Step::Rows);
-            work_over(rt, conn, path, work, &mut writer)
+            work.over(rt, conn, path, &mut writer)
         }
         Err((error, _)) => {
             progress::clear(rt, path);
@@ -409,35 +360,114 @@ fn work_in(rt: &HostRuntime, path: &str, work: Work<'_>) -> Result<u8, Failure> 
 }
 
 // Lets the desk in a file do a task.
-fn do_in(rt: &HostRuntime, path: &str, task: Task<'_>) -> Result<u8, Failure> {
+fn do_in<T: Task + Drop>(rt: &HostRuntime, path: &str, task: T) -> Result<u8, Failure> {
     blocks::keep_large(rt.alloc());
-    work_in(rt, path, Work::Do(task))
+    work_in(rt, path, Do(task))
+}
+
+// Writes the text of the answer to a question.
+fn write_answer(rt: &HostRuntime, path: &str, query: Query) -> Result<u8, Failure> {
+    let told = do_in(rt, path, Showing(&query));
+    drop(query);
+    told
+}
+
+/// Writes the duties of a release.
+fn duties(rt: &HostRuntime, path: &str, release: &Text) -> Result<u8, Failure> {
+    let release = release.clone()?;
+    write_answer(rt, path, Query::Duties { release })
+}
+
+/// Writes how many duties of a release are in each state.
+fn totals(rt: &HostRuntime, path: &str, release: &Text) -> Result<u8, Failure> {
+    let release = release.clone()?;
+    write_answer(rt, path, Query::Totals { release })
+}
+
+/// Writes the changes of a duty.
+fn changes(rt: &HostRuntime, path: &str, duty: u32) -> Result<u8, Failure> {
+    let duty = u64::from(duty);
+    write_answer(rt, path, Query::Changes { duty })
+}
+
+// Writes the duties that keep a release from being ready on a day, if one is given.
+fn unready(rt: &HostRuntime, path: &str, release: &Text, day: Option<Text>) -> Result<u8, Failure> {
+    let release = release.clone()?;
+    let query = Query::Ready { release, day };
+    let told = do_in(rt, path, Readying(&query));
+    drop(query);
+    told
+}
+
+// The same on the day that a word names, which may be `today`.
+fn unready_on(rt: &HostRuntime, path: &str, release: &Text, day: &Text) -> Result<u8, Failure> {
+    if day.as_str() != "today" {
+        return unready(rt, path, release, Some(day.clone()?));
+    }
+    match told_today(rt)? {
+        Some(day) => unready(rt, path, release, Some(day)),
+        None => Ok(FAILED),
+    }
+}
+
+/// Writes the duties that keep a release from being ready, if a day is given also on that day.
+fn ready(rt: &HostRuntime, path: &str, release: &Text, day: &Option<Text>) -> Result<u8, Failure> {
+    match day {
+        Some(day) => unready_on(rt, path, release, day),
+        None => unready(rt, path, release, None),
+    }
 }
 
 /// Gives a file of an older version the tables of this one. No file is made if there is none.
 fn migrate(rt: &HostRuntime, path: &str) -> Result<u8, Failure> {
     require_file(rt, path)?;
-    work_in(rt, path, Work::Migrate)
+    work_in(rt, path, Migration)
 }
 
 /// Replies to the requests of standard input over the desk that a file keeps.
 pub fn script(rt: &HostRuntime, path: &str, course: Course) -> Result<u8, Failure> {
-    do_in(rt, path, Task::Script { course })
+    do_in(rt, path, course)
 }
 
-/// Lets the desk that a file keeps import the document of another file.
-fn import(rt: &HostRuntime, path: &str, document: &str, profile: Profile) -> Result<u8, Failure> {
+/// Serves the desk that a file keeps over HTTP.
+fn serve(rt: &HostRuntime, path: &str, port: u16, limit: u32) -> Result<u8, Failure> {
+    do_in(rt, path, Serving { port, limit })
+}
+
+// Lets the desk that a file keeps answer a request, and write the reply in a form. If it imports a
+// document, the kind of the document's file is reported.
+fn reply(
+    rt: &HostRuntime,
+    path: &str,
+    request: Request,
+    form: ReplyForm,
+    origin: Option<&Origin>,
+) -> Result<u8, Failure> {
+    let task = Answering {
+        request,
+        form,
+        origin,
+    };
+    do_in(rt, path, task)
+}
+
+/// Lets the desk that a file keeps import the document of another file, and write the reply in a
+/// form. If the desk replies, the kind of the document's file is reported.
+fn import(
+    rt: &HostRuntime,
+    path: &str,
+    document: &str,
+    profile: Profile,
+    form: ReplyForm,
+) -> Result<u8, Failure> {
     let Intake {
         bytes,
         origin,
         summary,
     } = intake_of(rt.alloc(), bytes_at(rt, document)?, profile)?;
-    let task = Task::Import {
-        bytes: Items::from_vec(bytes),
-        profile,
-        origin: &origin,
-    };
-    let told = do_in(rt, path, task);
+    let bytes = Items::from_vec(bytes);
+    let request = Request::Act(Command::Import { bytes, profile });
+    let told = reply(rt, path, request, form, Some(&origin));
     drop(origin);
     let status = told?;
     if status == 0 {
@@ -446,74 +476,155 @@ fn import(rt: &HostRuntime, path: &str, document: &str, profile: Profile) -> Res
     Ok(status)
 }
 
-/// Lets the desk that a file keeps load the catalogue of another file.
-fn load(rt: &HostRuntime, path: &str, catalogue: &str) -> Result<u8, Failure> {
+/// Lets the desk that a file keeps load the catalogue of another file, and write the reply in a
+/// form.
+fn load(rt: &HostRuntime, path: &str, catalogue: &str, form: ReplyForm) -> Result<u8, Failure> {
     let alloc = rt.alloc();
     let bytes = text_at(rt, catalogue)?;
     match text_of(alloc, bytes.as_slice())? {
-        Some(text) => do_in(rt, path, Task::Load { text }),
-        None => refuse_catalogue(alloc, &mut io::writer(rt), &mut teller(rt)),
+        Some(text) => {
+            let request = Request::Act(Command::LoadCatalogue { text });
+            reply(rt, path, request, form, None)
+        }
+        None => refuse_text(alloc, form, &mut io::writer(rt), &mut teller(rt)),
     }
 }
 
+// Writes the notices of a release.
+fn plain_notices(rt: &HostRuntime, path: &str, release: &Text) -> Result<u8, Failure> {
+    let release = release.clone()?;
+    write_answer(rt, path, Query::Bill { release })
+}
+
+// Writes the notices of a release with their gaps filled.
+fn filled_notices(
+    rt: &HostRuntime,
+    path: &str,
+    release: &Text,
+    fills: &[Fill],
+    is_complete: bool,
+) -> Result<u8, Failure> {
+    let style = Style {
+        is_complete,
+        is_terminal: rt.stdout().is_terminal(),
+    };
+    let release = release.clone()?;
+    let filling = Filling { fills, style };
+    let query = Query::Bill { release };
+    let told = do_in(rt, path, FilledNotices(&query, filling));
+    drop(query);
+    told
+}
+
+/// Lets the desk that a file keeps write the notices of a release. Their gaps are filled from the
+/// files at some paths, which are read before FILE is opened; if one can't be, FILE isn't opened.
+fn notices(
+    rt: &HostRuntime,
+    path: &str,
+    release: &Text,
+    extra: &[Text],
+    is_complete: bool,
+) -> Result<u8, Failure> {
+    if extra.is_empty() && !is_complete {
+        return plain_notices(rt, path, release);
+    }
+    let Some(fills) = fills_at(rt, extra)? else {
+        return Ok(REFUSED);
+    };
+    let told = filled_notices(rt, path, release, fills.as_slice(), is_complete);
+    drop(fills);
+    told
+}
+
 /// Lets the desk that a file keeps answer a request. The text of an import or of a catalogue may be
-/// in a file.
-fn request(rt: &HostRuntime, path: &str, request: Request) -> Result<u8, Failure> {
+/// in a file. The reply is in columns on a terminal, unless JSON is asked for.
+fn request(rt: &HostRuntime, path: &str, request: Request, json: bool) -> Result<u8, Failure> {
+    let form = ReplyForm::on(rt.stdout().is_terminal(), json);
     let told = match source_of(&request) {
-        Some(Source::Document(document, profile)) => import(rt, path, document, profile),
-        Some(Source::Catalogue(catalogue)) => load(rt, path, catalogue),
-        None => return do_in(rt, path, Task::Answer { request }),
+        Some(Source::Document(document, profile)) => import(rt, path, document, profile, form),
+        Some(Source::Catalogue(catalogue)) => load(rt, path, catalogue, form),
+        None => return reply(rt, path, request, form, None),
     };
     drop(request);
     told
 }
 
 /// Lets the desk that a file keeps answer the request that words spell.
-fn spoken(rt: &HostRuntime, path: &str, verb: Verb, words: &[Text]) -> Result<u8, Failure> {
+fn spoken(
+    rt: &HostRuntime,
+    path: &str,
+    verb: Verb,
+    words: &[Text],
+    json: bool,
+) -> Result<u8, Failure> {
     match read_words(rt.alloc(), verb, words) {
-        Ok(asked) => request(rt, path, asked),
+        Ok(asked) => request(rt, path, asked, json),
         Err(WordsTrouble::Memory) => Err(Failure::from(AllocError)),
         Err(trouble) => {
-            eprintln!(rt; "error: {trouble}")?;
+            // If it can't be written, the status still says it.
+            let _told = eprintln!(rt; "error: {trouble}");
             Ok(USAGE)
         }
     }
 }
 
+/// The day of today, which is told on standard error; none, and why, if the clock shows no day.
+fn told_today(rt: &HostRuntime) -> Result<Option<Text>, Failure> {
+    let Some(day) = today(rt)? else {
+        let _told = eprintln!(rt; "error: the system's clock shows no day of the calendar");
+        return Ok(None);
+    };
+    let shown = day.as_str();
+    let _told = eprintln!(rt; "desk: today is {shown}");
+    Ok(Some(day))
+}
+
+/// Lets the desk that a file keeps answer the request that words spell, some of which may say
+/// `today`.
+fn dated(
+    rt: &HostRuntime,
+    path: &str,
+    verb: Verb,
+    words: &[Text],
+    json: bool,
+) -> Result<u8, Failure> {
+    if !mentions_today(words) {
+        return spoken(rt, path, verb, words, json);
+    }
+    let Some(day) = told_today(rt)? else {
+        return Ok(FAILED);
+    };
+    let words = with_day(rt.alloc(), words, &day)?;
+    let told = spoken(rt, path, verb, words.as_slice(), json);
+    drop(words);
+    told
+}
+
 /// Does what is asked of the desk that a file keeps, or of the file.
 pub fn answer(rt: &HostRuntime, path: &str, call: &FileCall) -> Result<u8, Failure> {
-    let task = match call {
+    match call {
         FileCall::Import { document, profile } => {
-            return import(rt, path, document.as_str(), *profile);
+            import(rt, path, document.as_str(), *profile, ReplyForm::Line)
         }
-        FileCall::Catalogue { catalogue } => return load(rt, path, catalogue.as_str()),
-        FileCall::Do { words } => return spoken(rt, path, Verb::Do, words.as_slice()),
-        FileCall::Ask { words } => return spoken(rt, path, Verb::Ask, words.as_slice()),
-        FileCall::Audit => return work_in(rt, path, Work::Audit),
-        FileCall::Migrate => return migrate(rt, path),
-        FileCall::Notices { release } => Task::from(Query::Bill {
-            release: release.clone()?,
-        }),
-        FileCall::Duties { release } => Task::from(Query::Duties {
-            release: release.clone()?,
-        }),
-        FileCall::Totals { release } => Task::from(Query::Totals {
-            release: release.clone()?,
-        }),
-        FileCall::Changes { duty } => Task::from(Query::Changes {
-            duty: u64::from(*duty),
-        }),
-        FileCall::List { list } => Task::List { list },
-        FileCall::Page { release } => Task::Page { release },
-        FileCall::Choices { release } => Task::Choices { release },
-        FileCall::Wanting { release } => Task::Wanting { release },
-        FileCall::Proposals { document } => Task::Proposals {
-            document: *document,
-        },
-        FileCall::Serve { port, limit } => Task::Serve {
-            port: *port,
-            limit: *limit,
-        },
-    };
-    do_in(rt, path, task)
+        FileCall::Catalogue { catalogue } => load(rt, path, catalogue.as_str(), ReplyForm::Line),
+        FileCall::Do { words, json } => dated(rt, path, Verb::Do, words.as_slice(), *json),
+        FileCall::Ask { words, json } => dated(rt, path, Verb::Ask, words.as_slice(), *json),
+        FileCall::Audit => work_in(rt, path, Audit),
+        FileCall::Migrate => migrate(rt, path),
+        FileCall::Notices {
+            release,
+            fills,
+            is_complete,
+        } => notices(rt, path, release, fills.as_slice(), *is_complete),
+        FileCall::Duties { release } => duties(rt, path, release),
+        FileCall::Totals { release } => totals(rt, path, release),
+        FileCall::Changes { duty } => changes(rt, path, *duty),
+        FileCall::List { list } => do_in(rt, path, List(list)),
+        FileCall::Page { release } => do_in(rt, path, Page(release)),
+        FileCall::Choices { release } => do_in(rt, path, Choices(release)),
+        FileCall::Wanting { release } => do_in(rt, path, Wanting(release)),
+        FileCall::Ready { release, day } => ready(rt, path, release, day),
+        FileCall::Proposals { document } => do_in(rt, path, Proposals(*document)),
+        FileCall::Serve { port, limit } => serve(rt, path, *port, *limit),
+    }
 }

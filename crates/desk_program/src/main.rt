@@ -8,12 +8,14 @@
 mod blocks;
 mod database;
 mod differences;
+mod filling;
 mod input;
 mod looking;
 mod progress;
 mod scripts;
 mod serving;
 mod summaries;
+mod tasks;
 mod trouble;
 
 use crate::input::bytes_at;
@@ -33,6 +35,9 @@ use std::{env, io};
 
 /// The status of words that are no command line.
 pub(crate) const USAGE: u8 = 2;
+
+/// The status if something of the surroundings failed.
+pub(crate) const FAILED: u8 = 3;
 
 /// Does what the words ask for, and returns the status. If standard error is a terminal, progress
 /// is reported there.
