@@ -1,11 +1,11 @@
-"""Compares what `check` tells with what is wanted: python3 checks.py PROGRAM <CASES
+"""Compares what `check` prints with what is expected: python3 checks.py PROGRAM <CASES
 
-Each case that is told in another way is printed, with what is told, and then how many cases there are. A case is a line
+Each case with a different answer is printed, with that answer, and then the number of cases. A case is a line
 
-    EXPRESSION; TERM, TERM => the line that is told
+    EXPRESSION; TERM, TERM => the line that is expected
 
-and before an expression that is read by a profile of operators stands `capitals: ` or `either: `. «1..7:TEXT» is a text once for each of
-these numbers, and ‹ff› a byte by its hexadecimal digits, as in a dialogue. A line that begins with # is passed over.
+and `capitals: ` or `either: ` precedes an expression that is read by a profile of operators. «1..7:TEXT» is a text once for each of these
+numbers, and ‹ff› a byte by its hexadecimal digits, as in a dialogue. A line that begins with # is skipped.
 """
 
 import subprocess
@@ -17,7 +17,7 @@ PROFILES = {b"capitals: ": ["--profile", "1"], b"either: ": ["--profile", "2"]}
 
 
 def told(program, question):
-    """The line that the program tells."""
+    """The line that the program prints."""
     expression, terms = question.split(b"; ")
     words = []
     for name, profile in PROFILES.items():

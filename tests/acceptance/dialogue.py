@@ -2,18 +2,18 @@
 
 A dialogue is a text of lines:
 
-    # why it stands
+    # why it is there
     > a request
     < the reply to it
-    = another dialogue beside it, whose requests and replies come here
-    status 1                    the exit status that is wanted (none: 0)
-    repeat 2..998 by 2          the lines down to `end`, once for each of these numbers, which stands for % in them, and the next one
-    end                         for %+1
+    = another dialogue next to it, whose requests and replies are inserted here
+    status 1                    the exit status that is expected (none: 0)
+    repeat 2..998 by 2          the lines down to `end`, once for each of these numbers, which replaces % in them, and the next number
+    end                         replaces %+1
 
-A blank line has no reply. {{NAME}} is the text of a fixture as a JSON string, and {{NAME: OLD => NEW; ..}} the same with NEW in the
-place of OLD, which stands in it once; in both \\n is a line feed. ‹ff› is a byte by its hexadecimal digits, and «1..7:TEXT» a text once
-for each of these numbers, as with `repeat`. A request behind `>|` has no line end: it is the last one. Of a page (NAME.md) the dialogue is
-what stands in its blocks that begin with ```dialogue.
+A blank line has no reply. {{NAME}} is the text of a fixture as a JSON string, and {{NAME: OLD => NEW; ..}} the same with NEW in place of
+OLD, which occurs in it once; in both \n is a line feed. ‹ff› is a byte by its hexadecimal digits, and «1..7:TEXT» a text once for each of
+these numbers, as with `repeat`. A request after `>|` has no line end: it is the last one. In a page (NAME.md) the dialogue is what is in
+its blocks that begin with ```dialogue.
 """
 
 import json
@@ -46,19 +46,19 @@ def fixture(name):
 
 
 def put_in(match):
-    """The JSON string that stands for {{..}}."""
+    """The JSON string that replaces {{..}}."""
     name, _, changes = match.group(1).partition(": ")
     text = fixture(name)
     for change in changes.split("; ") if changes else []:
         old, new = change.replace("\\n", "\n").split(" => ")
         if text.count(old) != 1:
-            raise ValueError(f"{old!r} stands {text.count(old)} times in the {name}")
+            raise ValueError(f"{old!r} appears {text.count(old)} times in the {name}")
         text = text.replace(old, new)
     return json.dumps(text, ensure_ascii=False)
 
 
 def copies(first, last, step, text):
-    """The text once for each number from the first on, which stands for % in it."""
+    """The text once for each number from the first on, which replaces % in it."""
     for number in range(int(first), int(last) + 1, int(step or 1)):
         yield re.sub(r"%(?:\+(\d+))?", lambda match: str(number + int(match.group(1) or 0)), text)
 

@@ -3,16 +3,16 @@
 #
 #   tests/acceptance/run.sh PROGRAM [CASE..]
 #
-# A case is a folder beside this script:
+# A case is a folder next to this script:
 #   args        the words of the command line, one a line; or args.sh, which prints them
-#   run         in place of args: a shell script that is given the program as its first word
+#   run         in place of args: a shell script that gets the program as its first word
 #   stdin       standard input (none: empty)
 #   stdout      what standard output must be (none: empty)
 #   stderr      what standard error must be (none: empty)
-#   status      the exit status that is wanted (none: 0)
-#   data/       files that lie in the folder where the program runs
-# or a text NAME.dialogue of requests and the replies to them, beside this script or in tests/dialogues, on which `script` runs:
-# dialogue.py says how it is written. The pages of docs/ that show a dialogue are cases too, by the name of their file.
+#   status      the expected exit status (none: 0)
+#   data/       files in the folder where the program runs
+# or a text NAME.dialogue of requests and the replies to them, next to this script or in tests/dialogues, on which `script` runs:
+# dialogue.py describes its form. The pages of docs/ that show a dialogue are cases too, by the name of their file.
 set -eu
 
 here=$(unset CDPATH; cd -- "$(dirname -- "$0")" && pwd)
@@ -42,7 +42,7 @@ run_words() {
     "$program" "$@"
 }
 
-# Says where the file $2 isn't what the file $1 is, if there is such a file, and else empty; $3 names it.
+# Reports if the file $2 differs from the file $1, or isn't empty if there is no file $1; $3 names it.
 compare() {
     expected=$1
     [ -f "$expected" ] || expected=/dev/null
@@ -59,7 +59,7 @@ run_dialogue() {
     compare "$scratch/none" "$scratch/err" 'standard error'
 }
 
-# Runs the case $1 in a folder of its own, and says what is wrong, if anything.
+# Runs the case $1 in its own folder, and says what is wrong, if anything.
 run_folder() {
     folder=$here/$1
     work=$scratch/work

@@ -1,20 +1,20 @@
-"""Compares what a program tells of small trees with what is wanted: python3 trees.py PROGRAM WAY <CASES
+"""Compares what a program reports about small trees with what is expected: python3 trees.py PROGRAM WAY <CASES
 
-Each case that is told in another way is printed, with what is told, and then how many cases there are. In CASES ‹ff› is a byte by its
-hexadecimal digits. For `gather` and `lint` a case is a tree, which lies in a folder of its own:
+Each case with a different answer is printed, with that answer, and then the number of cases. In CASES ‹ff› is a byte by its hexadecimal
+digits. For `gather` and `lint` a case is a tree, which gets its own folder:
 
     = its name
     @PATH       a file, whose lines follow
-    > ANSWER    what is told of the tree
+    > ANSWER    what is reported about the tree
 
-Files before the first case lie in each tree. `gather` tells of each file of the document `PATH: NOTICES / LICENCES`, or the line of the
-fault; `lint` the texts that are missing and unused and the files that are bare, and of another problem its kind and path. For `patterns`
-and `tags` all cases are of one tree, a line each:
+Files before the first case are in each tree. `gather` reports for each file of the document `PATH: NOTICES / LICENCES`, or the line of the
+fault; `lint` reports the texts that are missing and unused and the files that are bare, and for any other problem its kind and path. For
+`patterns` and `tags` all cases are about one tree, one on each line:
 
     PATTERN | PATH => yes       the pattern of a REUSE.toml matches a path of its folder, or doesn't (no)
-    "TEXT" => ANSWER            what a file of this text states, NOTICES / LICENCES; the text is a string of JSON
+    "TEXT" => ANSWER            what a file with this text states, NOTICES / LICENCES; the text is a string of JSON
 
-NOTICES are those of the document, with a semicolon between them, and LICENCES its expression; `-` stands for NOASSERTION.
+NOTICES are those of the document, with a semicolon between them, and LICENCES its expression; `-` means NOASSERTION.
 """
 
 import json
@@ -51,7 +51,7 @@ def value(text):
 
 
 def gathered(program, folder):
-    """What is told of each file by its path, or the line of the fault."""
+    """What is reported about each file by its path, or the line of the fault."""
     text = run(program, "gather", folder, *NAMES)
     if not text.startswith("SPDXVersion: "):
         return text.rstrip("\n")
@@ -101,7 +101,7 @@ def trees(text):
 
 
 def told_of_trees(program, tell, text):
-    """Each case with what is wanted and what is told."""
+    """Each case with what is expected and what is reported."""
     for name, files, wanted in trees(text):
         with tempfile.TemporaryDirectory() as folder:
             make(folder, files)
@@ -109,7 +109,7 @@ def told_of_trees(program, tell, text):
 
 
 def told_of_one_tree(program, way, text):
-    """Each case with what is wanted and what is told, by one tree for all."""
+    """Each case with what is expected and what is reported, from one tree for all."""
     cases, files = text.splitlines(), []
     for number, case in enumerate(cases):
         question = case.rsplit(" => ", 1)[0]
