@@ -1,11 +1,11 @@
 #!/usr/bin/env python3
 """The merge gate: python3 tests/gate.py
 
-Quick checks of texts come first, then every proof, with the tests of single calls beside them, then what is tried on the program that was
-proved and built, as many steps at a time as there are processors. It says which step of how many begins or has passed, and during the
-proofs how many crates are proved and the minutes so far. What a step prints is shown once it has ended. The first step that fails stops
-the others. At the end it prints the seconds of a processor that each step took which is no quick check, and those of all steps, and writes
-build/proved, by which `make dist` knows what was proved and tested (tests/proved.py)."""
+Quick checks of texts come first, then every proof, with the tests of single calls beside them, then the tests of the program that was
+proved and built, as many steps at a time as there are processors. The gate prints which step of how many begins or has passed, and during
+the proofs how many crates are proved and the minutes so far. What a step prints is shown when it has ended. The first step that fails stops
+the others. At the end the gate prints the processor seconds of each step that isn't a quick check, and those of all steps, and writes
+build/proved, from which `make dist` knows what was proved and tested (tests/proved.py)."""
 import contextlib
 import os
 import re
@@ -25,51 +25,53 @@ import proved
 TOP = os.path.dirname(os.path.dirname(os.path.abspath(__file__)))
 MADE = "crates/desk_program/out/desk_program"
 DESK = "build/desk"
-# The seconds of a processor up to which a step is a quick check.
+# The most processor seconds of a quick check.
 QUICK = 10
 
 TEXTS = [
     ("Comparing the tables of the pages with the definitions and the code.", ["python3", "tests/pages.py"]),
     ("Checking the catalogue of the examples, and its texts.", ["python3", "tests/catalogues/check.py"]),
     ("Comparing the picture of the layers with the crates.", ["python3", "docs/layers.py", "--check"]),
-    ("Looking at the layout of the sources.", ["python3", "tests/format.py"]),
-    ("Looking for lemmas that stand twice.", ["python3", "tests/lemmas.py"]),
-    ("Looking for the places of the edits that the prover must refuse.", ["python3", "tests/edits.py", "--texts"]),
+    ("Checking the layout of the sources.", ["python3", "tests/format.py"]),
+    ("Checking the sources against the measures, and looking for missing comments.", ["python3", "tests/measures.py"]),
+    ("Looking for lemmas that are stated twice.", ["python3", "tests/lemmas.py"]),
+    ("Checking that the edits that the prover must refuse still have their places.", ["python3", "tests/edits.py", "--texts"]),
     ("Comparing the crates with what their edits were tried on.", ["python3", "tests/edits.py", "--records"]),
 ]
 
-UNITS = ("Running the tests of single calls, compiled with checks and no proof.", ["sh", "tests/units/run.sh"])
+UNITS = ("Running the tests of single calls, compiled with checks and without proof.", ["sh", "tests/units/run.sh"])
 PROOFS = ("Proving everything from nothing, and trying edits: an hour or two.", ["rt", "ci"])
 
-# Those that take longest begin first.
+# Those that take longest start first.
 PROGRAM = [
     ("Refusing each of its allocations in turn.", ["python3", "tests/allocations/sweep.py", DESK]),
     ("Stopping a desk in a file at each write, and failing each call of its disk.", ["python3", "tests/stops/stops.py", DESK]),
     ("Trying hostile inputs for a minute.", ["python3", "tests/hostile/hostile.py", DESK, "--minutes", "1", "--seed", "1"]),
-    ("Asking it over HTTP.", ["python3", "tests/serving.py", DESK]),
+    ("Sending it requests over HTTP.", ["python3", "tests/serving.py", DESK]),
     ("Auditing files of desks, sound ones and others.", ["python3", "tests/auditing.py", DESK]),
     ("Migrating files of older versions, sound ones and others.", ["python3", "tests/migrating.py", DESK]),
     ("Running the acceptance cases on the program that was proved and built.", ["sh", "tests/acceptance/run.sh", DESK]),
-    ("Feeding it large inputs and each fault of each reader.", ["python3", "tests/ample/ample.py", DESK]),
-    ("Giving its requests in words.", ["python3", "tests/words.py", DESK]),
+    ("Giving it large inputs and each fault of each reader.", ["python3", "tests/ample/ample.py", DESK]),
+    ("Giving it requests in words.", ["python3", "tests/words.py", DESK]),
+    ("Running the licence step of a build.", ["python3", "tests/building.py", DESK]),
     ("Running the scripts among them over files.", ["python3", "tests/database.py", DESK]),
-    ("Asking it as browsers do, for its own pages and for others.", ["python3", "tests/origins.py", DESK]),
-    ("Handing it inputs that take more memory than it may.", ["python3", "tests/hostile/bounded.py", DESK]),
+    ("Sending it requests as browsers do, for its own pages and for others.", ["python3", "tests/origins.py", DESK]),
+    ("Giving it inputs that take more memory than it may use.", ["python3", "tests/hostile/bounded.py", DESK]),
     ("Killing it at random moments while it writes.", ["python3", "tests/hostile/kills.py", DESK, "--times", "20"]),
     ("Changing trees while they are read.", ["python3", "tests/changing.py", DESK]),
-    ("Handing it files that are no desk.", ["python3", "tests/stops/places.py", DESK]),
-    ("Reading the tables of a desk by SQLite.", ["python3", "tests/tables.py", DESK]),
+    ("Giving it files that are no desk.", ["python3", "tests/stops/places.py", DESK]),
+    ("Reading the tables of a desk with SQLite.", ["python3", "tests/tables.py", DESK]),
     ("Comparing the manual page and the completions with its help.", ["python3", "tests/manual.py", DESK]),
     ("Comparing what it explains with the pages.", ["python3", "tests/explain.py", DESK]),
-    ("Packing it as for whoever installs it.", ["python3", "tests/packing.py", DESK]),
-    ("Looking for what this tree lacks to be REUSE-compliant.", ["sh", "tests/lint.sh", DESK]),
+    ("Packing it for installation.", ["python3", "tests/packing.py", DESK]),
+    ("Checking that this tree is REUSE-compliant.", ["sh", "tests/lint.sh", DESK]),
 ]
 
 COUNT = len(TEXTS) + 2 + len(PROGRAM)
 
 
 def below(process):
-    """A process and all that it has started, by their numbers."""
+    """A process and all that it has started, by process id."""
     yield process
     try:
         with open(f"/proc/{process}/task/{process}/children", encoding="ascii") as file:
@@ -95,7 +97,7 @@ class Gate:
     def __init__(self):
         self.start, self.lock = time.time(), threading.Lock()
         self.count, self.seconds, self.running, self.failed = 0, {}, set(), False
-        # what each step said last, and what `rt ci` said of the edits and of what it found proved
+        # the last line of each step, and what `rt ci` reported about the edits and the proofs
         self.said, self.proofs = {}, ""
 
     def minutes(self):
@@ -117,7 +119,7 @@ class Gate:
         return process
 
     def end(self, what, words, process):
-        """Waits for a step, and says whether it passed. Where it didn't, those that still run are stopped."""
+        """Waits for a step, and returns whether it passed. If it didn't, those that still run are stopped."""
         _, status, used = os.wait4(process.pid, 0)
         process.returncode = os.waitstatus_to_exitcode(status)
         with self.lock:
@@ -131,7 +133,7 @@ class Gate:
         return False
 
     def stop(self):
-        """Ends what still runs, and lets nothing begin."""
+        """Ends what still runs, and lets nothing start."""
         with self.lock:
             self.failed = True
             for process in [number for running in self.running for number in below(running)]:
@@ -149,7 +151,7 @@ class Gate:
                 return False
             passed = self.end(what, words, process)
             output.seek(0)
-            # (what was stopped has nothing to say)
+            # (the output of a stopped step says nothing)
             if passed or process.returncode > 0:
                 said = output.read().rstrip()
                 self.said[what] = said.rpartition("\n")[2]
@@ -176,12 +178,12 @@ class Gate:
         if passed:
             os.makedirs("build", exist_ok=True)
             shutil.copy(MADE, DESK)
-            # `make` goes by these times whether the program is older than its sources
+            # `make` decides by these times whether the program is older than its sources
             os.utime(DESK, (began, began))
         return passed
 
     def told(self):
-        print(f"All {COUNT} steps passed, in {self.minutes()}. Seconds of a processor:")
+        print(f"All {COUNT} steps passed, in {self.minutes()}. Processor seconds:")
         for what, took in self.seconds.items():
             if took >= QUICK:
                 print(f"{took:7,.0f}  {what}")
@@ -192,14 +194,14 @@ class Gate:
         fields = {
             "version": printed(DESK, "--version").removeprefix("desk "),
             "kit": printed("rt", "version"),
-            "seconds": f"{self.minutes()}, {sum(self.seconds.values()):,.0f} seconds of a processor",
+            "seconds": f"{self.minutes()}, {sum(self.seconds.values()):,.0f} processor seconds",
             "proofs": self.proofs,
         }
         proved.write(fields, {what: self.said[what] for what, _ in (*TEXTS, UNITS, PROOFS, *PROGRAM)})
 
 
 def carry_out(gate):
-    """Runs all steps, and says whether they passed."""
+    """Runs all steps, and returns whether they passed."""
     with ThreadPoolExecutor(os.cpu_count()) as pool:
         try:
             if not all(gate.run(step) for step in TEXTS):

@@ -15,7 +15,7 @@
 //! | `report` | notices, tables, totals and changes as texts |
 //! | `http` | requests and replies, as lines and over HTTP |
 //!
-//! Nothing here is this crate's own. What a call promises stands where it is declared, and its
+//! Nothing is defined here. What a call promises is written where it is declared, and its
 //! definitions keep the names of their crates.
 #![tactic(auto)]
 

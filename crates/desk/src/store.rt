@@ -1,3 +1,3 @@
-//! A desk in an SQL database: created, audited, adopted, migrated, handed back.
+//! A desk in an SQL database: created, audited, adopted, migrated, returned.
 
 pub use desk_store::{AdoptFault, CreateFault, MigrateFault, SqlDesk, audit_connection};

@@ -90,6 +90,8 @@ module _ {Left : Type 0} where
   -- tables after it.
   module _ (stands : Left → Tables → Type 0) {I : Type 0} (Is : I → Type 0)
       (before after : I → Tables) (answer : I → Answer) where
+    -- an answer is the right one; if the command is recorded, the rows and what a stop leaves are
+    -- those after it
     pub record Answered (old new : Seen Left) (a : Answer) : Type 0 where
       pub right : new.is_honest → (i : I) → Is i → old.holds (before i) → a ≡ answer i
       pub stays : new.is_honest → old.is_open → new.is_open
@@ -105,6 +107,8 @@ module _ {Left : Type 0} where
         → (x : Left) → new.leaves x → old.leaves x
         ⊎ ((is_recorded (answer i) ≡ true) × stands x (after i))
 
+    -- what a command does to the store, by its outcome: with an answer it took effect if it is
+    -- recorded; after a fault only what a stop leaves may be that of the command
     abbrev pub Decides : Seen Left → Seen Left → Result Answer Fault → Type 0
     Decides old new (Ok a) = Answered old new a
     Decides old new (Err fault) = Faulted old new

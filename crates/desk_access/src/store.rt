@@ -22,7 +22,7 @@ use desk_model::{
     ReleaseRow, Rule, Standing, Totals,
 };
 
-/// Tables of rows, in memory or in a database. Look-ups leave the rows as they are; only `commit`
+/// Tables of rows, in memory or in a database. Look-ups don't change the rows; only `commit`
 /// writes, all of a change or nothing.
 ///
 /// What contracts see of a store is whether tables are its rows, whether its disk has been honest,
@@ -38,12 +38,13 @@ pub trait Store {
     /// What contracts see of the store.
     ghost seen: { Self → Seen Left };
 
-    /// The faults of its own that the store may return.
+    /// The faults that are the store's own and that it may return.
     ghost tells: { StoreFault → Type 0 };
 
     /// Whether a look-up that needs no memory may fail.
     ghost may_miss: { Type 0 };
 
+    /// How many revisions of the catalogue there are; the last one is in force.
     fn revision_count(&mut self) -> Result<u64, Fault>
         ensures found { IfOk result (λ n. OfRows (λ t.
             n ≡ length t.catalogue) (seen self.old) (seen self.new)) }
@@ -73,6 +74,7 @@ pub trait Store {
         ensures kept { Looked (seen self.old) (seen self.new) result }
         ensures fault { IfErr result (MayFail tells) };
 
+    /// How many documents were imported.
     fn document_count(&mut self) -> Result<u64, Fault>
         ensures found { IfOk result
             (λ n. OfRows (λ t. n ≡ length t.document) (seen self.old) (seen self.new)) }
@@ -138,6 +140,7 @@ pub trait Store {
         ensures kept { Looked (seen self.old) (seen self.new) result }
         ensures fault { IfErr result (MayFail tells) };
 
+    /// A release by its name.
     fn release(&mut self, name: &str) -> Result<Option<ReleaseRow>, Fault>
         ensures found { IfOk result (λ found. OfRows (λ t.
             found ≡ release_found t name.now) (seen self.old) (seen self.new)) }
@@ -151,6 +154,7 @@ pub trait Store {
         ensures kept { Looked (seen self.old) (seen self.new) result }
         ensures fault { IfErr result (MayFail tells) };
 
+    /// How many releases were opened, withdrawn ones included.
     fn release_count(&mut self) -> Result<u64, Fault>
         ensures found { IfOk result
             (λ n. OfRows (λ t. n ≡ length t.releases) (seen self.old) (seen self.new)) }
@@ -165,6 +169,7 @@ pub trait Store {
         ensures kept { Looked (seen self.old) (seen self.new) result }
         ensures fault { IfErr result (MayFail tells) };
 
+    /// Whether a document is attached to a release.
     fn is_attached(&mut self, release: &str, document: u64) -> Result<bool, Fault>
         ensures found { IfOk result (λ is. OfRows (λ t.
             is ≡ list_any (is_attachment release.now document) t.attached) (seen self.old)
@@ -173,6 +178,7 @@ pub trait Store {
         ensures misses { OnErr result may_miss }
         ensures fault { IfErr result (MayFail tells) };
 
+    /// How many documents are attached to a release.
     fn attached_count(&mut self, release: &str) -> Result<u64, Fault>
         ensures found { IfOk result (λ n. OfRows (λ t.
             n ≡ length (attached_to t.attached release.now)) (seen self.old) (seen self.new)) }
@@ -227,6 +233,7 @@ pub trait Store {
         ensures misses { OnErr result may_miss }
         ensures fault { IfErr result (MayFail tells) };
 
+    /// A duty by its number.
     fn duty(&mut self, number: u64) -> Result<Option<DutyRow>, Fault>
         ensures found { IfOk result (λ found. OfRows (λ t.
             found ≡ duty_found t number) (seen self.old) (seen self.new)) }
@@ -234,6 +241,7 @@ pub trait Store {
         ensures kept { Looked (seen self.old) (seen self.new) result }
         ensures fault { IfErr result (MayFail tells) };
 
+    /// How many duties were raised, whatever their states.
     fn duty_count(&mut self) -> Result<u64, Fault>
         ensures found { IfOk result
             (λ n. OfRows (λ t. n ≡ length t.duty) (seen self.old) (seen self.new)) }

@@ -13,8 +13,8 @@ use desk_model::{
 };
 use std::alloc::{AllocError, Global};
 
-/// A reader of texts. It says by its own definitions which readings are right, and returns what
-/// each of these gives. A licence expression is read once and then asked about.
+/// A reader of texts. Its own definitions say which readings are right, and it returns what each of
+/// these gives. A licence expression is read once and then asked about.
 pub trait Texts {
     /// A licence expression that was read.
     type Expression: Drop;
@@ -52,7 +52,7 @@ pub trait Texts {
         ensures { (w : Readings) → are_right w
             → IfOk result (λ reference. reference ≡ w.reference term.now) };
 
-    /// Whether a printed term is a licence alone: no reference, no plus, no exception.
+    /// Whether a printed term is only a licence: no reference, no plus, no exception.
     fn is_licence(&self, term: &str) -> bool
         ensures { (w : Readings) → are_right w → result ≡ w.is_licence term.now };
 
@@ -72,7 +72,7 @@ pub trait Texts {
             → IfOk result (λ exception. exception ≡ w.exception term.now) };
 
     /// The texts of licences and exceptions in the catalogue that a text is: an entry for each id,
-    /// `None` if the catalogue has no text for it or the text is no catalogue.
+    /// `None` if the catalogue has no text for it or the text isn't a catalogue.
     fn licence_texts(
         &self,
         alloc: Global,
@@ -92,7 +92,7 @@ pub trait Texts {
         ensures { (w : Readings) → are_right w
             → IfOk result (TellsExpression is_of w profile text.now) };
 
-    /// Why a text is no licence expression, if it is none.
+    /// Why a text isn't a licence expression, if it isn't one.
     fn expression_fault(
         &self,
         alloc: Global,

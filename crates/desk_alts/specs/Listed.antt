@@ -7,10 +7,12 @@ use Rattle.std.proofs.Common.{Bor, get_or}
 use Rattle.desk_expr.specs.declared.term.Term.{Term}
 use Rattle.desk_expr.specs.Occurring.{term_order}
 
+-- an entry of the table is there and comes before the term in the order of terms
 abbrev pub is_below : Option (Bor Term) → Term → Bool
 is_below None t = false
 is_below (Some known) t = is_lt (term_order known.now t)
 
+-- the entry of the table at a place; past its end there is none
 abbrev pub own_at : List (Option (Bor Term)) → ℕ → Option (Bor Term)
 own_at own slot = get_or own slot None
 
@@ -22,6 +24,7 @@ lower_by (suc n) own t low high =
     if nat_lt low high then (if is_below (own_at own middle) t
     then lower_by n own t (middle + 1) high else lower_by n own t low middle) else low
 
+-- how many of the whole table are below a term, if the table is sorted
 abbrev pub lower_in : List (Option (Bor Term)) → Term → ℕ
 lower_in own t = lower_by (length own) own t 0 (length own)
 

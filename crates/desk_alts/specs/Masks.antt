@@ -14,6 +14,7 @@ abbrev pub IsCovered : ℕ → ℕ → List ℕ → List ℕ → Type 0
 IsCovered low high lows highs = (i : ℕ) × (i < length lows) × IsWithin (slice_index lows i) low
     × IsWithin (slice_index highs i) high
 
+-- each place of the first set is in the second; the two halves of 64 places are compared apart
 abbrev pub IsSubset : Mask → Mask → Type 0
 IsSubset x y = IsWithin x.low y.low × IsWithin x.high y.high
 

@@ -35,10 +35,12 @@ HasMoreSets n e =
 abbrev pub HasMoreTerms : ℕ → Tree → Type 0
 HasMoreTerms n e = (ts : List Term) × AreTermsOf e ts × (n < length ts)
 
+-- how many parts a node has
 abbrev pub parts_count : Trees → ℕ
 parts_count no_more = 0
 parts_count (more t ts) = 1 + parts_count ts
 
+-- the first k parts of a node, or all if there are fewer
 abbrev pub first_parts : ℕ → Trees → Trees
 first_parts zero ts = no_more
 first_parts (suc k) no_more = no_more
@@ -57,11 +59,13 @@ HasWideFrontOf node ts = (k : ℕ) × (1 ≤ k) × (k ≤ parts_count ts)
 
 -- some front of some node has more than 64 minimal sets
 abbrev mutual
+  -- of the tree itself, or of a node below it
   pub HasWideFront : Tree → Type 0
   HasWideFront (one t) = ⊥
   HasWideFront (all ts) = HasWidePart ts ⊎ HasWideFrontOf all ts
   HasWideFront (any ts) = HasWidePart ts ⊎ HasWideFrontOf any ts
 
+  -- of one of the parts, or of a node below them
   pub HasWidePart : Trees → Type 0
   HasWidePart no_more = ⊥
   HasWidePart (more t ts) = HasWideFront t ⊎ HasWidePart ts

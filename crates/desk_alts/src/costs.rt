@@ -60,9 +60,9 @@ fn least<C: Cost>(sets: &[TermSet], cost: &C) -> Option<(usize, u64)>
     best
 }
 
-/// The cheapest set of terms that satisfies an expression, of those whose terms all have a cost: no
-/// other, minimal or not, costs less, and of those with the same cost it is the first in the order
-/// of sets. `None` means that there is no such set.
+/// The cheapest set of terms that satisfies an expression, among the sets whose terms all have a
+/// cost: no other, minimal or not, costs less, and of sets with the same cost it is the first in
+/// the order of sets. `None` means that there is no such set.
 ///
 /// An expression is refused as `alternatives` refuses it.
 pub fn cheapest<C: Cost>(alloc: Global, expr: &Expr, cost: &C) -> Result<Option<Choice>, AltFault>

@@ -1,12 +1,12 @@
-//! Laws of licence expressions that hold by the definitions alone, each the contract of a function
-//! with an empty body.
+//! Laws of licence expressions that follow from the definitions only, each the contract of a
+//! function with an empty body.
 //!
 //! What a text spells (`SpellsWithinBy`) and how well a choice of terms does (`Holds`, `CanGo`,
 //! `IsMinimal`) are relations of `desk_expr`, and a relation may hold for nothing. A contract about
-//! whatever tree a text spells says something only if each text is known to spell a tree or to
+//! any tree that a text spells means something only if each text is known to spell a tree or to
 //! spell none. `tree_or_none` says that, and `verdict_exists` says that each choice has a verdict.
-//! Both are constructive: each is a function that decides, so there is a reader of texts and a
-//! judge of choices that fit the definitions, however much memory is left.
+//! Both are constructive: each is a function that decides, so a reader of texts and a judge of
+//! choices that meet the definitions exist, however much memory is left.
 //!
 //! If a text spells nothing, `some_stop` and `some_term_stop` say that it stops at some place for
 //! some reason, and `one_stop` and `one_term_stop` that it has only one such stop.
@@ -36,22 +36,22 @@ ghost use Rattle.desk_expr.specs.Tree.{Tree};
 ghost use Rattle.desk_expr.specs.Spelling.{SpellsWithinBy, SpellsTermWithinBy, IsStopBy};
 ghost use Rattle.desk_base.specs.declared.profile.Profile.{Profile};
 
-/// Each text either spells a tree within the limits or spells none, by each profile of operators.
+/// Under each profile of operators, a text either spells a tree within the limits or spells none.
 pub fn tree_or_none()
     ensures { (profile : Profile) (text : List ℕ) → ((e : Tree) × SpellsWithinBy profile text e)
         ⊎ ((e : Tree) → SpellsWithinBy profile text e → ⊥) }
 {}
 
-/// A list of terms doesn't satisfy a tree; or it does, and there is a first place whose term can
-/// go; or it is minimal.
+/// A list of terms doesn't satisfy a tree; or it does, and there is a first place whose term can be
+/// left out; or it is minimal.
 pub fn verdict_exists()
     ensures { (e : Tree) (chosen : List Term) → (¬ Holds (Contains chosen) e)
         ⊎ ((Holds (Contains chosen) e × (i : ℕ) × IsFirst (CanGo chosen e) i)
         ⊎ IsMinimal chosen e) }
 {}
 
-/// It has only one such verdict: if a term can go, the list satisfies the tree and isn't minimal,
-/// and there is only one first place.
+/// It has only one such verdict: if a term can be left out, the list satisfies the tree and isn't
+/// minimal, and there is only one first place.
 pub fn one_verdict()
     ensures enough { (e : Tree) (chosen : List Term) (i : ℕ) → CanGo chosen e i
         → Holds (Contains chosen) e }

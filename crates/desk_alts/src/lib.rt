@@ -1,11 +1,11 @@
 //! Which sets of terms satisfy a licence expression (SPDX 2.3, Annex D.4): whether a choice of
-//! terms does, the minimal sets, and the cheapest of all.
+//! terms does, which sets are minimal, and which is the cheapest.
 //!
 //! `check_choice` says whether a set of terms satisfies the expression and each of them is needed.
 //!
 //! A contract sees a `TermSet` as the list of its terms in the order of terms, each once.
 //! `alternatives` lists each set that is minimal by `IsMinimal` of `desk_expr`, the definition that
-//! `check_choice` has, and no other (`AreAlternatives`, specs/Sets.antt); it refuses an expression
+//! `check_choice` uses, and no other (`AreAlternatives`, specs/Sets.antt); it refuses an expression
 //! that has more than 128 distinct terms, or more than 64 minimal sets at some front of some node
 //! (`IsListable`, specs/Faults.antt). `cheapest` finds the least of all sets that satisfy the
 //! expression, minimal or not, by costs that a caller gives for terms (`IsCheapest`,
@@ -16,7 +16,7 @@
 //! (`kept.rt`), and `covers` looks for a subset of a mask among eight of them at once. A list of
 //! masks stands for all sets that contain one of them (`AreMinimal`, specs/Choices.antt).
 //!
-//! `laws` has what holds for expressions and their minimal sets by the definitions alone.
+//! `laws` has what follows for expressions and their minimal sets from the definitions only.
 #![tactic(auto)]
 
 mod costs;

@@ -15,7 +15,7 @@ const OWN: usize = 1024;
 #[derive(Clone, Copy)]
 pub(crate) struct Listed<'a> {
     pub(crate) chosen: &'a [Term],
-    /// The terms of the expression, sorted. What they are affects only the speed.
+    /// The terms of the expression, sorted. Which terms these are affects only the speed.
     pub(crate) own: &'a [Option<&'a Term>],
     /// The first place of each of them, or the length of the list if it isn't there.
     pub(crate) places: &'a [usize],

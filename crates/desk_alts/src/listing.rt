@@ -33,7 +33,7 @@ fn sets_of(alloc: Global, table: &TermTable, kept: &Kept) -> Result<Vec<TermSet>
 ///
 /// An expression with more than 128 distinct terms is refused as `TooManyTerms`. Otherwise it is
 /// refused as `TooMany` if some front of some node has more than 64 minimal sets: a front of an All
-/// or Any is its first parts under the same operator, at least one.
+/// or Any is one or more of its first parts under the same operator.
 pub fn alternatives(alloc: Global, expr: &Expr) -> Result<Vec<TermSet>, AltFault>
     ensures sets { IfOk result (λ v. AreAlternatives expr.now v.items) }
     ensures contained { IfOk result (λ v. (s : List Term) → Holds (Contains s) expr.now

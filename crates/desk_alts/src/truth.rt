@@ -123,7 +123,7 @@ fn first_mark(marks: u64, size: usize) -> Option<usize>
     None
 }
 
-// The first candidate whose term can go.
+// The first candidate whose term can be left out.
 fn first_to_go(expr: &Expr, listed: Listed<'_>, candidates: &[usize]) -> Option<usize>
     requires noted { IsNoted listed.chosen.now listed.own.now listed.places.now }
     requires few { length candidates.now ≤ 64 }
@@ -137,7 +137,7 @@ fn first_to_go(expr: &Expr, listed: Listed<'_>, candidates: &[usize]) -> Option<
     Some(candidates[first])
 }
 
-/// Whether the chosen terms satisfy the expression. The list stands for the set of its terms.
+/// Whether the chosen terms satisfy the expression. The list is taken as the set of its terms.
 pub fn holds(expr: &Expr, chosen: &[Term]) -> bool
     ensures { IsTrue result ↔ Holds (Contains chosen.now) expr.now }
 {
@@ -151,8 +151,8 @@ pub fn holds(expr: &Expr, chosen: &[Term]) -> bool
     holds_in(expr, listed)
 }
 
-/// Whether the chosen terms satisfy the expression and each of them is needed. The list stands for
-/// the set of its terms, so a term that can go goes with all its copies.
+/// Whether the chosen terms satisfy the expression and each of them is needed. The list is taken as
+/// the set of its terms, so leaving out a term leaves out all its copies.
 pub fn check_choice(expr: &Expr, chosen: &[Term]) -> Verdict
     ensures not_enough { (result ≡ Verdict.NotEnough) ↔ ¬ Holds (Contains chosen.now) expr.now }
     ensures superfluous { (i : ℕ) → result ≡ Verdict.Superfluous i

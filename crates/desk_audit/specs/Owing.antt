@@ -26,9 +26,11 @@ reason_in x = record {
   rule = x.rule.now;
 }
 
+-- by one of the texts
 abbrev by_text : (Owed → List ℕ) → Owed → Owed → Ordering
 by_text f = on f (slice_cmp nat_cmp)
 
+-- by release, document, package, term, code and rule
 abbrev pub owed_order : Owed → Owed → Ordering
 owed_order =
     then_cmp (by_text (λ x. x.release))
@@ -41,9 +43,11 @@ are_alike [] [] = true
 are_alike (x ∷ xs) (y ∷ ys) = is_eq (owed_order (owed_in x) (owed_in y)) && are_alike xs ys
 are_alike _ _ = false
 
+-- any two can be compared by one of the texts
 by_text_total : (f : Owed → List ℕ) → IsTotalOrder (by_text f)
 by_text_total f = on_total f nat_list_cmp_total
 
+-- any two can be compared
 pub owed_total : IsTotalOrder owed_order
 owed_total =
     then_total (by_text_total (λ x. x.release))

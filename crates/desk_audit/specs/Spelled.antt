@@ -14,22 +14,27 @@ use Rattle.desk_snapshot.specs.Rows.{is_rule_spelled}
 use Rattle.desk_snapshot.specs.declared.rows.StoredRule.{StoredRule}
 use Rattle.desk_audit.specs.declared.rules.RuleAt.{RuleAt}
 
+-- what a rule is looked up by
 abbrev pub spelling : RuleAt → ℤ × List ℕ × List ℕ
 spelling at = (at.rule.now.revision, at.rule.now.form, at.rule.now.spelled)
 
+-- by revision, then by form, then by spelling
 abbrev pub spelling_cmp : ℤ × List ℕ × List ℕ → ℤ × List ℕ × List ℕ → Ordering
 spelling_cmp =
     then_cmp (on (λ p. p.0) int_cmp)
     (then_cmp (on (λ p. p.1) (slice_cmp nat_cmp)) (on (λ p. p.2) (slice_cmp nat_cmp)))
 
+-- any two of them can be compared
 pub spelling_total : IsTotalOrder spelling_cmp
 spelling_total =
     then_total (on_total (λ p. p.0) int_cmp_total)
     (then_total (on_total (λ p. p.1) nat_list_cmp_total) (on_total (λ p. p.2) nat_list_cmp_total))
 
+-- rules by what they are looked up by
 abbrev pub spelled_order : RuleAt → RuleAt → Ordering
 spelled_order = on spelling spelling_cmp
 
+-- any two rules can be compared
 pub spelled_total : IsTotalOrder spelled_order
 spelled_total = on_total spelling spelling_total
 
@@ -40,6 +45,7 @@ spelled_side revision form spelled at =
     (ordering_then (slice_cmp nat_cmp at.rule.now.form form)
     (slice_cmp nat_cmp at.rule.now.spelled spelled))
 
+-- the rule of this revision and form with this spelling
 abbrev pub is_spelled : ℤ → List ℕ → List ℕ → RuleAt → Bool
 is_spelled revision form spelled at = is_rule_spelled revision form spelled at.rule.now
 
@@ -50,12 +56,15 @@ FindsAs sorted rules =
     → option_map (λ at. at.rule.now) (find (is_spelled revision form spelled) sorted)
     ≡ find (is_rule_spelled revision form spelled) rules
 
+-- in the order of spellings the rules before this one come first, then those that have it, then the
+-- others
 pub spelled_splits : (revision : ℤ) (form spelled : List ℕ)
     → IsSideOf spelled_order (spelled_side revision form spelled)
 spelled_splits revision form spelled =
     side_by spelled_order spelling spelling_cmp spelling_total (λ x y e. e)
     (revision, form, spelled)
 
+-- a rule has this spelling if and only if its side is Equal
 pub spelled_meets : (revision : ℤ) (form spelled : List ℕ) (at : RuleAt)
     → is_spelled revision form spelled at ≡ is_eq (spelled_side revision form spelled at)
 spelled_meets revision form spelled at =

@@ -19,7 +19,7 @@ use desk_snapshot::{
     AuditFault, ByDuty, ByStep, Snapshot, StoredChange, StoredDuty, StoredWaiver, last_day_at,
 };
 
-/// Whether a change goes on from where the one before it left the duty.
+/// Whether a change continues from where the one before it left the duty.
 fn goes_on(snapshot: &Snapshot, before: &StoredChange, row: &StoredChange) -> bool
     ensures { result ≡ goes_on snapshot.now before.now row.now }
 {
@@ -33,7 +33,7 @@ fn goes_on(snapshot: &Snapshot, before: &StoredChange, row: &StoredChange) -> bo
     may_move(left.state_after(), end, row.day.as_str(), word)
 }
 
-/// Whether a change raises its duty, or goes on from the one before it.
+/// Whether a change raises its duty, or continues from the one before it.
 fn follows(snapshot: &Snapshot, before: Option<&StoredChange>, row: &StoredChange) -> bool
     ensures { result ≡ follows snapshot.now (option_copied before.entry) row.now }
 {
@@ -67,7 +67,7 @@ fn is_change_of(duty: &StoredDuty, row: &StoredChange) -> bool
     row.duty == duty.number
 }
 
-/// Whether the changes of a duty among some rows begin with its raising, go on from each other, and
+/// Whether the changes of a duty among some rows begin with its raising, continue each other, and
 /// lead to its state.
 fn lead(snapshot: &Snapshot, duty: &StoredDuty, rows: &[StoredChange]) -> bool
     ensures { result ≡ lead snapshot.now duty.now.state None 1
@@ -157,7 +157,7 @@ fn are_changes(snapshot: &Snapshot) -> bool
     are_waived(snapshot)
 }
 
-/// Returns `BadChange`, unless each duty's changes are moves that go on from each other and lead to
+/// Returns `BadChange`, unless each duty's changes are moves that continue each other and lead to
 /// its state, there are no others, and waivers that end are only at waived steps.
 pub fn change_fault(snapshot: &Snapshot) -> Option<AuditFault>
     ensures { (w : Readings) → IsFirst w snapshot.now (BadChange ∷ []) result }

@@ -1,9 +1,9 @@
 //! The audit of a desk's tables: the first of ten conditions (`desk_snapshot`) that their rows
 //! don't meet.
 //!
-//! `desk_audit_texts` judges the conditions for which texts are read. Those of duties are judged
-//! here: their numbers, what they are owed for, their changes and their states. All ten are put in
-//! order here.
+//! `desk_audit_texts` judges the conditions for which texts are read. This crate judges those of
+//! duties: their numbers, what they are owed for, their changes and their states. It also puts all
+//! ten in order.
 #![tactic(auto)]
 
 mod changes;

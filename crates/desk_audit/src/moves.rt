@@ -16,6 +16,7 @@ fn is_day(text: &str) -> bool
     Day::parse(text).is_some()
 }
 
+/// Whether a day is before another; written days compare by their bytes.
 pub(crate) fn is_before(day: &str, other: &str) -> bool
     ensures { result ≡ is_before day.now other.now }
 {
@@ -75,6 +76,7 @@ pub(crate) fn is_formed(row: &StoredChange) -> bool
     has_room(word, row)
 }
 
+/// Whether a change is the one by which a freeze raised its duty.
 pub(crate) fn is_raising(row: &StoredChange) -> bool
     ensures { result ≡ is_raising row.now }
 {

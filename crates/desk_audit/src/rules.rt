@@ -88,6 +88,7 @@ pub(crate) struct Ruling<'a> {
 }
 
 impl<'a> Ruling<'a> {
+    /// The rules of a snapshot, sorted to be looked up.
     pub(crate) fn of(alloc: Global, snapshot: &'a Snapshot) -> Result<Ruling<'a>, AllocError>
         ensures { IfOk result (λ ruling. ruling.snapshot.now ≡ snapshot.now) }
     {

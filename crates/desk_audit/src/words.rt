@@ -14,12 +14,14 @@ pub(crate) fn is_stated(release: &StoredRelease) -> bool
     ReleaseState::named(release.state.as_str()).is_some()
 }
 
+/// Whether a release is withdrawn.
 pub(crate) fn is_withdrawn(release: &StoredRelease) -> bool
     ensures { result ≡ is_withdrawn release.now }
 {
     release.state.as_str() == ReleaseState::Withdrawn.name()
 }
 
+/// Whether a duty is in a state.
 pub(crate) fn is_in_state(state: DutyState, duty: &StoredDuty) -> bool
     ensures { result ≡ is_in_state state duty.now }
 {

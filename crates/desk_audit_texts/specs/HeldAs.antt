@@ -5,9 +5,11 @@ use Rattle.desk_snapshot.specs.Rows.{is_frozen_in}
 use Rattle.desk_snapshot.specs.declared.rows.StoredChoice.{StoredChoice}
 use Rattle.desk_snapshot.specs.declared.rows.StoredFrozen.{StoredFrozen}
 
+-- a choice, apart from its release
 abbrev pub chosen_as : StoredChoice → Held
 chosen_as row = record { document = row.document; package_id = row.package_id; term = row.term }
 
+-- a frozen term, apart from its release and its rule
 abbrev pub frozen_as : StoredFrozen → Held
 frozen_as row = record { document = row.document; package_id = row.package_id; term = row.term }
 

@@ -1,4 +1,5 @@
-//! Checks that adoptions go from references alone to licences alone.
+//! Checks that each adoption maps a plain reference to a plain licence, neither with anything
+//! added.
 
 ghost use Rattle.std.specs.Prelude.{◌≡◌, ◌&&◌, IfOk};
 ghost use Rattle.std.specs.List.{list_all};
@@ -10,7 +11,7 @@ use desk_access::texts::Texts;
 use desk_snapshot::StoredAdoption;
 use std::alloc::{AllocError, Global};
 
-/// Whether a text is a reference alone, as it is printed.
+/// Whether a text is only a reference, as it is printed.
 fn is_reference<T: Texts>(alloc: Global, texts: &T, text: &str) -> Result<bool, AllocError>
     ensures { (w : Readings) → T.are_right w → IfOk result (λ is.
         is ≡ is_printed w text.now && is_that text.now (w.reference text.now)) }
@@ -21,7 +22,7 @@ fn is_reference<T: Texts>(alloc: Global, texts: &T, text: &str) -> Result<bool, 
     Ok(is_that(text, texts.reference(alloc, text)?))
 }
 
-/// Whether a text is a licence alone, as it is printed.
+/// Whether a text is only a licence, as it is printed.
 fn is_licence<T: Texts>(alloc: Global, texts: &T, text: &str) -> Result<bool, AllocError>
     ensures { (w : Readings) → T.are_right w → IfOk result (λ is.
         is ≡ is_printed w text.now && w.is_licence text.now) }
@@ -29,7 +30,7 @@ fn is_licence<T: Texts>(alloc: Global, texts: &T, text: &str) -> Result<bool, Al
     Ok(is_printed(alloc, texts, text)? && texts.is_licence(text))
 }
 
-/// Whether an adoption goes from a reference alone to a licence alone.
+/// Whether an adoption maps a plain reference to a plain licence.
 fn is_adoption<T: Texts>(alloc: Global, texts: &T, row: &StoredAdoption) -> Result<bool, AllocError>
     ensures { (w : Readings) → T.are_right w → IfOk result (λ is. is ≡ is_adoption w row.now) }
 {
@@ -39,7 +40,7 @@ fn is_adoption<T: Texts>(alloc: Global, texts: &T, row: &StoredAdoption) -> Resu
     )
 }
 
-/// Whether each adoption goes from a reference alone to a licence alone.
+/// Whether each adoption maps a plain reference to a plain licence.
 pub(crate) fn are_adoptions<T: Texts>(
     alloc: Global,
     texts: &T,

@@ -15,7 +15,7 @@ use desk_access::texts::Texts;
 use desk_snapshot::{AuditFault, Snapshot};
 use std::alloc::{AllocError, Global};
 
-/// Whether conclusions, adoptions, places and choices are ones that the office can have made.
+/// Whether the office can have made the conclusions, adoptions, places and choices.
 fn is_met<T: Texts>(alloc: Global, texts: &T, snapshot: &Snapshot) -> Result<bool, AllocError>
     ensures { (w : Readings) → T.are_right w
         → IfOk result (λ is. Decides is (AreChoices w snapshot.now)) }
@@ -29,8 +29,8 @@ fn is_met<T: Texts>(alloc: Global, texts: &T, snapshot: &Snapshot) -> Result<boo
     )
 }
 
-/// The fault `BadChoice` if conclusions, adoptions, places and choices aren't ones that the office
-/// can have made, or none if they are. The only error is lack of memory.
+/// The fault `BadChoice` if the office can't have made the conclusions, adoptions, places and
+/// choices, or none if it can. The only error is lack of memory.
 pub fn choice_fault<T: Texts>(
     alloc: Global,
     texts: &T,

@@ -1,4 +1,4 @@
-//! The rows of a table that are left after those that texts give.
+//! The rows of a table that remain after those that texts give.
 
 ghost use Rattle.std.specs.Prelude.{◌≡◌, ◌++◌, ℤ, List, [], Some, map};
 ghost use Rattle.std.specs.Bool.{Decides};

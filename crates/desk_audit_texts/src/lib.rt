@@ -7,8 +7,8 @@
 //! - `catalogue_fault` judges the revisions and their rules; `document_fault` judges the documents,
 //!   their packages and their extracted licences.
 //! - `choice_fault` judges the office's conclusions, adoptions, places and choices (`AreChoices` of
-//!   `desk_snapshot`): whether they are ones that it can have made. Choices are judged once for
-//!   each package, whose terms are side by side.
+//!   `desk_snapshot`): whether the office can have made them. Choices are judged once for each
+//!   package, whose terms are side by side.
 //! - `left` says which rows of a table are left after those that a text gives; `equal` compares a
 //!   row with what was read.
 #![tactic(auto)]

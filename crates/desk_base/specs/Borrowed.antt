@@ -11,8 +11,10 @@ use denote.Ref.{Bor}
 abbrev pub texts : List (Bor (List ℕ)) → List (List ℕ)
 texts borrowed = map (λ (text : Bor (List ℕ)). text.now) borrowed
 
+-- the bytes of the borrowed texts that a vector keeps, in its order
 abbrev pub texts_in : Vec (Bor (List ℕ)) Global → List (List ℕ)
 texts_in v = texts v.items
 
+-- the order of borrowed texts is that of their bytes, wherever they are in memory
 abbrev pub borrowed_cmp : Bor (List ℕ) → Bor (List ℕ) → Ordering
 borrowed_cmp a b = slice_cmp nat_cmp a.now b.now

@@ -4,6 +4,7 @@ use Rattle.desk_base.specs.declared.lines.LineEnd.{LineEnd}
 use Rattle.desk_base.specs.declared.lines.LineEnd.TheVariants.{Lf, CrLf, Nothing}
 use Rattle.desk_base.specs.declared.lines.Line.{Line}
 
+-- the bytes of a line's end: LF, CR LF, or none if the text ends without one
 abbrev pub end_bytes : LineEnd → List ℕ
 end_bytes Lf = 10 ∷ []
 end_bytes CrLf = 13 ∷ 10 ∷ []
@@ -28,6 +29,7 @@ pub record LineText : Type 0 where
   pub text : List ℕ
   pub end : LineEnd
 
+-- the text that a line borrows, with its number and its end
 abbrev pub line_text : Line → LineText
 line_text l = record { number = l.number; text = l.text.now; end = l.end }
 
@@ -39,5 +41,6 @@ CutsInto number bytes (l ∷ ls) =
     (rest : List ℕ) × (l.number ≡ number) × IsLine bytes l.text l.end rest
     × CutsInto (number + 1) rest ls
 
+-- the bytes are these borrowed lines, numbered from this number
 abbrev pub AreLines : ℕ → List ℕ → List Line → Type 0
 AreLines number bytes lines = CutsInto number bytes (map line_text lines)

@@ -9,6 +9,7 @@ use Rattle.std.specs.Int.{is_in_range}
 use Rattle.std.specs.List.{flat_map}
 use Rattle.std.specs.Str.{chars}
 
+-- a character that sets the direction of a text
 abbrev pub is_bidirectional : ℕ → Bool
 is_bidirectional c = c == 0x061C || is_in_range 0x200E 0x200F c || is_in_range 0x202A 0x202E c
     || is_in_range 0x2066 0x2069 c

@@ -4,7 +4,7 @@ ghost use Rattle.std.specs.Prelude.{◌≡◌};
 ghost use Rattle.std.specs.List.{list_all};
 ghost use Rattle.desk_base.specs.Bytes.{is_shown};
 
-/// Whether a byte is no control byte.
+/// Whether a byte isn't a control byte.
 fn is_shown(byte: u8) -> bool
     ensures { result ≡ is_shown byte }
 {

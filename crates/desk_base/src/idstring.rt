@@ -1,5 +1,4 @@
-//! Idstrings, of which the names of licences, exceptions and elements are made (SPDX 2.3, Annex
-//! D.2).
+//! Idstrings, which form the names of licences, exceptions and elements (SPDX 2.3, Annex D.2).
 
 ghost use Rattle.std.specs.Prelude.{◌≡◌, ◌↔◌, IsTrue};
 ghost use Rattle.desk_base.specs.Idstring.{is_idstring_byte, is_idstring, IsIdstring};

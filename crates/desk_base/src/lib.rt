@@ -1,6 +1,6 @@
 //! What all crates of the desk share: the test for idstrings (SPDX 2.3, Annex D.2), names that are
 //! compared by their bytes, owned texts and lists, sets of texts, texts as a terminal shows them,
-//! bytes as lines, days, the profiles of operators, and the desk's limits.
+//! bytes cut into lines, days, the profiles of operators, and the desk's limits.
 //!
 //! A contract sees a `Key` and a `Text` as the list of its bytes, `Items` as the list of its items,
 //! and a `TextList` as the list of its texts' bytes.

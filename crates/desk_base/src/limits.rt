@@ -74,9 +74,9 @@ pub const LINE_BYTES: usize = 8_388_608;
 /// How often a script reads.
 pub const SCRIPT_READS: u32 = 1_048_576;
 
-/// How many bytes of an input file are read. Documents and catalogues have far fewer, so a longer
-/// file is refused for its size by what was read of it.
+/// How many bytes of an input file are read. Documents and catalogues have far fewer, so what was
+/// read of a longer file is enough to refuse it for its size.
 pub const INPUT_BYTES: usize = 67_108_864;
 
-/// How many files a source tree may have from which something is gathered.
+/// How many files a source tree may have if something is to be gathered from it.
 pub const TREE_FILES: usize = 10_000;

@@ -11,7 +11,7 @@ use std::alloc::{AllocError, Global};
 /// How a line ends.
 #[derive(Clone, Copy)]
 pub enum LineEnd {
-    /// With a line feed alone.
+    /// With only a line feed.
     Lf,
     /// With a carriage return and a line feed.
     CrLf,
@@ -49,7 +49,7 @@ pub fn first_line(bytes: &[u8]) -> (&[u8], LineEnd, &[u8])
 /// The lines of some bytes, from the first.
 #[derive(Drop)]
 pub struct Lines<'a> {
-    /// What isn't cut yet.
+    /// What hasn't been cut yet.
     pub rest: &'a [u8],
     /// The number of the next line.
     pub number: u64,
@@ -60,7 +60,7 @@ impl<'a> Lines<'a> {
     ghost use Rattle.desk_base.specs.NextLine.{LineGiven};
 
     /// The lines of some bytes: what `next` returns until it returns none. They end with LF or
-    /// CRLF, the last one also at the end of the bytes; a CR alone is an ordinary byte.
+    /// CRLF, the last one also at the end of the bytes; a CR without LF is an ordinary byte.
     pub fn of(bytes: &'a [u8]) -> Lines<'a>
         ensures rest { result.rest.now ≡ bytes.now }
         ensures number { result.number ≡ 1 }

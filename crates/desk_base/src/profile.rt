@@ -6,7 +6,7 @@ ghost use Rattle.desk_base.specs.Profiles.{profile_number, profile_numbered};
 /// How the operators of a licence expression are written.
 #[derive(Clone, Copy, PartialEq, Eq)]
 pub enum Profile {
-    /// In capitals alone: `AND`, `OR`, `WITH` (SPDX 2.3, Annex D.4).
+    /// Only in capitals: `AND`, `OR`, `WITH` (SPDX 2.3, Annex D.4).
     Capitals,
     /// In capitals or wholly in small letters: also `and`, `or`, `with`, as many documents write
     /// them.

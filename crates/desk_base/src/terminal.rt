@@ -42,9 +42,8 @@ pub fn add_shown(bytes: &mut Vec<u8>, text: &str) -> Result<(), AllocError>
     Ok(())
 }
 
-/// What is shown of a text are its characters, with a question mark for each control character and
-/// each that sets a direction, so that none of these is left. A text that has none is shown as it
-/// is.
+/// A text is shown as its characters, with a question mark for each control character and each that
+/// sets a direction, so that none of these remains. A text without them is shown unchanged.
 pub fn shown_texts_are_inert()
     ensures each { (text : List ℕ) → IsUtf8 text
         → chars (shown text) ≡ map (λ c. if is_hidden c then 63 else c) (chars text) }

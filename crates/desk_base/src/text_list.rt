@@ -71,7 +71,7 @@ impl TextList {
         let Ok(end) = u32::try_from(self.bytes.len() + text.len()) else {
             return Err(AllocError);
         };
-        // Room for the text is reserved first, so that its end is never added alone.
+        // Room for the text is reserved first, so that its end is never added without it.
         self.bytes.reserve(text.len())?;
         self.ends.push(end)?;
         self.bytes.push_str(text)

@@ -34,6 +34,7 @@ pub record IsCode (digests : List (List ℕ)) (code : List ℕ) : Type 0 where
 
 -- ---- the field (clause 7.9)
 
+-- the first 40 bytes, which are the digits of a code
 abbrev pub code_digits : List ℕ → List ℕ
 code_digits value = take 40 value
 
@@ -41,6 +42,7 @@ code_digits value = take 40 value
 abbrev pub code_list : List ℕ → List ℕ
 code_list value = skip_blanks (drop 40 value)
 
+-- a text between ( and )
 abbrev pub is_list : List ℕ → Bool
 is_list text = starts_with nat_eq text (codes "(") && ends_with nat_eq (drop 1 text) (codes ")")
 
@@ -77,6 +79,7 @@ excluded_names (Some text) = names_of text
 
 -- ---- what a code says about a package's files
 
+-- the code excludes a file of this name; a leading `./` doesn't matter on either side
 abbrev pub is_excluded : List (List ℕ) → FileText → Bool
 is_excluded names f = list_any (λ name. bytes_eq name (plain f.name)) names
 
@@ -85,6 +88,7 @@ abbrev pub digest_spelled : Option (List ℕ) → Option (List ℕ)
 digest_spelled None = None
 digest_spelled (Some digits) = result_ok (decode_sized digits 20)
 
+-- one digest before others, if all of them are there
 abbrev pub both : Option (List ℕ) → Option (List (List ℕ)) → Option (List (List ℕ))
 both (Some x) (Some xs) = Some (x ∷ xs)
 both _ _ = None
@@ -147,5 +151,6 @@ abbrev pub is_noted : Option Places → List ℕ → Bool
 is_noted None q = false
 is_noted (Some places) q = is_some (place_of q (texts places.ids.items))
 
+-- the names that a code excludes have this one
 abbrev pub has_name : Excluded → List ℕ → Bool
 has_name excluded q = is_noted excluded.places q

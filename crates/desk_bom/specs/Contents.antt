@@ -33,14 +33,17 @@ abbrev pub package_at : DocumentText → ℕ → Option ℕ
 package_at d place = if nat_lt 0 place && nat_le place (length d.packages) then Some (place - 1)
     else None
 
+-- files come after the packages, so the first of them is at the place behind the last package
 abbrev pub file_at : DocumentText → ℕ → Option ℕ
 file_at d place =
     if nat_lt (length d.packages) place && nat_le (place - length d.packages) (length d.files)
     then Some (place - length d.packages - 1) else None
 
+-- the package with an identifier, by its place among the packages
 abbrev pub package_named : DocumentText → List ℕ → Option ℕ
 package_named d id = option_and_then (package_at d) (element_named d id)
 
+-- the file with an identifier, by its place among the files
 abbrev pub file_named : DocumentText → List ℕ → Option ℕ
 file_named d id = option_and_then (file_at d) (element_named d id)
 

@@ -22,6 +22,7 @@ among places a = list_any (λ b. b == a) places
 abbrev pub added : ℕ → List ℕ → List ℕ
 added a places = if among places a then places else places ++ a ∷ []
 
+-- these places were added, one after another
 abbrev pub added_all : List ℕ → List ℕ → List ℕ
 added_all [] places = places
 added_all (a ∷ more) places = added_all more (added a places)

@@ -8,6 +8,7 @@ use Rattle.std.specs.BTreeMap.{BTreeMap, get_by}
 use Rattle.std.specs.Str.{bytes_eq}
 use denote.Ref.{Bor}
 
+-- a place behind one more identifier
 abbrev pub later : Option ℕ → Option ℕ
 later None = None
 later (Some n) = Some (n + 1)

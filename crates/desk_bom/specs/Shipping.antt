@@ -27,6 +27,7 @@ ships_left kind =
     bytes_eq kind (codes "DESCRIBED_BY") || bytes_eq kind (codes "CONTAINED_BY")
     || bytes_eq kind (codes "DEPENDENCY_OF") || bytes_eq kind (codes "RUNTIME_DEPENDENCY_OF")
 
+-- from one element to another, if both are there
 abbrev pub arrow_between : Option ℕ → Option ℕ → Option Arrow
 arrow_between (Some a) (Some b) = Some (record { from = a; to = b })
 arrow_between _ _ = None
@@ -38,9 +39,11 @@ shipping_arrow d e =
     else (if ships_left e.kind then arrow_between (element_named d e.right) (element_named d e.left)
     else None)
 
+-- those of all relationships, in the order of the text
 abbrev pub shipping_arrows : DocumentText → List Arrow
 shipping_arrows d = filter_map (shipping_arrow d) d.edges
 
+-- a relationship in which the document itself, at place 0, is on either side
 abbrev pub touches_document : Option Arrow → Bool
 touches_document None = false
 touches_document (Some x) = x.from == 0 || x.to == 0
@@ -51,6 +54,7 @@ describes d e =
     (bytes_eq e.kind (codes "DESCRIBES") || bytes_eq e.kind (codes "DESCRIBED_BY"))
     && touches_document (arrow_between (element_named d e.left) (element_named d e.right))
 
+-- some relationship says what the document describes
 abbrev pub is_described : DocumentText → Bool
 is_described d = list_any (describes d) d.edges
 

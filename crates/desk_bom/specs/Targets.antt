@@ -3,6 +3,7 @@ use Rattle.std.specs.Prelude.{◌≡◌, ◌≤◌, ◌<◌, ℕ, List, Contains
 use Rattle.std.specs.List.{AllPairs}
 use Rattle.desk_bom.specs.declared.arrows.Arrow.{Arrow}
 
+-- all arrows that come from the place, and no others
 pub record AreTargets (arrows : List Arrow) (place : ℕ) (targets : List Arrow) : Type 0 where
   pub all : (x : Arrow) → Contains arrows x → x.from ≡ place → Contains targets x
   pub only : (x : Arrow) → Contains targets x → Contains arrows x × (x.from ≡ place)

@@ -37,7 +37,7 @@ pub(crate) struct Reached {
 }
 
 impl Reached {
-    /// A walk that has reached none of this many places.
+    /// A walk over this many places that has reached none of them.
     pub(crate) fn new(alloc: Global, count: usize) -> Result<Reached, AllocError>
         ensures order { IfOk result (λ r. r.order.items ≡ []) }
         ensures count { IfOk result (λ r. length r.marks.items ≡ count) }
@@ -82,8 +82,8 @@ impl Reached {
         Ok(())
     }
 
-    /// Reaches what the arrows lead to from what was reached, and from there on. They are sorted by
-    /// where they come from.
+    /// Reaches everything that the arrows lead to, step by step, from what was reached. They are
+    /// sorted by where they come from.
     pub(crate) fn walk(&mut self, arrows: &[Arrow]) -> Result<(), AllocError>
         requires sorted { IsNonDecreasingBy (λ x. x.from) arrows.now }
         requires within { All (λ x. x.to < length self.old.marks.items) arrows.now }

@@ -20,7 +20,7 @@ use desk_fields::Tag;
 use desk_tagvalue::{Document, Edge, Entry};
 use std::alloc::{AllocError, Global};
 
-/// The package and the file that a relationship ties together.
+/// The package and the file that a relationship connects.
 fn tie(elements: &Elements, edge: &Edge) -> Option<Arrow>
     ensures { (d : DocumentText) → Notes d elements.now → result ≡ tie d (edge_text edge.now) }
 {
@@ -65,7 +65,7 @@ fn add_own(found: &mut Vec<Arrow>, entries: &[Entry]) -> Result<(), AllocError>
     Ok(())
 }
 
-// Adds the files that relationships tie to packages.
+// Adds the files that relationships assign to packages.
 fn add_tied(
     found: &mut Vec<Arrow>,
     document: &Document,
@@ -123,7 +123,7 @@ impl Contents {
 }
 
 /// A file belongs to the last package that begins before it, and to none if none does: packages and
-/// files are known by how many begin before them.
+/// files are identified by how many begin before them.
 pub fn files_belong_to_the_package_before()
     ensures own { (d : DocumentText) (before between after : List EntryText) (p f : EntryText)
         → d.entries ≡ before ++ (p ∷ (between ++ (f ∷ after))) → p.tag ≡ tags.PackageName

@@ -33,7 +33,7 @@ fn slot_of(id: &str, slots: usize) -> usize
     (tail_number(id) % slots as u64) as usize
 }
 
-// Where an identifier is found: at the place that its slot has, or else in a tree.
+// Where an identifier is found: at the place that its slot has, otherwise in a tree.
 fn find<'a>(
     ids: &[&'a str],
     slots: &[usize],
@@ -77,8 +77,8 @@ fn add<'a>(
 }
 
 /// The first place of each identifier: in a slot, or in a tree if another one has that slot. So
-/// most look-ups end in a slot, and identifiers with the same slot cost no more than they would in
-/// a tree alone.
+/// most look-ups end in a slot, and identifiers with the same slot cost no more than they would if
+/// there were only a tree.
 #[derive(Drop)]
 pub(crate) struct Places<'a> {
     ids: Vec<&'a str>,

@@ -214,7 +214,7 @@ pub fn first_mark(marks: &[bool]) -> (bool, &[bool])
 /// The places of the packages that a document ships, by their identifiers.
 ///
 /// The document itself ships; so does each package, if no DESCRIBES or DESCRIBED_BY (SPDX 2.3,
-/// clause 11.1) between elements of the document touches the document. What an element describes,
+/// clause 11.1) between elements of the document involves the document. What an element describes,
 /// contains, depends on or links ships with it.
 pub fn shipped(alloc: Global, document: &Document) -> Result<Vec<usize>, AllocError>
     ensures { IfOk result (λ v. AreShipped (document_text document.now) v.items) }

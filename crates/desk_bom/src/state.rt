@@ -326,8 +326,8 @@ impl Contents {
 }
 
 /// What the code of a package says about its files (SPDX 2.3, clause 7.9), the package by its place
-/// among the packages of the document. For many packages their files are better collected once, by
-/// `Contents`.
+/// among the packages of the document. For many packages, it is better to collect their files once,
+/// by `Contents`.
 pub fn code_state(alloc: Global, document: &Document, owner: usize) -> Result<CodeState, AllocError>
     requires { owner < length document.now.packages }
     ensures { IfOk result (IsState (document_text document.now) owner) }

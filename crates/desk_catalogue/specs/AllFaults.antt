@@ -31,6 +31,7 @@ place part.Duty index number = 3 ∷ index ∷ number ∷ []
 place part.Rule index number = 4 ∷ index ∷ number ∷ []
 place part.Text index number = 5 ∷ index ∷ number ∷ []
 
+-- the place of a fault of a part
 abbrev pub placed : CatalogueFault → CataloguePart → ℕ → List ℕ
 placed fault p index = place p index (catalogue_fault_number fault)
 
@@ -45,6 +46,7 @@ place_of (faults.UnknownForm p index) = placed (faults.UnknownForm p index) p in
 place_of (faults.UnknownDuty p index) = placed (faults.UnknownDuty p index) p index
 place_of (faults.Twice p index) = placed (faults.Twice p index) p index
 
+-- it is one of these places, and none of them is before it
 pub record IsLeastOf (places : List (List ℕ)) (first : List ℕ) : Type 0 where
   pub among : is_among places first ≡ true
   pub least : All (λ other. text_below other first ≡ false) places
@@ -56,6 +58,7 @@ IsFirstOf places (Some first) = IsLeastOf places first
 
 -- ---- the faults of a part
 
+-- the place of a fault with this number, if there is one
 abbrev pub at : CataloguePart → ℕ → Option ℕ → List (List ℕ)
 at p index None = []
 at p index (Some number) = place p index number ∷ []
@@ -79,6 +82,7 @@ abbrev pub named_in : {K : Type 0} → (Data → Option K) → Items → List K
 named_in named no_items = []
 named_in named (item d ds) = option_to_list (named d) ++ named_in named ds
 
+-- the same for a part that may be absent or no list: it names nothing
 abbrev pub named_by : {K : Type 0} → (Data → Option K) → Option Data → List K
 named_by named o = option_map_or (named_in named) (option_and_then as_array o) []
 
@@ -93,32 +97,40 @@ of_part p all (Some d) = option_map_or all (as_array d) (place p 0 3 ∷ [])
 
 -- ---- forms
 
+-- an entry that is no form is of another kind
 abbrev pub kind_fault : Data → Option ℕ
 kind_fault d = option_map_or sound (id_of d) (Some 3)
 
+-- BadKind at 0 if there is no form, or more than 16
 abbrev pub of_count : ℕ → List (List ℕ)
 of_count n = if is_form_count n then [] else place part.Forms 0 3 ∷ []
 
+-- the count first, then each entry by itself
 abbrev pub of_entries : Items → List (List ℕ)
 of_entries ds = of_count (count ds) ++ all_in part.Forms kind_fault id_of is_among [] 0 ds
 
+-- Missing at 0 without `forms`, BadKind at 0 if it is no list
 abbrev pub forms_faults : Option Data → List (List ℕ)
 forms_faults None = place part.Forms 0 2 ∷ []
 forms_faults (Some d) = option_map_or of_entries (as_array d) (place part.Forms 0 3 ∷ [])
 
 -- ---- duties
 
+-- the code that a duty table names, if it may be one
 abbrev pub code_of : Data → Option (List ℕ)
 code_of d = option_and_then (λ ms. option_and_then id_of (get_member (codes "code") ms)) (as_table d)
 
+-- the faults of all duty tables
 abbrev pub duties_faults : Option Data → List (List ℕ)
 duties_faults o = of_part part.Duty (all_in part.Duty (of_table duty_fault) code_of is_among [] 0) o
 
 -- ---- rules
 
+-- the text of a table's key, if it has one
 abbrev pub text_in : List ℕ → Members → Option (List ℕ)
 text_in key ms = option_and_then as_str (get_member key ms)
 
+-- what a rule is for, if its term and its form are there
 abbrev pub subject_of : Option (List ℕ) → Option (List ℕ) → Option Rule
 subject_of (Some term) (Some form) = Some (sought term form)
 subject_of (Some term) None = None
@@ -138,16 +150,19 @@ rules_faults terms forms duties o = of_part part.Rule
 
 -- ---- texts
 
+-- the licence or exception that a text table names, in lower case
 abbrev pub licence_named : Data → Option (List ℕ)
 licence_named d = option_and_then (λ ms. option_map folded (text_in (codes "licence") ms))
     (as_table d)
 
+-- the faults of all text tables
 abbrev pub texts_faults : Option Data → List (List ℕ)
 texts_faults o =
     of_part part.Text (all_in part.Text (of_table text_fault) licence_named is_among [] 0) o
 
 -- ---- the whole
 
+-- the faults of all parts, each part judged even if another one has faults
 abbrev pub faults_of_table : (List ℕ → Option (List ℕ)) → Members → List (List ℕ)
 faults_of_table terms ms =
     forms_faults (get_member (codes "forms") ms)
@@ -156,10 +171,12 @@ faults_of_table terms ms =
     (named_by code_of (get_member (codes "duty") ms)) (get_member (codes "rule") ms)
     ++ texts_faults (get_member (codes "text") ms)))
 
+-- a text of more than 4 MiB
 abbrev pub too_large : List ℕ → List (List ℕ)
 too_large text = if nat_lt limit.catalogue_bytes (length text) then place_of faults.TooLarge ∷ []
     else []
 
+-- all faults of a text, given what texts of terms say; a text that is no TOML has no parts
 abbrev pub all_faults : (List ℕ → Option (List ℕ)) → List ℕ → List (List ℕ)
 all_faults terms text = too_large text
     ++ option_map_or (faults_of_table terms) (parse_document text) (place_of faults.NotToml ∷ [])

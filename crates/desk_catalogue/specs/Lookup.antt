@@ -25,6 +25,7 @@ codes_for catalogue term form = option_map (λ rule. rule.codes) (rule_for catal
 abbrev pub spelled_for : Catalogue → Term → List ℕ → Option (List ℕ)
 spelled_for catalogue term form = option_map (λ rule. rule.spelled) (rule_for catalogue term form)
 
+-- the catalogue lists the form, byte for byte
 abbrev pub has_form : Catalogue → List ℕ → Bool
 has_form catalogue form = is_among catalogue.forms form
 
@@ -32,6 +33,7 @@ has_form catalogue form = is_among catalogue.forms form
 abbrev pub text_for : Catalogue → List ℕ → Option LicenceText
 text_for catalogue id = find (is_text_of id) catalogue.texts
 
+-- the text itself, line ends as in the catalogue
 abbrev pub body_for : Catalogue → List ℕ → Option (List ℕ)
 body_for catalogue id = option_map (λ text. text.body) (text_for catalogue id)
 

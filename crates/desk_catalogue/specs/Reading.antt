@@ -37,6 +37,7 @@ each put state index no_items = Ok state
 each put state index (item d ds) = then_read (put state index d)
     (λ next. each put next (index + 1) ds)
 
+-- how many entries a list has
 abbrev pub count : Items → ℕ
 count no_items = 0
 count (item d ds) = count ds + 1
@@ -48,9 +49,11 @@ tables_of p (Some d) = ok_or (as_array d) (BadKind p 0)
 
 -- ---- forms, where the kind of each entry is checked before whether any occurs twice
 
+-- the form that an entry is
 abbrev pub form_at : ℕ → Data → Read (List ℕ)
 form_at index d = ok_or (id_of d) (BadKind part.Forms index)
 
+-- the forms so far, with one more at their end
 abbrev pub with_form : List (List ℕ) → ℕ → Data → Read (List (List ℕ))
 with_form forms index d = then_read (form_at index d) (λ form. Ok (forms ++ form ∷ []))
 
@@ -58,6 +61,7 @@ with_form forms index d = then_read (form_at index d) (λ form. Ok (forms ++ for
 abbrev pub is_form_count : ℕ → Bool
 is_form_count n = nat_le 1 n && nat_le n limit.forms
 
+-- the entries of `forms`, which must be a list of 1 to 16
 abbrev pub forms_listed : Option Items → Read (List (List ℕ))
 forms_listed None = Err (BadKind part.Forms 0)
 forms_listed (Some ds) = if is_form_count (count ds) then each with_form [] 0 ds
@@ -69,22 +73,26 @@ forms_once before index [] = Ok before
 forms_once before index (form ∷ forms) = if is_among before form then Err (Twice part.Forms index)
     else forms_once (before ++ form ∷ []) (index + 1) forms
 
+-- the forms; without them no other part is looked at
 abbrev pub forms_of : Option Data → Read (List (List ℕ))
 forms_of None = Err (Missing part.Forms 0)
 forms_of (Some d) = then_read (forms_listed (as_array d)) (forms_once [] 0)
 
 -- ---- duties, whose codes are kept
 
+-- the code of a duty, if both its values are of their kind
 abbrev pub duty_of_values : ℕ → Option (List ℕ) → Option (List ℕ) → Read (List ℕ)
 duty_of_values index (Some code) (Some title) = Ok code
 duty_of_values index (Some code) None = Err (BadKind part.Duty index)
 duty_of_values index None title = Err (BadKind part.Duty index)
 
+-- the same, if both keys are there
 abbrev pub duty_of_keys : ℕ → Option Data → Option Data → Read (List ℕ)
 duty_of_keys index (Some code) (Some title) = duty_of_values index (id_of code) (title_of title)
 duty_of_keys index (Some code) None = Err (Missing part.Duty index)
 duty_of_keys index None title = Err (Missing part.Duty index)
 
+-- the code of a duty table
 abbrev pub duty_at : ℕ → Data → Read (List ℕ)
 duty_at index d = then_read (ok_or (as_table d) (BadKind part.Duty index))
     (λ ms. duty_of_keys index (get_member (codes "code") ms) (get_member (codes "title") ms))
@@ -94,9 +102,11 @@ abbrev pub with_code : List (List ℕ) → ℕ → List ℕ → Read (List (List
 with_code codes_before index code = if is_among codes_before code then Err (Twice part.Duty index)
     else Ok (put_new code codes_before)
 
+-- the codes so far, with that of one more table
 abbrev pub with_duty : List (List ℕ) → ℕ → Data → Read (List (List ℕ))
 with_duty codes_before index d = then_read (duty_at index d) (with_code codes_before index)
 
+-- the codes of all duty tables, sorted
 abbrev pub duties_of : Option Data → Read (List (List ℕ))
 duties_of duties = then_read (tables_of part.Duty duties) (each with_duty [] 0)
 
@@ -108,6 +118,7 @@ pub record RuleTexts : Type 0 where
   pub form : List ℕ
   pub duties : List (List ℕ)
 
+-- the values of a rule, if all three are of their kind
 abbrev pub rule_texts : ℕ → Option (List ℕ) → Option (List ℕ) → Option (List (List ℕ))
     → Read RuleTexts
 rule_texts index (Some term) (Some form) (Some duties) = Ok
@@ -116,6 +127,7 @@ rule_texts index (Some term) (Some form) None = Err (BadKind part.Rule index)
 rule_texts index (Some term) None duties = Err (BadKind part.Rule index)
 rule_texts index None form duties = Err (BadKind part.Rule index)
 
+-- the same, if all three keys are there
 abbrev pub rule_values : ℕ → Option Data → Option Data → Option Data → Read RuleTexts
 rule_values index (Some term) (Some form) (Some duties) = rule_texts index (as_str term)
     (as_str form) (texts_of duties)
@@ -123,6 +135,7 @@ rule_values index (Some term) (Some form) None = Err (Missing part.Rule index)
 rule_values index (Some term) None duties = Err (Missing part.Rule index)
 rule_values index None form duties = Err (Missing part.Rule index)
 
+-- the values of a rule table
 abbrev pub rule_written : ℕ → Data → Read RuleTexts
 rule_written index d = then_read (ok_or (as_table d) (BadKind part.Rule index))
     (λ ms. rule_values index (get_member (codes "term") ms) (get_member (codes "form") ms)
@@ -154,11 +167,13 @@ abbrev pub with_one : List Rule → ℕ → Rule → Read (List Rule)
 with_one rules index rule = if has_rule rules rule then Err (Twice part.Rule index)
     else Ok (put_rule rule rules)
 
+-- the rules so far, with that of one more table
 abbrev pub with_rule : (List ℕ → Option (List ℕ)) → List (List ℕ) → List (List ℕ) → List Rule → ℕ
     → Data → Read (List Rule)
 with_rule terms forms duties rules index d = then_read (rule_at terms forms duties index d)
     (with_one rules index)
 
+-- the rules of all rule tables, sorted by term and form
 abbrev pub rules_of : (List ℕ → Option (List ℕ)) → List (List ℕ) → List (List ℕ) → Option Data
     → Read (List Rule)
 rules_of terms forms duties rules = then_read (tables_of part.Rule rules)
@@ -166,20 +181,24 @@ rules_of terms forms duties rules = then_read (tables_of part.Rule rules)
 
 -- ---- texts of licences and exceptions
 
+-- a text, if what it is for may have one
 abbrev pub text_of : ℕ → List ℕ → List ℕ → Read LicenceText
 text_of index licence body = if is_text_id licence
     then Ok (record { licence = licence; body = body }) else Err (BadTerm part.Text index)
 
+-- the same, if both values are texts
 abbrev pub text_of_values : ℕ → Option (List ℕ) → Option (List ℕ) → Read LicenceText
 text_of_values index (Some licence) (Some body) = text_of index licence body
 text_of_values index (Some licence) None = Err (BadKind part.Text index)
 text_of_values index None body = Err (BadKind part.Text index)
 
+-- the same, if both keys are there
 abbrev pub text_of_keys : ℕ → Option Data → Option Data → Read LicenceText
 text_of_keys index (Some licence) (Some body) = text_of_values index (as_str licence) (as_str body)
 text_of_keys index (Some licence) None = Err (Missing part.Text index)
 text_of_keys index None body = Err (Missing part.Text index)
 
+-- the text of a text table
 abbrev pub text_at : ℕ → Data → Read LicenceText
 text_at index d = then_read (ok_or (as_table d) (BadKind part.Text index))
     (λ ms. text_of_keys index (get_member (codes "licence") ms) (get_member (codes "body") ms))
@@ -189,14 +208,17 @@ abbrev pub with_one_text : List LicenceText → ℕ → LicenceText → Read (Li
 with_one_text texts index text = if list_any (is_text_of text.licence) texts
     then Err (Twice part.Text index) else Ok (texts ++ text ∷ [])
 
+-- the texts so far, with that of one more table
 abbrev pub with_text : List LicenceText → ℕ → Data → Read (List LicenceText)
 with_text texts index d = then_read (text_at index d) (with_one_text texts index)
 
+-- the texts of all text tables, in the order of the catalogue
 abbrev pub licence_texts_of : Option Data → Read (List LicenceText)
 licence_texts_of texts = then_read (tables_of part.Text texts) (each with_text [] 0)
 
 -- ---- the whole
 
+-- the catalogue that a TOML table is, or its first fault
 abbrev pub catalogue_of_table : (List ℕ → Option (List ℕ)) → Members → Read Catalogue
 catalogue_of_table terms ms =
     then_read (forms_of (get_member (codes "forms") ms)) (λ forms.
@@ -205,6 +227,7 @@ catalogue_of_table terms ms =
     then_read (licence_texts_of (get_member (codes "text") ms)) (λ texts.
     Ok (record { forms = forms; rules = rules; texts = texts })))))
 
+-- the catalogue that a text is, given what texts of terms say
 abbrev pub catalogue_of : (List ℕ → Option (List ℕ)) → List ℕ → Read Catalogue
 catalogue_of terms text =
     if nat_lt limit.catalogue_bytes (length text) then Err TooLarge

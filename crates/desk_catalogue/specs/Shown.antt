@@ -24,6 +24,7 @@ abbrev pub Gives : {A B : Type 0} → Read B → (A → B) → Result A Catalogu
 Gives read show (Ok x) = read ≡ Ok (show x)
 Gives read show (Err fault) = read ≡ Err fault
 
+-- the values that a rule table borrows
 abbrev pub rule_texts_in : Written → RuleTexts
 rule_texts_in rule = record {
   term = rule.term.now;
@@ -44,6 +45,7 @@ rule_of_entry e = record {
   codes = e.1.codes;
 }
 
+-- all rules of a map, sorted by what they are for
 abbrev pub rules_in : BTreeMap Subject Said → List Rule
 rules_in rules = map rule_of_entry rules.entries
 

@@ -22,12 +22,15 @@ is_title text = nat_le 1 (length text) && nat_le (length text) limit.title_bytes
 abbrev pub is_text_id : List ℕ → Bool
 is_text_id text = is_idstring text && not (begins_like_reference text)
 
+-- a text that passes a test, or none
 abbrev pub if_passes : (List ℕ → Bool) → List ℕ → Option (List ℕ)
 if_passes test text = if test text then Some text else None
 
+-- a form or a code that a value is
 abbrev pub id_of : Data → Option (List ℕ)
 id_of d = option_and_then (if_passes is_id) (as_str d)
 
+-- a title that a value is
 abbrev pub title_of : Data → Option (List ℕ)
 title_of d = option_and_then (if_passes is_title) (as_str d)
 
@@ -37,5 +40,6 @@ strings no_items = Some []
 strings (item d ds) = option_and_then (λ text. option_map (λ more. text ∷ more) (strings ds))
     (as_str d)
 
+-- the texts of a value that is a list of texts and nothing else
 abbrev pub texts_of : Data → Option (List (List ℕ))
 texts_of d = option_and_then strings (as_array d)

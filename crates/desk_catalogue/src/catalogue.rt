@@ -8,6 +8,7 @@ use desk_base::{Items, Text};
 pub struct LicenceText {
     /// The id, as the catalogue spells it.
     pub licence: Text,
+    /// The text itself.
     pub body: Text,
 }
 

@@ -22,7 +22,7 @@ pub fn terms_are_read()
     ensures { (terms : List ℕ → Option (List ℕ)) × ReadsTerms terms }
 {}
 
-/// A text has only one reading: whichever such function is taken, `catalogue_of` says the same.
+/// A text has only one reading: `catalogue_of` says the same for every such function.
 pub fn one_catalogue()
     ensures { (terms others : List ℕ → Option (List ℕ)) → ReadsTerms terms → ReadsTerms others
         → (text : List ℕ) → catalogue_of terms text ≡ catalogue_of others text }
@@ -41,9 +41,10 @@ pub fn forms_and_texts_stand_once()
         × IsDistinct same_licence catalogue.texts }
 {}
 
-/// The fault of a table is the least of those of its keys, each looked at by itself: an absent key
+/// The fault of a table is the least of those of its keys, each judged on its own: an absent key
 /// before a value of another kind, then a term or licence that isn't one, a form that isn't listed,
-/// a code without a duty, and a code that occurs twice. A table whose keys have none has none.
+/// a code without a duty, and a code that occurs twice. If its keys have no fault, a table has
+/// none.
 pub fn table_faults_are_the_least()
     ensures duty { (index : ℕ) (d : Data) (ms : Members) → as_table d ≡ Some ms
         → option_map catalogue_fault_number (result_err (duty_at index d)) ≡ duty_fault ms }
@@ -55,9 +56,9 @@ pub fn table_faults_are_the_least()
         → option_map catalogue_fault_number (result_err (text_at index d)) ≡ text_fault ms }
 {}
 
-/// The fault of a text is the first of all that it has, each judged by itself: by the part, then by
-/// the place in it and by the number, but of the forms each kind before what occurs twice. What has
-/// none is a catalogue.
+/// The fault of a text is the first of all its faults, each judged on its own: in the order of the
+/// parts, then of the places in a part and of the numbers, except that of the forms all kinds come
+/// before what occurs twice. A text without a fault is a catalogue.
 pub fn the_fault_is_the_first_of_all()
     ensures { (terms : List ℕ → Option (List ℕ)) (text : List ℕ) → IsFirstOf (all_faults terms text)
         (option_map place_of (result_err (catalogue_of terms text))) }

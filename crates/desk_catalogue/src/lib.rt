@@ -17,10 +17,10 @@
 //! ```
 //!
 //! `catalogue_of` (specs/Reading.antt) is a function of the text: the catalogue, or the first fault
-//! with its part and index. It is defined over the table that `toml` reads in the text and, by a
-//! function that it is given, over the terms that texts spell. `Catalogue::read` returns what it
-//! says for each such function that is right by `desk_expr`'s definition of a spelled term
-//! (`ReadsTerms`); there is one (`terms_are_read`), and they all give the same (`one_catalogue`).
+//! with its part and index. It is defined over the table that `toml` reads in the text, and takes a
+//! function that gives the terms that texts spell. `Catalogue::read` returns what it says for each
+//! such function that is right by `desk_expr`'s definition of a spelled term (`ReadsTerms`); there
+//! is one (`terms_are_read`), and all of them give the same result (`one_catalogue`).
 //!
 //! Nothing is dropped silently: a form, a code, a term with a form or the licence of a text that
 //! occurs twice is a fault, so the rules that are kept are sorted, each pair once

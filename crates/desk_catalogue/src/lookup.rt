@@ -17,7 +17,7 @@ fn is_text_of(text: &LicenceText, id: &str) -> bool
 }
 
 impl Catalogue {
-    /// The codes that a term owes in a form; none if the catalogue has no rule for them.
+    /// The codes that a term owes in a form, or none if the catalogue has no rule for the two.
     pub fn rule(&self, term: &Term, form: &str) -> Option<&[Text]>
         ensures { option_map (λ codes. codes.now) result ≡ codes_for self.now term.now form.now }
     {

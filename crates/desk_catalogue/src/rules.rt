@@ -92,7 +92,7 @@ fn rule_texts<'a>(
     }
 }
 
-// The printed term of a text that spells one, if it is no reference.
+// The printed term of a text that spells one, if it isn't a reference.
 fn licence_of(alloc: Global, text: &str) -> Result<Option<Text>, AllocError>
     ensures { (terms : List ℕ → Option (List ℕ)) → ReadsTerms terms
         → IfOk result (λ term. term ≡ licence_of terms text.now) }

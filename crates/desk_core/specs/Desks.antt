@@ -18,6 +18,7 @@ AllSpareStore w [] (o ∷ os) = ⊥
 AllSpareStore w (c ∷ cs) (o ∷ os) = MayBecome (λ fault. refused_alone w c ≡ false) o
     × AllSpareStore w cs os
 
+-- a command was answered, be it with a refusal; a fault is no answer
 abbrev pub is_answered : Outcome → Bool
 is_answered (Answered a) = true
 is_answered (Failed fault) = false

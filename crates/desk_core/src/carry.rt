@@ -23,7 +23,7 @@ use desk_preparing::document::{import, import_copy};
 use desk_preparing::release::{attach, open_release};
 use std::alloc::Global;
 
-/// What a command comes to over the rows of a store.
+/// What a command amounts to over the rows of a store.
 pub fn plan<T: Texts, S: Store>(
     alloc: Global,
     texts: &T,

@@ -28,7 +28,7 @@ use std::alloc::{AllocError, Global};
 ///
 /// For each right reading of texts and each recorded history whose tables are the rows, a command
 /// is answered as the definitions of the history say, and leaves the tables of the history with it.
-/// After a refusal, Again, a question or a fault the rows are as they were, whatever they are.
+/// After a refusal, Again, a question or a fault the rows are unchanged, whatever they are.
 pub trait Desk {
     /// What a stop of the program may leave of a desk.
     ghost Left: { Type 0 };
@@ -42,7 +42,7 @@ pub trait Desk {
     /// The readings that say of each text what it says.
     ghost are_right: { Readings → Type 0 };
 
-    /// The faults of its own that the desk's store may return.
+    /// The faults that are the store's own and that it may return.
     ghost tells: { StoreFault → Type 0 };
 
     /// Carries out a command, or refuses it.
@@ -173,17 +173,17 @@ fn apply_one<D: Desk>(desk: &mut D, command: &Command) -> Outcome
     Outcome::from(desk.apply(command))
 }
 
-/// Applies commands in order, and goes on after refusals and faults.
+/// Applies commands in order, and continues after refusals and faults.
 ///
 /// Room for the list of outcomes is reserved first: if that fails, nothing is applied. Otherwise
-/// there is one outcome for each command. Whatever recorded history `h` has the rows as its tables
-/// before, each outcome that is no fault is the answer at its place, after `h` and the commands
-/// recorded before it; and at the end the rows are the tables of all recorded commands, which are
-/// again a recorded history. If none was recorded, the rows are as they were, whatever they are. If
-/// no outcome is a fault and a stop left the rows before and no others, it leaves those at the end
-/// and no others. A desk that showed its rows still does, unless its disk failed. An outcome is a
-/// fault only if `apply` returned it: it is one that the desk may return, and none of the store if
-/// the command alone decides.
+/// there is one outcome for each command. For any recorded history `h` whose tables are the rows
+/// before the run, each outcome that isn't a fault is the answer at its place, after `h` and the
+/// commands recorded before it; and at the end the rows are the tables of all recorded commands,
+/// which again form a recorded history. If none was recorded, the rows are unchanged, whatever they
+/// are. If no outcome is a fault and a stop before the run would have left its rows and no others,
+/// a stop after it leaves those at the end and no others. A desk that showed its rows still does,
+/// unless its disk failed. An outcome is a fault only if `apply` returned it: it is one that the
+/// desk may return, and not one of the store if the command itself decides its refusal.
 pub fn run<D: Desk>(
     alloc: Global,
     desk: &mut D,

@@ -2,11 +2,11 @@
 //! commands.
 //!
 //! What contracts see of a desk is which tables are its rows (`Desk::seen`). The recorded history
-//! of commands, in `desk_model`, says what these mean. For each reading of texts that the desk
-//! takes to be right, and each history whose tables are the rows, `apply` answers a command as the
-//! definitions of the history do and leaves the tables of the history with it; `run` keeps this
+//! of commands, defined in `desk_model`, says what these mean. For each reading of texts that the
+//! desk takes to be right, and each history whose tables are the rows, `apply` answers a command as
+//! the definitions of the history do and leaves the tables of the history with it; `run` keeps this
 //! over any list of commands, including refusals and faults. That is the desk's main contract.
-//! After a refusal, Again, a question or a fault the rows are as they were, whatever they are.
+//! After a refusal, Again, a question or a fault the rows are unchanged, whatever they are.
 //!
 //! - `TableDesk` is the desk over a store and a reader of texts (`desk_access`), and decides as
 //!   `carry` says: `plan` decides on each command, by `desk_preparing` or `desk_duties`, and

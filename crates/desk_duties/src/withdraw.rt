@@ -19,8 +19,8 @@ use desk_packages::{make, refuse};
 use std::alloc::{AllocError, Global};
 
 /// The number of the step after this many. A duty of a recorded history has at most 1,001 changes
-/// (`desk_history_laws::changes_are_few`); if rows that no command made have more than a step's
-/// number can count, the error is that no memory is left.
+/// (`desk_history_laws::changes_are_few`); if rows that no command made have more changes than a
+/// step's number can count, the error is that no memory is left.
 fn step_after(steps: u64) -> Result<u32, AllocError>
     ensures { IfOk result (λ step. step ≡ steps + 1) }
 {

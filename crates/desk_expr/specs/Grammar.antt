@@ -21,6 +21,7 @@ all_of [] = all (parts_of [])
 all_of (t ∷ []) = t
 all_of (t ∷ u ∷ ts) = all (parts_of (t ∷ u ∷ ts))
 
+-- the same under OR: one part is itself, several are joined
 abbrev pub any_of : List Tree → Tree
 any_of [] = any (parts_of [])
 any_of (t ∷ []) = t

@@ -7,15 +7,18 @@ use Rattle.desk_expr.specs.Tree.{Tree, Trees, one, all, any, no_more, more}
 -- the set of terms satisfies the tree: One if it has the term, All if each part holds, Any if some
 -- part does
 abbrev mutual
+  -- the set is given as which terms it has
   pub Holds : (Term → Type 0) → Tree → Type 0
   Holds set (one t) = set t
   Holds set (all ts) = AllHold set ts
   Holds set (any ts) = SomeHolds set ts
 
+  -- each part holds; so it is for no parts at all
   pub AllHold : (Term → Type 0) → Trees → Type 0
   AllHold set no_more = Unit {0}
   AllHold set (more t ts) = Holds set t × AllHold set ts
 
+  -- some part holds; for no parts none does
   pub SomeHolds : (Term → Type 0) → Trees → Type 0
   SomeHolds set no_more = ⊥
   SomeHolds set (more t ts) = Holds set t ⊎ SomeHolds set ts
@@ -24,6 +27,7 @@ abbrev mutual
 abbrev pub IsSubset : List Term → List Term → Type 0
 IsSubset few many = (t : Term) → Contains few t → Contains many t
 
+-- each term of the few is among the many, and one of the many is missing
 abbrev pub IsProperSubset : List Term → List Term → Type 0
 IsProperSubset few many = IsSubset few many × (lacked : Term) × Contains many lacked
     × (Contains few lacked → ⊥)

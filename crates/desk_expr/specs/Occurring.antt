@@ -10,11 +10,13 @@ use Rattle.desk_expr.specs.Tree.{Tree, Trees, one, all, any, no_more, more}
 
 -- the terms from the left, each as often as it occurs
 abbrev mutual
+  -- those of a tree
   pub leaves : Tree → List Term
   leaves (one t) = t ∷ []
   leaves (all ts) = leaves_of ts
   leaves (any ts) = leaves_of ts
 
+  -- those of the parts of a node, one part after another
   pub leaves_of : Trees → List Term
   leaves_of no_more = []
   leaves_of (more t ts) = leaves t ++ leaves_of ts

@@ -17,12 +17,15 @@ abbrev pub goal_from : Goal → List Group → Goal
 goal_from K [] = K
 goal_from K (g ∷ gs) = goal_from (Closed K g.lists.items g.operands.items) gs
 
+-- the lists of symbols that complete an open group in each state of the reader, given what is done
+-- with the group's tree
 abbrev pub RestIn : Goal → Group → State → List Symbol → Tree → Type 0
 RestIn K g Operand r e = Want K g.lists.items g.operands.items r e
 RestIn K g (Word t) r e = AfterWord K g.lists.items g.operands.items t r e
 RestIn K g (Exception t) r e = WantException K g.lists.items g.operands.items t r e
 RestIn K g (Done op) r e = After K g.lists.items g.operands.items op r e
 
+-- the lists of symbols that complete what the reader has read, each with the tree of the whole text
 abbrev pub Rest : Reader → List Symbol → Tree → Type 0
 Rest m r e = RestIn (goal_from Ended m.outer.items) m.inner m.state r e
 

@@ -16,12 +16,16 @@ mutual
     group_run : (ts : List Symbol) (es : List Tree) (r : List Symbol) → OrRun ts es (closing ∷ r)
         → OperandRun (opening ∷ ts) (any_of es) r
 
+  -- operands joined by AND are at the front, with their trees, and the last list is what follows
+  -- them
   pub data AndRun : List Symbol → List Tree → List Symbol → Type 0 where
     last_operand : (ts : List Symbol) (e : Tree) (r : List Symbol) → OperandRun ts e r
         → AndRun ts (e ∷ []) r
     next_operand : (ts us : List Symbol) (e : Tree) (es : List Tree) (r : List Symbol)
         → OperandRun ts e (and_word ∷ us) → AndRun us es r → AndRun ts (e ∷ es) r
 
+  -- AND lists joined by OR are at the front, with their trees, and the last list is what follows
+  -- them
   pub data OrRun : List Symbol → List Tree → List Symbol → Type 0 where
     last_list : (ts : List Symbol) (es : List Tree) (r : List Symbol) → AndRun ts es r
         → OrRun ts (all_of es ∷ []) r

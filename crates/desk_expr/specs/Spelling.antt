@@ -32,9 +32,11 @@ symbol kind.LicenceOrLater w = word (or_later_term w) None
 symbol kind.Reference w = word (reference_term w) None
 symbol kind.Bad w = bad
 
+-- the symbol of a token, by its kind and its bytes
 abbrev pub symbol_of : Lexeme → Symbol
 symbol_of t = symbol t.kind t.text
 
+-- the symbols of some tokens, in order
 abbrev pub symbols : List Lexeme → List Symbol
 symbols ts = map symbol_of ts
 
@@ -50,6 +52,7 @@ open_after places t = open_by t.kind places t.start
     open_by kind.Closing ps p = take (length ps - 1) ps
     open_by _ ps p = ps
 
+-- the places of the parentheses that are open after all these tokens
 abbrev pub still_open : List Lexeme → List ℕ
 still_open ts = fold open_after [] ts
 
@@ -58,15 +61,18 @@ abbrev pub is_word : Symbol → Bool
 is_word (word t x) = true
 is_word _ = false
 
+-- the operator WITH
 abbrev pub is_with : Symbol → Bool
 is_with with_word = true
 is_with _ = false
 
+-- how many words are operands, given whether a WITH comes directly before them
 abbrev pub operand_words_after : Bool → List Symbol → ℕ
 operand_words_after after_with [] = 0
 operand_words_after after_with (s ∷ ss) = (if is_word s && not after_with then 1 else 0)
     + operand_words_after (is_with s) ss
 
+-- how many words of a list are operands; a repeated word counts each time
 abbrev pub operand_words : List Symbol → ℕ
 operand_words ss = operand_words_after false ss
 
@@ -105,15 +111,19 @@ SpellsTermWithinBy profile text t = (length text ≤ limit.expression_bytes)
 
 -- ---- the same with operators in capitals
 
+-- the text spells the tree, with AND, OR and WITH in capitals (SPDX 2.3, Annex D.1)
 abbrev pub Spells : List ℕ → Tree → Type 0
 Spells text e = SpellsBy Capitals text e
 
+-- the same within the limits on bytes, open parentheses and terms
 abbrev pub SpellsWithin : List ℕ → Tree → Type 0
 SpellsWithin text e = SpellsWithinBy Capitals text e
 
+-- the text spells one term and nothing else
 abbrev pub SpellsTermAlone : List ℕ → Term → Type 0
 SpellsTermAlone text t = SpellsTermAloneBy Capitals text t
 
+-- the same within the limit on bytes
 abbrev pub SpellsTermWithin : List ℕ → Term → Type 0
 SpellsTermWithin text t = SpellsTermWithinBy Capitals text t
 
@@ -123,6 +133,7 @@ SpellsNoTerm text = (t : Term) → SpellsTermWithin text t → ⊥
 
 -- ---- where a text stops that spells nothing, or breaks a limit
 
+-- so many closing parentheses
 abbrev pub closings : ℕ → List Symbol
 closings zero = []
 closings (suc n) = closing ∷ closings n

@@ -11,6 +11,8 @@ use Rattle.desk_expr.specs.declared.fault.ParseFault.TheVariants as fault
 use Rattle.desk_expr.specs.Words.{with_exception}
 use Rattle.desk_expr.specs.Grammar.{Symbol, with_word, word, SpellsTerm}
 
+-- the lists of symbols that complete a term from each state of its reader: nothing after a whole
+-- term; after a word perhaps WITH and an exception
 abbrev pub TermRest : TermState → List Symbol → Term → Type 0
 TermRest Start r t = SpellsTerm r t
 TermRest (Word v) r t =

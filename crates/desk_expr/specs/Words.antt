@@ -11,9 +11,11 @@ use Rattle.desk_expr.specs.declared.term.Term.{Term}
 abbrev pub licence_term : List ℕ → Term
 licence_term w = record { key = folded w; plus = false; exception = None }
 
+-- the word is an id and a plus: the plus is kept apart from the folded id
 abbrev pub or_later_term : List ℕ → Term
 or_later_term w = record { key = folded (without_last w); plus = true; exception = None }
 
+-- a reference has no plus, and its capitals stay
 abbrev pub reference_term : List ℕ → Term
 reference_term w = record { key = w; plus = false; exception = None }
 
@@ -25,6 +27,7 @@ with_exception t x = record t { exception = Some x }
 abbrev pub is_folded_id : List ℕ → Bool
 is_folded_id k = is_idstring k && bytes_eq (folded k) k
 
+-- no exception, or one that is a folded id
 abbrev pub is_exception : Option (List ℕ) → Bool
 is_exception None = true
 is_exception (Some x) = is_folded_id x

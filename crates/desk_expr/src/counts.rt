@@ -1,4 +1,4 @@
-//! Counts what an expression's limits are about: open parentheses and terms.
+//! Counts what the limits of an expression apply to: open parentheses and terms.
 
 ghost use Rattle.std.specs.Prelude.{◌≡◌, ◌≤◌, ◌-◌, ℕ, List, OnOk, IfOk, IfErr, [], false, length, slice_get, Some};
 ghost use Rattle.desk_base.specs.Limits.{expression_terms as most_terms};

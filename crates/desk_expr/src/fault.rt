@@ -87,8 +87,8 @@ impl ParseFault {
     }
 }
 
-/// The fault itself, which means that the text is no expression, or no term; lack of memory is the
-/// error.
+/// The fault itself, which means that the text isn't an expression, or isn't a term; lack of memory
+/// is the error.
 pub fn unless_memory(fault: ParseFault) -> Result<ParseFault, AllocError>
     ensures same { IfOk result (λ found. found ≡ fault) }
     ensures text { OnOk result (0 < fault_number fault) }

@@ -16,7 +16,7 @@ use desk_base::{Profile, limits};
 use desk_tokens::{Token, tokens_in};
 use std::alloc::Global;
 
-/// What has been read of a text, and what its limits are about.
+/// What has been read of a text, and the counts to which its limits apply.
 #[derive(Drop)]
 pub(crate) struct Progress {
     pub(crate) reader: Reader,

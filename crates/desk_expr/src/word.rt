@@ -120,7 +120,7 @@ fn reference(alloc: Global, text: &str) -> Result<Leaf, Halt>
     }))
 }
 
-// The term that a token is by itself.
+// The term that a single token is.
 pub(crate) fn leaf_of(alloc: Global, kind: Kind, text: &str) -> Result<Leaf, Halt>
     requires { IsWordOf kind text.now }
     ensures ok { IfOk result (λ t. (o : Option (List ℕ)) × (symbol kind text.now ≡ word t o)) }

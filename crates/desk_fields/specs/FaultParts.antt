@@ -4,6 +4,7 @@ use Rattle.desk_fields.specs.declared.tag.Tag.{Tag}
 use Rattle.desk_fields.specs.declared.fault.DocFault.{DocFault}
 use Rattle.desk_fields.specs.declared.fault.DocFault.TheVariants as faults
 
+-- the number by which replies give the fault; 0 if there was no memory
 abbrev pub fault_number : DocFault → ℕ
 fault_number faults.Memory = 0
 fault_number faults.NotUtf8 = 1
@@ -19,6 +20,7 @@ fault_number (faults.BadRelationship line) = 10
 fault_number faults.TooLarge = 11
 fault_number (faults.TooManyElements line) = 12
 
+-- the line of the fault, counted from 1; 0 if the bytes as a whole are refused, or memory ran out
 abbrev pub fault_line : DocFault → ℕ
 fault_line faults.Memory = 0
 fault_line faults.NotUtf8 = 0
@@ -34,6 +36,7 @@ fault_line (faults.Repeated line tag) = line
 fault_line (faults.BadRelationship line) = line
 fault_line (faults.TooManyElements line) = line
 
+-- the tag that is missing or repeated; no other fault names a tag
 abbrev pub fault_tag : DocFault → Option Tag
 fault_tag (faults.Missing line tag) = Some tag
 fault_tag (faults.Repeated line tag) = Some tag

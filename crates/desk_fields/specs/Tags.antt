@@ -56,25 +56,31 @@ begins_as_element text =
     starts_with nat_eq text (codes "Package") || starts_with nat_eq text (codes "File")
     || starts_with nat_eq text (codes "Snippet") || starts_with nat_eq text (codes "License")
 
+-- how CreatorComment, DocumentComment (clauses 6.10 and 6.11) and SPDXREF (clause 12.4) begin
 abbrev pub begins_as_document : List ℕ → Bool
 begins_as_document text =
     starts_with nat_eq text (codes "Creator") || starts_with nat_eq text (codes "Document")
     || starts_with nat_eq text (codes "SPDXREF")
 
+-- the same of annotations (clause 12), reviews (clause 13), external references (clauses 6.6 and
+-- 7.21), comments on relationships (clause 11.2) and remarks on the document
 abbrev pub begins_as_remark : List ℕ → Bool
 begins_as_remark text =
     starts_with nat_eq text (codes "Annotat") || starts_with nat_eq text (codes "Review")
     || starts_with nat_eq text (codes "External") || starts_with nat_eq text (codes "Relationship")
     || begins_as_document text
 
+-- tags of packages that begin otherwise (clauses 7.24 to 7.27); only these very words
 abbrev pub is_date_or_purpose : List ℕ → Bool
 is_date_or_purpose text =
     bytes_eq text (codes "PrimaryPackagePurpose") || bytes_eq text (codes "BuiltDate")
     || bytes_eq text (codes "ReleaseDate") || bytes_eq text (codes "ValidUntilDate")
 
+-- a tag of the standard that the desk doesn't read: it is no finding
 abbrev pub is_read_over : List ℕ → Bool
 is_read_over text = begins_as_element text || begins_as_remark text || is_date_or_purpose text
 
+-- what a tag is; a tag that the standard doesn't have is Unknown
 abbrev pub tag_of : List ℕ → Tag
 tag_of text =
     unwrap_or (document_tag text)
@@ -139,5 +145,6 @@ tag_place tags.Relationship = 23
 tag_place tags.ReadOver = 24
 tag_place tags.Unknown = 25
 
+-- two tags are the same
 abbrev pub same_tag : Tag → Tag → Bool
 same_tag a b = tag_place a == tag_place b

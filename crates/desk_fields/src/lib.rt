@@ -4,7 +4,7 @@
 //! A line is blank, a comment that begins with `#`, or a field `Tag: value`. A value that begins
 //! with `<text>` runs to the first `</text>`, over several lines if need be. There is only one way
 //! to cut a text into such pieces, and `fields` returns the fields of all its pieces, or the fault
-//! of the first that is none of these:
+//! of the first place that isn't such a piece:
 //!
 //! - the definition `Reads` of `specs/Cutting.antt` says which cutting, fields and fault a text
 //!   has;

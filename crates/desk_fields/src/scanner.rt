@@ -16,7 +16,7 @@ use std::alloc::Global;
 /// After a fault it returns nothing more.
 #[derive(Drop)]
 pub struct Scanner<'a> {
-    /// What isn't cut yet.
+    /// What hasn't been cut yet.
     pub rest: &'a str,
     /// The line on which that begins, from 1.
     pub line: u64,
@@ -96,7 +96,8 @@ pub fn fields<'a>(alloc: Global, text: &'a str) -> Result<Vec<Field<'a>>, DocFau
     Ok(found)
 }
 
-/// A text is read in one way, whatever line it begins on: as one list of fields, or with one fault.
+/// A text is read in only one way, whatever line it begins on: as one list of fields, or with one
+/// fault.
 pub fn one_reading()
     ensures { (line : ℕ) (text : List ℕ) (a b : Result (List FieldText) DocFault)
         → Reads line text a

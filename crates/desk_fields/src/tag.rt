@@ -120,7 +120,7 @@ fn other_tag(text: &str) -> Option<Tag>
     }
 }
 
-// Whether the text is one of the standard's other tags that begin in none of these ways.
+// Whether the text is one of the standard's other tags, which begin differently.
 fn is_date_or_purpose(text: &str) -> bool
     ensures { result ≡ is_date_or_purpose text.now }
 {

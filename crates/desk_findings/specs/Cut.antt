@@ -12,10 +12,12 @@ use Rattle.desk_bom.specs.declared.arrows.Arrow.{Arrow}
 use Rattle.desk_bom.specs.Contents.{onto_package}
 use Rattle.desk_findings.specs.Fields.{FieldAt, fields_in}
 
+-- the document's own fields, or those of one section with the field that begins it
 pub record Part : Type 0 where
   pub kind : SectionKind
   pub fields : List EntryText
 
+-- the fields of a part
 abbrev pub fields : Part → List EntryText
 fields p = p.fields
 
@@ -30,19 +32,24 @@ part_of s = record {
   fields = s.start ∷ s.fields;
 }
 
+-- the document's own part, then each section, in the order of the text
 abbrev pub parts : List EntryText → List Part
 parts es = own_part es ∷ map part_of (sections_of es)
 
+-- the last of some parts
 abbrev pub last_of : Part → List Part → Part
 last_of p [] = p
 last_of p (q ∷ qs) = last_of q qs
 
+-- the part that the next field would belong to
 abbrev pub last_part : List EntryText → Part
 last_part es = last_of (own_part es) (map part_of (sections_of es))
 
+-- the part is a package
 abbrev pub is_package_part : Part → Bool
 is_package_part p = is_package p.kind
 
+-- the part is a file
 abbrev pub is_file_part : Part → Bool
 is_file_part p = is_file p.kind
 
@@ -50,6 +57,7 @@ is_file_part p = is_file p.kind
 abbrev pub packages_of : List EntryText → List Part
 packages_of es = map part_of (filter (begins_with tags.PackageName) (sections_of es))
 
+-- the parts that begin with FileName
 abbrev pub files_of : List EntryText → List Part
 files_of es = map part_of (filter (begins_with tags.FileName) (sections_of es))
 
@@ -69,6 +77,7 @@ begun packages p = if is_package_part p then packages + 1 else packages
 abbrev pub field_at : SectionKind → ℕ → EntryText → FieldAt
 field_at kind packages e = record { section = kind; packages = packages; entry = e }
 
+-- the same for part after part
 abbrev pub listed : ℕ → List Part → List FieldAt
 listed packages [] = []
 listed packages (p ∷ ps) = map (field_at p.kind (begun packages p)) p.fields

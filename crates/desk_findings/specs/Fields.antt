@@ -43,6 +43,7 @@ IsRead profile text (Some e) = SpellsWithinBy profile text e
 abbrev pub IsReading : Profile → (List ℕ → Option Tree) → Type 0
 IsReading profile reads = (text : List ℕ) → IsRead profile text (reads text)
 
+-- the tags whose value is an expression, NONE or NOASSERTION
 abbrev pub is_licence_field : Tag → Bool
 is_licence_field tags.PackageConcluded = true
 is_licence_field tags.PackageDeclared = true
@@ -58,6 +59,7 @@ pub record FieldAt : Type 0 where
   pub packages : ℕ
   pub entry : EntryText
 
+-- how many packages have begun after a field
 abbrev pub packages_after : ℕ → EntryText → ℕ
 packages_after n e = if same_tag e.tag tags.PackageName then n + 1 else n
 
@@ -77,9 +79,11 @@ fields_in kind n (e ∷ es) =
 abbrev pub is_field : Tag → FieldAt → Bool
 is_field tag f = same_tag f.entry.tag tag && is_placed f.section f.entry.tag
 
+-- a tag that the standard doesn't have
 abbrev pub is_unknown : FieldAt → Bool
 is_unknown f = same_tag f.entry.tag tags.Unknown
 
+-- a tag that is read, in a section that doesn't have it
 abbrev pub is_misplaced : FieldAt → Bool
 is_misplaced f = not (is_placed f.section f.entry.tag)
 
@@ -94,10 +98,12 @@ abbrev pub is_undefined : DocumentText → Term → Bool
 is_undefined d t = starts_with nat_eq t.key (codes "LicenseRef-")
     && not (list_any (λ x. bytes_eq x.id t.key) d.extracted)
 
+-- such a reference is in an expression; a value that is none has no terms
 abbrev pub uses_undefined : DocumentText → Option Tree → Bool
 uses_undefined d None = false
 uses_undefined d (Some e) = list_any (is_undefined d) (leaves e)
 
+-- a package's concluded licence (clause 7.13) uses such a reference; other fields aren't looked at
 abbrev pub is_undefined_use : (List ℕ → Option Tree) → DocumentText → FieldAt → Bool
 is_undefined_use reads d f = is_field tags.PackageConcluded f && not (is_no_licence f.entry.value)
     && uses_undefined d (reads f.entry.value)
@@ -107,16 +113,20 @@ abbrev pub is_bad_digest : FieldAt → Bool
 is_bad_digest f = is_field tags.FileChecksum f && starts_with nat_eq f.entry.value (codes "SHA1:")
     && not (is_sha1 f.entry.value)
 
+-- a verification code of another form (clause 7.9)
 abbrev pub is_bad_code : FieldAt → Bool
 is_bad_code f = is_field tags.VerificationCode f && not (is_code f.entry.value)
 
+-- the state of a code that isn't that of the files
 abbrev pub is_differing : CodeState → Bool
 is_differing states.Differs = true
 is_differing _ = false
 
+-- the code of the package that the field belongs to
 abbrev pub differs : (ℕ → CodeState) → FieldAt → Bool
 differs state f = is_field tags.VerificationCode f && is_differing (state (f.packages - 1))
 
+-- FilesAnalyzed of a package (clause 7.8), if it has that field
 abbrev pub flag_of : Option PackageText → Option (List ℕ)
 flag_of None = None
 flag_of (Some p) = p.files_analyzed
@@ -126,8 +136,10 @@ abbrev pub is_unwanted_code : DocumentText → FieldAt → Bool
 is_unwanted_code d f = is_field tags.VerificationCode f
     && is_unanalyzed (flag_of (slice_get d.packages (f.packages - 1)))
 
+-- `true` or `false` in any case
 abbrev pub is_flag : List ℕ → Bool
 is_flag value = bytes_eq (folded value) (codes "true") || bytes_eq (folded value) (codes "false")
 
+-- FilesAnalyzed with another value, which counts as true
 abbrev pub is_bad_flag : FieldAt → Bool
 is_bad_flag f = is_field tags.FilesAnalyzed f && not (is_flag f.entry.value)

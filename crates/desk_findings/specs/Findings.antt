@@ -48,13 +48,16 @@ missing_of_document d =
     ++ (noted (is_none (value_of tags.Creator d.entries)) 1 (kinds.MissingField missing.Creator)
     ++ noted (is_none (value_of tags.Created d.entries)) 1 (kinds.MissingField missing.Created))
 
+-- PackageDownloadLocation (clause 7.7), at the line where the package begins
 abbrev pub missing_of_package : PackageText → List Finding
 missing_of_package p = noted (is_none p.download_location) p.line
     (kinds.MissingField missing.DownloadLocation)
 
+-- a FileChecksum with a SHA1 (clause 8.4), at the line where the file begins
 abbrev pub missing_of_file : FileText → List Finding
 missing_of_file f = noted (is_none f.sha1) f.line (kinds.MissingField missing.Checksum)
 
+-- ExtractedText (clause 10.2), at the line where the licence begins
 abbrev pub missing_of_extracted : ExtractedText → List Finding
 missing_of_extracted x = noted (is_none x.text) x.line (kinds.MissingField missing.ExtractedText)
 

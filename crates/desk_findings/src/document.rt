@@ -332,8 +332,8 @@ fn all_findings(
     Ok(found)
 }
 
-/// Everything in a document that isn't as the standard has it, by line, by kind, and for missing
-/// fields in the order of `MissingField`. Licence fields are read by the profile of operators.
+/// Every deviation of a document from the standard, by line, by kind, and for missing fields in the
+/// order of `MissingField`. Licence fields are read by the profile of operators.
 pub fn findings_in(
     alloc: Global,
     document: &Document,

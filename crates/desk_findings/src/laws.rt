@@ -8,8 +8,7 @@
 //! document ships is defined by the least set of elements: `what_ships_is_one_list` says that there
 //! is exactly one.
 //!
-//! The sections of a document are one cutting, whichever definition cuts
-//! (`sections_are_one_cutting`).
+//! Every definition cuts a document into the same sections (`sections_are_one_cutting`).
 
 pub mod cutting;
 

@@ -1,14 +1,14 @@
-//! What in a document isn't as SPDX 2.3 has it, but is no fault: unknown tags, licence fields
+//! Every deviation of a document from SPDX 2.3 that isn't a fault: unknown tags, licence fields
 //! without an expression, codes that differ, relationships that lead nowhere, and the rest of
 //! `FindingKind`.
 //!
 //! `findings_in` returns them all, by line and by kind, and `findings` does so with operators in
 //! capitals. The definition `AreFindings` of `specs/Findings.antt` lists each kind in the
-//! standard's words; which values are licence expressions by a profile of operators is given by a
-//! reading (`IsReading`).
+//! standard's words; a reading (`IsReading`) says which values are licence expressions by a profile
+//! of operators.
 //!
-//! `reading_laws` and `laws` say that what documents say is defined for each of them: all bytes
-//! have a reading, what ships is one list, and digests have a code.
+//! `reading_laws` and `laws` say that the meaning of a document is always defined: all bytes have a
+//! reading, what ships is one list, and digests have a code.
 #![tactic(auto)]
 
 mod document;

@@ -17,7 +17,7 @@ use desk_model::{Finding, FindingKind, MissingField};
 use desk_tagvalue::{Document, Edge, Entry, Extracted, FileEntry, Package};
 use std::alloc::AllocError;
 
-// Whether an identifier of the document names no element.
+// Whether an identifier in the document names no element.
 fn is_lost(elements: &Elements, id: &str) -> bool
     ensures { (d : DocumentText) → Notes d elements.now → result ≡ is_lost d id.now }
 {

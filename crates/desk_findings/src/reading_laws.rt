@@ -6,13 +6,13 @@
 //! relation, `Spells` of `desk_tagvalue`: a document or a fault. `one_reading` and `one_document`
 //! of those crates say that there is at most one such answer, which would also be true of a
 //! relation that never holds. The laws here say that there is one. So there is a function that
-//! gives what bytes spell, and what is claimed for each such function is claimed for something.
+//! gives what bytes spell, and a claim about each such function isn't empty.
 //!
-//! None of the readers' code is used: the answers are found from the definitions (SPDX 2.3, clause
-//! 4.4), by cases that a test decides. A text has a first line; the line is bare or not, has a tag
-//! and a colon or not, its value begins with `<text>` or not, a `</text>` follows or not, and only
-//! blanks follow that or not. Each case is a piece with a shorter rest, or a fault. Whether bytes
-//! are UTF-8 is decided by std's own test.
+//! The readers' code isn't used: the answers are found from the definitions (SPDX 2.3, clause 4.4),
+//! by cases that a test decides. A text has a first line; the line is bare or not, has a tag and a
+//! colon or not, its value begins with `<text>` or not, a `</text>` follows or not, and only blanks
+//! follow that or not. Each case is a piece with a shorter rest, or a fault. Whether bytes are
+//! UTF-8 is decided by std's own test.
 
 ghost use Rattle.std.specs.Prelude.{◌≡◌, ◌↔◌, ℕ, List, Option, Result};
 ghost use Rattle.desk_fields.specs.declared.fault.DocFault.{DocFault};
@@ -38,7 +38,7 @@ pub fn one_cutting_of_a_text()
         → IsCutting line text a f → IsCutting line text b g → (a ≡ b) × (f ≡ g) }
 {}
 
-/// What is read of a text is what its cutting says.
+/// What a text says is what its cutting says.
 pub fn reading_is_cutting()
     ensures { (line : ℕ) (text : List ℕ) (r : Result (List FieldText) DocFault) → Reads line text r
         ↔ ((cuts : List Cut) × (fault : Option DocFault) × IsCutting line text cuts fault

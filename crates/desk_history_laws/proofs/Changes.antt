@@ -32,7 +32,7 @@ use Rattle.desk_model.specs.declared.state.Word.TheVariants as word
 use Rattle.desk_model.specs.declared.command.Command.{Command}
 use Rattle.desk_model.proofs.Lists.{all_pass}
 use Rattle.desk_history.proofs.Members.{from_flat_map, from_map, in_cases}
-use Rattle.desk_history.proofs.Queries.{changes-found}
+use Rattle.desk_history.proofs.Moving.{changes-found}
 use Rattle.desk_history.proofs.Distinct.{from_filter}
 use Rattle.desk_history.proofs.Rows.{filter-map, find-map}
 use Rattle.desk_history.proofs.Moving.{length-change_rows}

@@ -27,6 +27,7 @@ last_given f h = last_or None (given f h)
 
 -- Catalogues
 
+-- the row of a numbered catalogue text
 abbrev pub revision_row : ℕ × List ℕ → CatalogueRow
 revision_row load = record { revision = load.0; body = load.1 }
 
@@ -36,10 +37,12 @@ rules_of w row = map (rule_row row.revision) (rules_in (result_ok (w.catalogue r
 
 -- Documents
 
+-- the bytes that an Import brings, and the profile that they are read by
 abbrev pub imported : Command → Option (List ℕ × Profile)
 imported (Import bytes profile) = Some (bytes, profile)
 imported _ = None
 
+-- the row of numbered bytes, with the namespace that they give
 abbrev pub document_row : Readings → ℕ × (List ℕ × Profile) → DocumentRow
 document_row w read = record {
   number = read.0;
@@ -52,6 +55,7 @@ document_row w read = record {
 abbrev pub packages_of : Readings → DocumentRow → List PackageRow
 packages_of w row = map (package_row row.number) (packages_in (result_ok (w.document row.bytes)))
 
+-- its references, each with its extracted text
 abbrev pub references_of : Readings → DocumentRow → List ExtractedRow
 references_of w row = map (extracted_row row.number)
     (references_in (result_ok (w.document row.bytes)))
@@ -63,6 +67,7 @@ abbrev pub opens : List ℕ → Command → Bool
 opens r (OpenRelease r' form) = bytes_eq r' r
 opens r _ = false
 
+-- a command that freezes the release, on whichever day
 abbrev pub freezes : List ℕ → Command → Bool
 freezes r (Freeze r' day) = bytes_eq r' r
 freezes r _ = false

@@ -12,30 +12,39 @@ use Rattle.desk_model.specs.declared.row.PackageRow.{PackageRow}
 use Rattle.desk_model.specs.declared.row.RuleRow.{RuleRow}
 use Rattle.desk_history.specs.Laws.{AreDistinct, key_of}
 
+-- a rule by revision, term and form
 abbrev pub rule_key : RuleRow → ℕ × List ℕ × List ℕ
 rule_key row = (row.revision, row.term, row.form)
 
+-- a package by document and id
 abbrev pub package_key : PackageRow → ℕ × List ℕ
 package_key row = (row.document, row.id)
 
+-- an extracted text by document and reference
 abbrev pub extracted_key : ExtractedRow → ℕ × List ℕ
 extracted_key row = (row.document, row.reference)
 
+-- a conclusion by document and package
 abbrev pub conclusion_key : ConclusionRow → ℕ × List ℕ
 conclusion_key row = (row.document, row.package_id)
 
+-- an adoption by document and reference
 abbrev pub adoption_key : AdoptionRow → ℕ × List ℕ
 adoption_key row = (row.document, row.reference)
 
+-- an attached document by release and number
 abbrev pub attached_key : AttachedRow → List ℕ × ℕ
 attached_key row = (row.release, row.document)
 
+-- a chosen term by release, document, package and term
 abbrev pub choice_key : ChoiceRow → List ℕ × ℕ × List ℕ × List ℕ
 choice_key row = (row.release, row.document, row.package_id, row.term)
 
+-- a frozen term by release, document, package and term
 abbrev pub frozen_key : FrozenRow → List ℕ × ℕ × List ℕ × List ℕ
 frozen_key row = (row.release, row.document, row.package_id, row.term)
 
+-- a change by duty and step
 abbrev pub change_key : ChangeRow → ℕ × ℕ
 change_key row = (row.duty, row.step)
 

@@ -1,6 +1,6 @@
 //! The tables of every recorded history are sound: they meet all ten conditions of an audit
-//! (`desk_snapshot`). So an audit finds nothing in what a desk wrote, whatever was recorded, and
-//! anything that it finds was written by something else.
+//! (`desk_snapshot`). So an audit finds no fault in what a desk wrote, whatever was recorded, and
+//! anything that it does find was written by something else.
 //!
 //! The ten conditions are laws of `snapshots`. Two of them require something of the reading of
 //! texts; the law here says that each right reading has it.

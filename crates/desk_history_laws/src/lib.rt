@@ -1,8 +1,8 @@
 //! Laws of the recorded history, of what texts say and of what an audit requires, each the contract
 //! of a function with an empty body.
 //!
-//! The definitions of `desk_model` go through the commands from the newest to the oldest. Here the
-//! same is said by filters and last entries, with the commands in the order in which they were
+//! The definitions of `desk_model` go through the commands from the newest to the oldest. The laws
+//! here say the same by filters and last entries, with the commands in the order in which they were
 //! recorded: which documents, revisions and rules there are, which choices, conclusions and
 //! adoptions are in force, and how each duty was moved. The rows of duties and of frozen terms are
 //! described in both directions, with each field named; a frozen release's choices are its frozen
@@ -287,9 +287,9 @@ pub fn bills_list_what_was_chosen()
 {}
 
 /// No two rows of a table of a recorded history have the same key, by each right reading of texts:
-/// a namespace is imported once, a document is attached to a release once, a name is opened once
-/// and at a place of its own, and a later conclusion, adoption or choice replaces the earlier one.
-/// So each key that a database keeps unique occurs once.
+/// a namespace is imported once, a document is attached to a release once, a name is opened once,
+/// at its own place, and a later conclusion, adoption or choice replaces the earlier one. So each
+/// key that a database keeps unique occurs once.
 pub fn keys_stand_once()
     ensures { (w : Readings) (h : List Command) → AreRight w → IsHistory w h
         → HaveOwnKeys (tables w h) }

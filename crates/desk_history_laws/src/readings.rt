@@ -74,7 +74,7 @@ pub fn one_right_reading()
         → v.findings profile bytes ≡ w.findings profile bytes }
 {}
 
-/// What a right reading calls minimal is a minimal set of terms for the expression that the text
+/// If a right reading calls terms minimal, they are a minimal set for the expression that the text
 /// spells by the same profile of operators.
 pub fn choices_are_minimal_sets()
     ensures { (w : Readings) → AreRight w
@@ -129,7 +129,7 @@ pub fn right_readings_list_ids()
 /// A right reading prints the term that a text spells, which is well formed. What it says about a
 /// printed term is true of the term: the reference that it names is its key, if that is a
 /// reference, and otherwise the id of its licence is its key; its exception is the term's own; it
-/// is a licence alone if its key is a licence id and it has neither plus nor exception; and adopted
+/// is a plain licence if its key is a licence id and it has neither plus nor exception; and adopted
 /// as such a licence it is the term of that id, without a plus, with its own exception (SPDX 2.3,
 /// Annex D.2 to D.4).
 pub fn readings_speak_of_terms()
@@ -159,23 +159,22 @@ pub fn expressions_have_no_fault()
         → w.is_expression profile text ≡ is_none (w.expression_fault profile text) }
 {}
 
-/// What a right reading lists for an expression are all its minimal sets, each once and in the
-/// order of sets, and nothing else; or else it reports that the expression has more than 128 terms,
-/// or that it has no more than that, but a front with more than 64 minimal sets.
+/// What a right reading lists for an expression is all its minimal sets, each once and in the order
+/// of sets, and nothing else; otherwise it reports that the expression has more than 128 terms, or
+/// that it has no more than these, but a front with more than 64 minimal sets.
 pub fn listings_are_all_minimal_sets()
     ensures { (w : Readings) → AreRight w → (profile : Profile) (text : List ℕ)
         → Lists profile text (w.alternatives profile text) }
 {}
 
 /// The cheapest set of a right reading is the least of all sets, minimal or not, under which the
-/// expression is true and whose terms have costs; the reading reports none if there is no such set.
+/// expression is true and whose terms have costs; the reading reports none if no such set exists.
 pub fn cheapest_sets_are_least()
     ensures { (w : Readings) → AreRight w → (profile : Profile) (text : List ℕ) (cost : List ℕ
         → Option ℕ) → Prices profile text cost (w.cheapest profile text cost) }
 {}
 
-/// The findings of a document are one list, and there is one, however texts are read as
-/// expressions.
+/// A document has exactly one list of findings, however texts are read as expressions.
 pub fn findings_are_one_list()
     ensures some { (reads : List ℕ → Option Tree) (d : DocumentText) → (found : List Finding)
         × AreFindings reads d found }

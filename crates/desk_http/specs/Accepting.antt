@@ -16,6 +16,7 @@ abbrev pub failures : Result Served ServeFault → ℕ
 failures (Ok served) = 0
 failures (Err fault) = 1
 
+-- how many connections failed, by the result of serving: none if it is Ok
 abbrev pub failed_in : Result (Unit {0}) ℕ → ℕ
 failed_in (Ok done) = 0
 failed_in (Err failed) = failed

@@ -32,10 +32,12 @@ pub record Replied : Type 0 where
   pub bytes : List ℕ
   pub told : Told
 
+-- a connection before others, if it got a reply
 abbrev pub with_reply : Option ℕ → List ℕ → Option Told → List Replied → List Replied
 with_reply port bytes None more = more
 with_reply port bytes (Some told) more = record { port = port; bytes = bytes; told = told } ∷ more
 
+-- the connections that got one, in their order
 abbrev pub replied : List Connection → List Replied
 replied [] = []
 replied (c ∷ cs) = with_reply c.port c.bytes c.told (replied cs)
@@ -47,6 +49,7 @@ line_of (Act c) = line.Act c
 line_of (Ask q shape) = line.Ask q
 line_of _ = line.BadCommand
 
+-- the reply of the desk if it was asked, otherwise that to a line that is no request
 abbrev pub line_reply : Reply → script_reply.Reply
 line_reply (reply.Became o shape short) = script.Became o
 line_reply _ = script.NoRequest
@@ -69,6 +72,7 @@ pub record IsLine (c : Replied) (q : json_request.Request)
   pub is_line : IsLineOf c.port c.bytes reply q
   pub is_reply : p ≡ line_reply reply
 
+-- each of these connections is a line with this request and this reply
 abbrev pub AreLines : List Replied → List json_request.Request → List script_reply.Reply → Type 0
 AreLines [] [] [] = Unit {0}
 AreLines (c ∷ cs) (q ∷ qs) (p ∷ ps) = IsLine c q p × AreLines cs qs ps

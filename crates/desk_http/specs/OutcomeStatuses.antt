@@ -23,6 +23,8 @@ refusal_status number =
     if is_absent number then status.NotFound else if is_conflict number then status.Conflict
     else status.UnprocessableContent
 
+-- the status of an outcome: 200 for an answer, that of its number for a refusal, 503 without
+-- memory, 500 if the store failed (RFC 9110, section 15)
 abbrev pub outcome_status : Outcome → Status
 outcome_status (Answered (Refused why)) = refusal_status (refusal_number why)
 outcome_status (Answered answer) = status.Ok

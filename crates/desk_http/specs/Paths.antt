@@ -10,6 +10,7 @@ path_of target = before_first (λ b. b == 63) target
 abbrev pub before_slash : List ℕ → List ℕ
 before_slash path = before_first (λ b. b == 47) path
 
+-- nothing if there is no slash
 abbrev pub after_slash : List ℕ → List ℕ
 after_slash path = after_first (λ b. b == 47) path
 

@@ -26,6 +26,7 @@ use Rattle.serde_json.specs.Written.{compact_text}
 abbrev pub Content : Type 0
 Content = List ℕ × List ℕ
 
+-- a body that is JSON (RFC 8259, section 11)
 abbrev pub json : List ℕ → Content
 json body = (codes "application/json", body)
 
@@ -41,6 +42,7 @@ head_bytes status media_type length =
     ++ (codes "\r\nContent-Length: " ++ (decimal length
     ++ codes "\r\nConnection: close\r\n\r\n")))))
 
+-- the whole reply: its head, and the body right after the empty line
 unfoldable pub reply_bytes : Told → List ℕ
 reply_bytes (status, (media_type, body)) = head_bytes status media_type (length body) ++ body
 

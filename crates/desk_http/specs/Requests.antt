@@ -55,6 +55,7 @@ shown_request shown.Notices path = Ask (query.Bill (part_at 2 path)) Notices
 shown_request shown.DutyTable path = Ask (query.Duties (part_at 2 path)) Csv
 shown_request shown.Changes path = with_number (part_at 2 path) (λ n. query.Changes n)
 
+-- the request of a route: what a POST makes of its body, or a GET of its path
 abbrev pub route_request : Option Route → List ℕ → List ℕ → Request
 route_request None path body = NoRoute
 route_request (Some (Post what)) path body = posted_request what body

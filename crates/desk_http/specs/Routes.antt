@@ -19,6 +19,7 @@ abbrev pub with_scan : Result Scan InsertError → Route → RowsOf (RouteOf Rou
 with_scan (Ok s) route rows = placed ((route_from s route).pattern, route_from s route) rows
 with_scan (Err e) route rows = rows
 
+-- those rows with this pattern, which leads to this route
 abbrev pub with_route : List ℕ → Route → RowsOf (RouteOf Route) → RowsOf (RouteOf Route)
 with_route pattern route rows = with_scan (parse_route pattern) route rows
 
@@ -27,6 +28,7 @@ abbrev pub with_rows : List RouteRow → RowsOf (RouteOf Route) → RowsOf (Rout
 with_rows [] rows = rows
 with_rows (row ∷ more) rows = with_rows more (with_route row.path.now row.route rows)
 
+-- the desk's routes; a name in braces is one part of a path, without a slash
 unfoldable pub desk_routes : RowsOf (RouteOf Route)
 desk_routes =
     with_route (codes "/duties/{n}/changes") (Get shown.Changes)

@@ -28,6 +28,7 @@ use Rattle.desk_model.specs.declared.command.StoreFault.{StoreFault}
 use Rattle.desk_script.specs.Replies.{Replies}
 use Rattle.desk_script.specs.declared.answer.Reply.TheVariants as script
 
+-- the method is GET (RFC 9110, section 9.3.1), in capitals: methods compare with case
 abbrev pub is_get : List ℕ → Bool
 is_get method = bytes_eq method (codes "GET")
 

@@ -21,17 +21,17 @@ pub trait Accept {
     /// What a connection is written to.
     type Writer: Write + Drop;
 
-    /// What it is to accept a connection, or to fail to.
+    /// What it means to accept a connection, or to fail to.
     ghost accepts: { Self → Option (Self.Reader × Self.Writer) → Self → Type 0 };
 
-    /// What it is to get one back that ended so.
+    /// What it means to get one back that ended in this way.
     ghost ends: { Self → Self.Reader × Self.Writer → Result Served ServeFault → Self → Type 0 };
 
-    /// Waits for a connection, and accepts it. If there is none to be had, that was reported.
+    /// Waits for a connection, and accepts it. If it returns none, it has reported the failure.
     fn accept(&mut self) -> Option<(Self::Reader, Self::Writer)>
         ensures { accepts self.old result self.new };
 
-    /// Takes a connection back that ended.
+    /// Takes back a connection that ended.
     fn ended(
         &mut self,
         connection: (Self::Reader, Self::Writer),
@@ -40,7 +40,7 @@ pub trait Accept {
         ensures { ends self.old connection ending self.new };
 }
 
-// How many failures an ending is.
+// How many failures an ending counts as.
 fn failures(ending: &Result<Served, ServeFault>) -> u32
     ensures count { result ≡ failures ending.now }
     ensures one { result ≤ 1 }
@@ -51,7 +51,7 @@ fn failures(ending: &Result<Served, ServeFault>) -> u32
     }
 }
 
-// Serves the next connection, and returns how many failures that is.
+// Serves the next connection, and returns how many failures that counts as.
 fn serve_next<D: Desk, A: Accept>(
     alloc: Global,
     routes: &mut RouteTable,
@@ -74,7 +74,7 @@ fn serve_next<D: Desk, A: Accept>(
     failed
 }
 
-/// Serves this many connections to a port, one after another, and goes on after those that fail.
+/// Serves this many connections to a port, one after another, and continues after those that fail.
 /// The requests are answered as the lines of a script are (`connections_are_lines`).
 ///
 /// # Errors

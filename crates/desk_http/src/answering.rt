@@ -90,7 +90,7 @@ fn answer_bytes<D: Desk>(
     reply_for(desk, wanted)
 }
 
-/// Whether bytes are barred from a desk at a port: a browser sent them for a page of elsewhere.
+/// Whether bytes are barred from a desk at a port: a browser sent them for a page from elsewhere.
 fn is_barred(port: Option<u16>, bytes: &[u8]) -> bool
     ensures { MatchBool result (IsBarred port bytes.now) (¬ (IsBarred port bytes.now)) }
 {

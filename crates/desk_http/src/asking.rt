@@ -23,7 +23,7 @@ pub enum Request {
     Ask(Query, Shape),
     /// The method and the path lead nowhere.
     NoRoute,
-    /// The body is no request.
+    /// The body isn't a request.
     BadCommand,
     /// The body is a catalogue that isn't UTF-8.
     NotText,
@@ -45,16 +45,16 @@ pub enum Reading<'a> {
 pub enum Reply {
     /// The outcome of its command or query, the shape of an answer, and whether it was a GET.
     Became(Outcome, Shape, bool),
-    /// Its bytes are no request, and are refused with this status.
+    /// Its bytes aren't a request, and are refused with this status.
     Bad(Status),
     /// Its method and path lead nowhere.
     NoRoute,
-    /// Its body is no request.
+    /// Its body isn't a request.
     BadCommand,
     /// Its catalogue isn't UTF-8.
     NotText,
     /// No memory was left for it.
     Memory,
-    /// A browser made it for a page of elsewhere.
+    /// A browser made it for a page from elsewhere.
     Elsewhere,
 }

@@ -1,8 +1,9 @@
 //! The desk over HTTP (RFC 9110, RFC 9112): bytes in, bytes out, one request for each connection.
 //!
-//! - `receive` reads from a reader until it is settled what the bytes begin with (`frame` of
-//!   `desk_http_head`), whatever pieces they come in, and no further. It looks at the bytes again only if that can change something, so many small pieces
-//!   cost no more than their number. `send` writes bytes; if it fails, it wrote a prefix of them.
+//! - `receive` reads from a reader, in whatever pieces the bytes come, until it is settled what
+//!   they begin with (`frame` of `desk_http_head`), and no further. It looks at the bytes again
+//!   only if that can change something, so many small pieces cost no more than their number. `send`
+//!   writes bytes; if it fails, it wrote a prefix of them.
 //! - `RouteTable` is the table of routes, one row for each: its method, its pattern and what it
 //!   asks for. `RouteTable::route_of` looks up a method and a path with `matchit`, without percent
 //!   decoding. The same table is in `specs/Routes.antt`.
@@ -13,16 +14,16 @@
 //!   of refusals. Its body is the JSON line of `desk_json` or, if they are asked for, the notices
 //!   or the table of duties of `desk_report` (`specs/Replies.antt`).
 //! - `message_of` returns what is written for a reply, in two parts: a long body isn't copied after
-//!   its head. Three replies need no memory: that there was none for a request, that there was none
-//!   for the text of a reply, and that the store failed.
+//!   its head. Three replies need no memory: no memory for a request, no memory for the text of a
+//!   reply, and a failure of the store.
 //! - `serve_one` reads a request, has the desk answer it and writes the reply
 //!   (`specs/Serving.antt`). What it replies depends on the bytes, not on how they were cut.
 //!   Nothing is written if no byte came.
 //! - `serve_at` does the same for one of many connections to a port, which share the table of
-//!   routes. A request that a browser made for a page of elsewhere gets a reply of its own, 403, and
-//!   reaches nothing of the desk.
-//! - `serve` serves so many connections one after another, which an `Accept` accepts and gets back
-//!   (`specs/Accepting.antt`), and counts those that fail.
+//!   routes. A request that a browser made for a page from elsewhere gets the reply 403, and
+//!   doesn't reach the desk.
+//! - `serve` serves a given number of connections one after another, which an `Accept` accepts and
+//!   gets back (`specs/Accepting.antt`), and counts those that fail.
 //!
 //! `Expect` is ignored.
 //!

@@ -16,10 +16,15 @@ use std::alloc::{AllocError, Global};
 /// What is written for a reply: its bytes in two parts, or one of the replies that need no memory.
 #[derive(Drop)]
 pub enum Message {
+    /// A status, and the reply's bytes in two parts, to be written one after the other.
     Made(Status, Vec<u8>, Vec<u8>),
+    /// No memory was left, and nothing was changed.
     NoMemory,
+    /// No memory was left for the text of the reply; the request may have been applied.
     NoText,
+    /// The file that keeps the desk failed.
     NoStore,
+    /// A browser sent the request for a page from elsewhere, and it wasn't applied.
     FromElsewhere,
 }
 
@@ -109,7 +114,7 @@ fn content_of(alloc: Global, outcome: &Outcome, shape: Shape) -> Result<Content,
 }
 
 /// The bytes of the reply to an outcome that is written in a shape. Refusals and faults are JSON in
-/// each shape, and so is an answer that has no other.
+/// each shape, and so is an answer that has no other shape.
 pub fn reply(alloc: Global, outcome: &Outcome, shape: Shape) -> Result<Vec<u8>, AllocError>
     ensures { IfOk result (λ bytes. bytes.items ≡ reply_bytes (told_of outcome.now shape)) }
 {
@@ -147,7 +152,7 @@ pub fn no_store() -> &'static str
     "HTTP/1.1 500 Internal Server Error\r\nContent-Type: application/json\r\nContent-Length: 17\r\nConnection: close\r\n\r\n{\"fault\":\"store\"}"
 }
 
-/// The reply to a request that a browser made for a page of elsewhere.
+/// The reply to a request that a browser made for a page from elsewhere.
 pub fn from_elsewhere() -> &'static str
     ensures { result.now ≡ reply_bytes from_elsewhere }
 {
@@ -161,7 +166,7 @@ fn not_toml_line() -> &'static str
     "{\"at\":[1],\"name\":\"BadCatalogue\",\"refused\":1}"
 }
 
-/// The message of a reply for which the desk wasn't asked.
+/// The message of a reply that doesn't involve the desk.
 fn unasked_reply(alloc: Global, status: Status, body: &str) -> Message
     ensures { (told : Told) × IsMessage told result
         × ((told ≡ (status, json body.now)) ⊎ (told ≡ no_memory)) }

@@ -62,7 +62,7 @@ fn write_reply<W: Write>(alloc: Global, writer: &mut W, reply: &Reply) -> Result
 
 /// Serves the one request of a connection: reads it, has the desk answer it, and writes the reply.
 /// The table of routes is the one that earlier connections used. With a port, a request that a
-/// browser made for a page of elsewhere is barred.
+/// browser made for a page from elsewhere is barred.
 fn serve_with<D: Desk, R: Read, W: Write>(
     alloc: Global,
     routes: &mut RouteTable,
@@ -94,7 +94,7 @@ fn serve_with<D: Desk, R: Read, W: Write>(
 /// The reply depends on the bytes, not on the pieces in which they come: it is 400 if they end
 /// within a request, and there is none if no byte came. A command is applied once, or not at all if
 /// the reply is 503 with `memory`. After a fault of the reader, or too many reads, nothing was
-/// written and the desk is as it was; after a fault of the writer a prefix of the reply was
+/// written and the desk is unchanged; after a fault of the writer a prefix of the reply was
 /// written, and an accepted command stays applied. The reader isn't read past the piece that
 /// completes the request.
 pub fn serve_one<D: Desk, R: Read, W: Write>(
@@ -117,8 +117,8 @@ pub fn serve_one<D: Desk, R: Read, W: Write>(
 }
 
 /// Serves the one request of a connection to a port as `serve_one` does, with the table of routes
-/// that earlier connections used. A request that a browser made for a page of elsewhere is replied
-/// 403, whatever it asks for, and the desk stays as it is.
+/// that earlier connections used. A request that a browser made for a page from elsewhere is
+/// answered with 403, whatever it asks for, and the desk is unchanged.
 pub fn serve_at<D: Desk, R: Read, W: Write>(
     alloc: Global,
     routes: &mut RouteTable,

@@ -9,7 +9,9 @@ use std::alloc::{AllocError, Global};
 /// What a path leads to: with POST a request in the body, with GET an answer.
 #[derive(Clone, Copy)]
 pub enum Route {
+    /// With POST: a request, made from the body.
     Post(Posted),
+    /// With GET: an answer to a question made from the path.
     Get(Shown),
 }
 
@@ -27,16 +29,23 @@ pub enum Posted {
 /// What is shown.
 #[derive(Clone, Copy)]
 pub enum Shown {
+    /// The findings of a document.
     Findings,
+    /// The minimal sets of terms for a package.
     Alternatives,
+    /// The cheapest of these sets in a form.
     Cheapest,
+    /// A release, with the packages that it ships.
     Release,
+    /// The duties of a release, as JSON.
     Duties,
+    /// How many duties of a release are in each state.
     Totals,
     /// The notices of a release, as a text.
     Notices,
     /// The duties of a release, as comma-separated values.
     DutyTable,
+    /// The changes of a duty.
     Changes,
 }
 

@@ -10,6 +10,7 @@ use Rattle.desk_http_head.specs.declared.fields.BodyLength.TheVariants.{Unsaid, 
 abbrev pub Field : Type 0
 Field = List ℕ × List ℕ
 
+-- no field says how long the body is
 abbrev pub unsaid : BodyLength
 unsaid = Unsaid
 
@@ -17,6 +18,7 @@ unsaid = Unsaid
 abbrev pub is_named : List ℕ → List ℕ → Bool
 is_named wanted name = bytes_eq (map to_ascii_lowercase name) (map to_ascii_lowercase wanted)
 
+-- a field of this name is there, whatever its value
 abbrev pub has_field : List ℕ → List Field → Bool
 has_field name [] = false
 has_field name (field ∷ fields) = is_named name field.0 || has_field name fields
@@ -38,6 +40,7 @@ agreed Unsaid (Some n) = Bytes n
 agreed (Bytes m) (Some n) = if m == n then Bytes m else Bad
 agreed Bad (Some n) = Bad
 
+-- what is known of the body's length after one more field
 abbrev pub after_field : BodyLength → Field → BodyLength
 after_field said field = if is_named (codes "content-length") field.0
     then agreed said (number_text field.1) else said

@@ -33,6 +33,8 @@ abbrev pub with_body : List ℕ → List ℕ → ℕ → List ℕ → Framed
 with_body method target n after =
     if nat_le n (length after) then whole method target (take n after) (drop n after) else part
 
+-- a request whose head says this of its body; a length over the limit is refused before the body is
+-- there
 abbrev pub by_length : List ℕ → List ℕ → BodyLength → List ℕ → Framed
 by_length method target Bad after = bad BadRequest
 by_length method target Unsaid after = with_body method target 0 after
@@ -45,6 +47,7 @@ judged method target fields after =
     if has_field (codes "transfer-encoding") fields then bad NotImplemented
     else by_length method target (length_from unsaid fields) after
 
+-- what bytes begin with, by their head and the bytes after it
 abbrev pub after_head : RequestHead → List ℕ → Framed
 after_head h after = judged h.method h.target (map name_and_value h.fields) after
 

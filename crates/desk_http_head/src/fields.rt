@@ -49,7 +49,7 @@ fn agree(said: BodyLength, number: Option<u64>) -> BodyLength
     }
 }
 
-/// Whether a name is this one, in which case doesn't count.
+/// Whether a name is this one, ignoring case.
 pub(crate) fn has_name(name: &[u8], wanted: &[u8]) -> bool
     ensures { result ≡ is_named wanted.now name.now }
 {

@@ -33,9 +33,13 @@ pub enum Framing<'a> {
     Bad(Status),
     /// A request, and the bytes after it.
     Whole {
+        /// The method, as it is written.
         method: &'a [u8],
+        /// What the request is for: a path, perhaps followed by a query.
         target: &'a [u8],
+        /// The body, which is empty if the head gives no length.
         body: &'a [u8],
+        /// What came after the request, and is ignored.
         rest: &'a [u8],
     },
 }
@@ -155,8 +159,8 @@ pub fn frame(bytes: &[u8]) -> Framing<'_>
     }
 }
 
-/// Whether the bytes begin with the head of a request that a browser made for a page of elsewhere:
-/// one whose origin isn't the address of a desk at this port.
+/// Whether the bytes begin with the head of a request that a browser made for a page from
+/// elsewhere: one with an origin other than the address of a desk at this port.
 pub fn is_from_elsewhere(bytes: &[u8], port: u16) -> bool
     ensures { MatchBool result (IsFromElsewhere port bytes.now) (¬ (IsFromElsewhere port bytes.now)) }
 {

@@ -1,7 +1,7 @@
 //! The head of a request over HTTP (RFC 9110, RFC 9112): what bytes begin with, and who sent them.
 //!
 //! - `frame` says what the bytes that came so far begin with: a request, something that is refused
-//!   with a status, or part of a request. What it reads is defined over the grammar of `httparse`
+//!   with a status, or part of a request. The answer is defined over the grammar of `httparse`
 //!   (`specs/Framings.antt`) and, once it is settled, doesn't change when more bytes come.
 //! - `is_from_elsewhere` says whether a browser sent the request for a page whose origin isn't the
 //!   desk's own address, by the fields `Origin`, `Sec-Fetch-Site` and `Host` of a head

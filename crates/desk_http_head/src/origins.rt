@@ -8,7 +8,7 @@ ghost use Rattle.desk_http_head.specs.Origins.{rest_after, after_own, is_own, is
 use crate::fields::{has_name, number_of};
 use httparse::spans::HeaderSpan;
 
-/// What follows some bytes at the beginning of a text, in which case doesn't count.
+/// What follows some bytes at the beginning of a text, ignoring case.
 fn rest_after<'a>(front: &[u8], text: &'a [u8]) -> Option<&'a [u8]>
     ensures { option_map (λ rest. rest.now) result ≡ rest_after front.now text.now }
 {
@@ -89,7 +89,7 @@ fn is_foreign_site(value: &[u8]) -> bool
     !(value == b"same-origin".as_slice() || value == b"none".as_slice())
 }
 
-/// Whether a host is none of the desk, whatever its port.
+/// Whether a host isn't one of the desk's, whatever its port.
 fn is_foreign_host(value: &[u8]) -> bool
     ensures { result ≡ is_foreign_host value.now }
 {
@@ -99,7 +99,7 @@ fn is_foreign_host(value: &[u8]) -> bool
     }
 }
 
-/// Whether a field alone shows a page of elsewhere.
+/// Whether a field is enough to show a page from elsewhere.
 fn is_foreign(name: &[u8], value: &[u8], port: u16) -> bool
     ensures { result ≡ is_foreign port (name.now, value.now) }
 {
@@ -122,7 +122,7 @@ fn is_other_address(name: &[u8], value: &[u8], port: u16) -> bool
     has_name(name, b"host") && !is_own(value, port)
 }
 
-/// Whether some field alone shows a page of elsewhere.
+/// Whether some field is enough to show a page from elsewhere.
 fn has_foreign(head: &[u8], fields: &[HeaderSpan], port: u16) -> bool
     requires { All (IsHeaderWithin (length head.now)) fields.now }
     ensures { result ≡ list_any (is_foreign port) (map (header_bytes head.now) fields.now) }
@@ -161,7 +161,7 @@ fn has_other_address(head: &[u8], fields: &[HeaderSpan], port: u16) -> bool
     false
 }
 
-/// Whether these are the fields of a request of elsewhere to a desk at this port.
+/// Whether these are the fields of a request from elsewhere to a desk at this port.
 pub fn are_foreign(head: &[u8], fields: &[HeaderSpan], port: u16) -> bool
     requires { All (IsHeaderWithin (length head.now)) fields.now }
     ensures { result ≡ are_foreign port (map (header_bytes head.now) fields.now) }

@@ -6,15 +6,25 @@ ghost use Rattle.desk_http_head.specs.Statuses.{status_line};
 /// The status of a reply (RFC 9110, section 15).
 #[derive(Clone, Copy, Debug, Drop, PartialEq, Eq)]
 pub enum Status {
+    /// The command was recorded, or the question answered.
     Ok,
+    /// The bytes aren't a request, or their body isn't a request of the desk.
     BadRequest,
+    /// A browser sent the request for a page from elsewhere.
     Forbidden,
+    /// There is no such route, document, package, release or duty.
     NotFound,
+    /// What the desk holds doesn't allow the request.
     Conflict,
+    /// The body is over its limit.
     ContentTooLarge,
+    /// The desk refuses the request for another reason.
     UnprocessableContent,
+    /// The file that keeps the desk failed.
     InternalServerError,
+    /// The body comes in chunks, or in another transfer coding.
     NotImplemented,
+    /// No memory is left.
     ServiceUnavailable,
 }
 

@@ -24,6 +24,7 @@ abbrev pub AreKept : Items → Option (List (List ℕ)) → Type 0
 AreKept items (Some texts) = (items ≡ texts_seen texts) × (are_texts items ≡ true)
 AreKept items None = are_texts items ≡ false
 
+-- the items of an array up to its end, which are kept if they are only texts
 abbrev pub KeepsItems : Option (Items × List Token) → Option (List (List ℕ)) → List Token → Type 0
 KeepsItems taken texts rest = (ds : Items) × (taken ≡ Some (ds, rest)) × AreKept ds texts
 
@@ -46,6 +47,7 @@ abbrev pub KeepsObject : ℕ → Option (Data × List Token) → Members → Lis
 KeepsObject most taken kept rest = (ms : Members) × (taken ≡ Some (object ms, rest))
     × (members_len ms ≤ most) × (spared_members ms ≡ kept)
 
+-- what was taken is no object, or something follows it, or it has more than this many members
 abbrev pub IsNoObject : ℕ → Option (Data × List Token) → Type 0
 IsNoObject most taken = (ms : Members) (rest : List Token) → taken ≡ Some (object ms, rest)
     → rest ≡ [] → most < members_len ms

@@ -22,6 +22,7 @@ spared (string s) = string s
 spared (array ds) = if are_texts ds then array ds else null
 spared (object ms) = null
 
+-- the same for each member of the object; the keys stay
 abbrev pub spared_members : Members → Members
 spared_members no_members = no_members
 spared_members (member key d ms) = member key (spared d) (spared_members ms)

@@ -6,6 +6,7 @@ use Rattle.json.specs.Token.{Token}
 use Rattle.serde_json.specs.Data.{Data, Items, Members}
 use Rattle.serde_json.specs.Read.{of_json, of_items, of_members, converted}
 
+-- the value that the tokens begin with
 abbrev pub data_at : ℕ → List Token → Option (Data × List Token)
 data_at depth tokens = converted of_json (value depth tokens)
 

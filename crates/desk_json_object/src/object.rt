@@ -1,4 +1,4 @@
-//! Reads an object, and leaves out what isn't needed of it.
+//! Reads an object, and leaves out what isn't needed.
 
 ghost use Rattle.std.specs.Prelude.{◌≡◌, ◌≤◌, ◌<◌, ◌∷◌, [], length, Some, None, IfOk, OnOk, option_map};
 ghost use Rattle.json.specs.Reads.{token_of};
@@ -21,7 +21,7 @@ const DEPTH: usize = 127;
 /// Why nothing is read.
 #[derive(Clone, Copy, Drop)]
 enum Unread {
-    /// There is no value, or it is no object with so few members.
+    /// There is no value, or it isn't an object with so few members.
     NoObject,
     /// There is no memory for it.
     Memory,
@@ -49,8 +49,8 @@ impl From<Invalid> for Unread {
     }
 }
 
-// The texts of an array with its next item, whose first token was taken: nothing if it or one
-// before it isn't a text.
+// The texts of an array with its next item, whose first token was taken: nothing if that item or
+// one before it isn't a text.
 fn with_item(
     reader: &mut Reader<'_>,
     texts: Option<TextList>,
@@ -166,7 +166,7 @@ fn read_tokens(alloc: Global, reader: &mut Reader<'_>, most: usize) -> Result<Ob
 
 /// The object whose JSON text the bytes are, if it has at most this many members: texts, numbers
 /// and lists of texts are kept, and any other value is left out. If a key appears twice, the last
-/// value counts.
+/// value wins.
 pub fn read_object(alloc: Global, bytes: &[u8], most: usize) -> Result<Option<Object>, AllocError>
     ensures { IfOk result (λ found. IsSpared most bytes.now (option_map seen found)) }
 {

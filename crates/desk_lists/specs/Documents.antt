@@ -44,16 +44,20 @@ abbrev pub Says : (Profile → List ℕ → Option Tree) → Profile → Result 
 Says reads profile (Ok d) said = SaysOf reads profile d said
 Says reads profile (Err fault) said = (said.name ≡ []) × (said.findings ≡ None)
 
+-- what bytes say that are read as a document in tag-value form, with a profile for its operators
 abbrev pub IsSaid : (Profile → List ℕ → Option Tree) → Profile → List ℕ → Said → Type 0
 IsSaid reads profile bytes said = (read : Result DocumentText DocFault) × Spells bytes read
     × Says reads profile read said
 
+-- a package of the document with this number, shipped or not
 abbrev pub is_package_of : ℤ → StoredPackage → Bool
 is_package_of document row = int_eq row.document document
 
+-- a package that this document ships
 abbrev pub is_shipped_by : ℤ → StoredPackage → Bool
 is_shipped_by document row = int_eq row.document document && int_eq row.shipped (pos 1)
 
+-- the line of a document's row, with what its bytes say
 abbrev pub document_line : Snapshot → StoredDocument → Said → DocumentLine
 document_line snapshot row said = record {
   number = row.number;
@@ -66,6 +70,7 @@ document_line snapshot row said = record {
       (find (is_reading_of row.number) snapshot.reading);
 }
 
+-- the line of a document, whose bytes are read by its own profile
 abbrev pub IsDocumentLine : (Profile → List ℕ → Option Tree) → Snapshot → StoredDocument
     → DocumentLine → Type 0
 IsDocumentLine reads snapshot row line =
@@ -74,9 +79,11 @@ IsDocumentLine reads snapshot row line =
 
 -- the packages of each document are next to each other
 
+-- where the packages of this document are among all, by their documents
 abbrev pub package_of_side : ℤ → StoredPackage → Ordering
 package_of_side document row = int_cmp row.document document
 
+-- this side fits the order of packages, so that those of a document are found by halving
 pub package_of_splits : (document : ℤ) → IsSideOf package_order (package_of_side document)
 package_of_splits document =
     side_by package_order (λ row. row.document) int_cmp int_cmp_total

@@ -26,6 +26,7 @@ use Rattle.desk_lists.specs.declared.titles.Title.{Title}
 abbrev pub is_asked : Option (List ℕ) → List ℕ → Bool
 is_asked asked text = option_map_or (λ wanted. bytes_eq text wanted) asked true
 
+-- the name of a package in a document; empty if the table lacks it
 abbrev pub package_name : Snapshot → ℤ → List ℕ → List ℕ
 package_name snapshot document id = option_map_or (λ row. row.name)
     (find (is_package document id) snapshot.packages) []
@@ -39,6 +40,7 @@ raising_day snapshot number = option_map_or (λ row. row.day)
 abbrev pub last_change : Snapshot → ℤ → Option StoredChange
 last_change snapshot number = find (is_change_of number) (reverse snapshot.changes)
 
+-- the day of a duty's last change, since when it is in its state; empty if it has none
 abbrev pub changing_day : Snapshot → ℤ → List ℕ
 changing_day snapshot number = option_map_or (λ row. row.day) (last_change snapshot number) []
 
@@ -55,6 +57,7 @@ is_past snapshot day row = bytes_eq row.state (duty_state_name duty.Waived)
 abbrev pub is_past_if_asked : Snapshot → Option (List ℕ) → StoredDuty → Bool
 is_past_if_asked snapshot asked row = option_map_or (λ day. is_past snapshot day row) asked true
 
+-- a duty that passes each filter that is given: its release, its code, open, past
 abbrev pub is_wanted : Snapshot → DutyFilter → StoredDuty → Bool
 is_wanted snapshot wanted row =
     is_asked (option_copied wanted.release) row.release
@@ -69,6 +72,7 @@ line_texts snapshot titles row =
     ∷ row.code ∷ title_among row.code titles
     ∷ row.state ∷ raising_day snapshot row.number ∷ changing_day snapshot row.number ∷ []
 
+-- the line of a duty's row, with what other tables and the catalogue say of it
 abbrev pub duty_line : Snapshot → List Title → StoredDuty → DutyLine
 duty_line snapshot titles row = record {
   number = row.number;
@@ -85,6 +89,7 @@ duty_line snapshot titles row = record {
   last_day = waiver_end snapshot row.number;
 }
 
+-- the lines of the duties that are asked for, in the table's order
 abbrev pub lines_wanted : Snapshot → DutyFilter → List DutyLine
 lines_wanted snapshot wanted = map (duty_line snapshot (titles_in_force snapshot))
     (filter (is_wanted snapshot wanted) snapshot.duty)
@@ -94,6 +99,7 @@ abbrev pub raising_order : DutyLine → DutyLine → Ordering
 raising_order = then_cmp (on (λ line. line.raised) (slice_cmp nat_cmp))
     (on (λ line. line.number) int_cmp)
 
+-- it is a total order, as sorting needs
 pub raising_total : IsTotalOrder raising_order
 raising_total = then_total (on_total (λ line. line.raised) nat_list_cmp_total)
     (on_total (λ line. line.number) int_cmp_total)

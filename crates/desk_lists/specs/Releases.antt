@@ -9,9 +9,11 @@ use Rattle.desk_snapshot.specs.declared.rows.StoredDuty.{StoredDuty}
 use Rattle.desk_snapshot.specs.declared.rows.StoredRelease.{StoredRelease}
 use Rattle.desk_lists.specs.declared.lines.ReleaseLine.{ReleaseLine}
 
+-- a duty of the release with this name
 abbrev pub is_duty_of : List ℕ → StoredDuty → Bool
 is_duty_of release row = bytes_eq row.release release
 
+-- a duty of this release in this state
 abbrev pub is_duty_in : List ℕ → DutyState → StoredDuty → Bool
 is_duty_in release state row = bytes_eq row.release release
     && bytes_eq row.state (duty_state_name state)
@@ -26,6 +28,7 @@ totals_among duties release = record {
   withdrawn = count_by (is_duty_in release duty.Withdrawn) duties;
 }
 
+-- the line of a release's row, with the counts of its duties
 abbrev pub release_line : List StoredDuty → StoredRelease → ReleaseLine
 release_line duties row = record {
   name = row.name;

@@ -11,9 +11,12 @@ use std::alloc::{AllocError, Global};
 
 /// What a cell shows.
 #[derive(Clone, Copy)]
-pub(crate) enum Cell<'a> {
+pub enum Cell<'a> {
+    /// This text.
     Text(&'a str),
+    /// A number of a table, which may be negative.
     Number(i64),
+    /// How many there are.
     Count(u64),
 }
 
@@ -68,8 +71,8 @@ fn cell_text(alloc: Global, cell: Cell<'_>) -> Result<Text, AllocError>
     }
 }
 
-// The row of these cells.
-fn row_of(alloc: Global, cells: &[Cell<'_>]) -> Result<Items<Text>, AllocError>
+/// The row of these cells.
+pub fn row_of(alloc: Global, cells: &[Cell<'_>]) -> Result<Items<Text>, AllocError>
     ensures { IfOk result (λ row. row ≡ map cell_text cells.now) }
 {
     let mut row = Vec::new(alloc);

@@ -120,7 +120,7 @@ fn add_row(
 /// A line for each row. Each column but the last is as wide as its widest text, with two blanks
 /// before the next one.
 #[tactic(auto, unfolding(crate::specs::Columns::columns_text))]
-pub(crate) fn columns_text(alloc: Global, rows: &[Items<Text>]) -> Result<Vec<u8>, AllocError>
+pub fn columns_text(alloc: Global, rows: &[Items<Text>]) -> Result<Vec<u8>, AllocError>
     ensures { IfOk result (λ text. text.items ≡ columns_text rows.now) }
 {
     let widths = widths(alloc, rows)?;

@@ -13,6 +13,8 @@
 //! Each list is written as comma-separated values (`specs/CsvTable.antt`) or laid out in columns
 //! for a terminal (`specs/Columns.antt`). The cells of a line are the same in both
 //! (`specs/Cells.antt`). The only error is that no memory is left.
+//!
+//! Other tables are made and laid out in the same way, by `row_of` and `columns_text`.
 #![tactic(auto)]
 
 mod cells;
@@ -27,6 +29,8 @@ mod table;
 mod texts;
 mod titles;
 
+pub use cells::{Cell, row_of};
+pub use columns::columns_text;
 pub use document::documents;
 pub use duty::duties;
 pub use lines::{DocumentLine, DutyFilter, DutyLine, ReleaseLine};

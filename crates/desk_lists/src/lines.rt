@@ -25,7 +25,7 @@ pub struct ReleaseLine {
 pub struct DocumentLine {
     /// Its number, from 1.
     pub number: i64,
-    /// Its name. Empty if its bytes are no document, which no desk has.
+    /// Its name. Empty if its bytes aren't a document, which no desk has.
     pub name: Text,
     /// Its namespace.
     pub namespace: Text,
@@ -33,8 +33,8 @@ pub struct DocumentLine {
     pub packages: u64,
     /// How many of these it ships.
     pub shipped: u64,
-    /// How many findings it has, its licence fields read by its profile. `None` if its bytes are no
-    /// document, which no desk has.
+    /// How many findings it has, its licence fields read by its profile. `None` if its bytes aren't
+    /// a document, which no desk has.
     pub findings: Option<u64>,
     /// The number of the profile that its expressions are read by. Each document of a desk has one.
     pub profile: Option<i64>,
@@ -69,7 +69,7 @@ pub struct DutyLine {
     pub last_day: Option<Text>,
 }
 
-/// Which duties are asked for: those that meet each condition given.
+/// Which duties are asked for: those that meet all given conditions.
 #[derive(Clone, Copy)]
 pub struct DutyFilter<'a> {
     /// Those of this release.

@@ -11,7 +11,7 @@ use desk_findings::findings_in;
 use desk_tagvalue::{DocFault, Document, read};
 use std::alloc::{AllocError, Global};
 
-/// What the bytes of a document say: its name, and how many findings it has. Bytes that are no
+/// What the bytes of a document say: its name, and how many findings it has. Bytes that aren't a
 /// document say nothing.
 #[derive(Drop)]
 pub(crate) struct Said {

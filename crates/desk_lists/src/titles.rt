@@ -94,7 +94,7 @@ fn entries_in(table: &Table) -> &[Value]
     }
 }
 
-// The titles of the duties in a catalogue, none if the text is no catalogue.
+// The titles of the duties in a catalogue, none if the text isn't a catalogue.
 fn catalogue_titles(alloc: Global, text: &str) -> Result<Vec<Title>, AllocError>
     ensures { IfOk result (λ titles. titles.items ≡ catalogue_titles text.now) }
 {

@@ -9,6 +9,7 @@ use Rattle.desk_memory_rows.specs.Holders.{AreHolders}
 use Rattle.desk_sorted.specs.Blocks.{rows_in}
 use Rattle.desk_memory.specs.declared.store.MemStore.{MemStore}
 
+-- the tables that a store in memory keeps, wherever it keeps their rows
 abbrev pub rows_of : MemStore → Tables
 rows_of s = record {
   catalogue = s.catalogue.items;
@@ -27,6 +28,8 @@ rows_of s = record {
   changes = changes_in s.ledger;
 }
 
+-- it holds the tables that its rows, tallies and holders agree with; it is always honest and open,
+-- has no faults of a disk, and a stop leaves nothing of it
 abbrev pub memory_seen : MemStore → Seen (Unit {0})
 memory_seen s = record {
   holds = λ t. (rows_of s ≡ t) × AreKept s.tallies t

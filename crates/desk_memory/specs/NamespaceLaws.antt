@@ -11,13 +11,16 @@ use Rattle.desk_sorted.specs.Sorted.{IsSideOf}
 use Rattle.desk_sorted.specs.Sides.{side_by, alike, texts_meet}
 use Rattle.desk_memory.specs.Namespaces.{is_named, namespace_order, namespace_side}
 
+-- any two namespaces can be compared
 pub namespace_total : IsTotalOrder namespace_order
 namespace_total = on_total (λ entry. entry.namespace) nat_list_cmp_total
 
+-- the entries before that of a namespace come first, then it, then those behind it
 pub namespace_splits : (namespace : List ℕ) → IsSideOf namespace_order (namespace_side namespace)
 namespace_splits namespace = side_by namespace_order (λ entry. entry.namespace) (slice_cmp nat_cmp)
     nat_list_cmp_total (λ x y e. e) namespace
 
+-- two entries with one namespace: neither is before the other
 pub named_alike : (namespace : List ℕ) (x y : NamespacePlace) → is_named namespace x ≡ true
     → is_named namespace y ≡ true → below_by namespace_order x y ≡ false
 named_alike namespace x y e f =

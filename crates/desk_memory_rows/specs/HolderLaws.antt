@@ -12,6 +12,7 @@ use Rattle.desk_sorted.specs.Sides.{side_by, first_less, texts_meet, numbers_mee
 use Rattle.desk_memory_rows.specs.Holders.{held_side, holder_order, holding_side, is_held, is_holding}
 use Rattle.desk_memory_rows.specs.declared.holders.Holder.{Holder}
 
+-- any two holders can be compared
 pub holder_total : IsTotalOrder holder_order
 holder_total =
     then_total (then_total (then_total (on_total (λ row. row.document) nat_cmp_total)
@@ -19,6 +20,7 @@ holder_total =
     (on_total (λ row. row.place) nat_cmp_total))
     (on_total (λ row. row.release) nat_list_cmp_total)
 
+-- in the order of holders those for one package are next to each other
 pub held_splits : (document : ℕ) (id : List ℕ) → IsSideOf holder_order (held_side document id)
 held_splits document id =
     side_by holder_order (λ row. (row.document, row.package_id)) number_cmp number_total
@@ -29,10 +31,12 @@ held_splits document id =
     (slice_cmp nat_cmp y.package_id x.package_id)) (nat_cmp y.place x.place) e))
     (document, id)
 
+-- keys made of a number, a text, a number and a text, compared part by part
 abbrev four_cmp : ℕ × List ℕ × ℕ × List ℕ → ℕ × List ℕ × ℕ × List ℕ → Ordering
 four_cmp = then_cmp (then_cmp (then_cmp (on (λ p. p.0) nat_cmp) (on (λ p. p.1) (slice_cmp nat_cmp)))
     (on (λ p. p.2) nat_cmp)) (on (λ p. p.3) (slice_cmp nat_cmp))
 
+-- the same for the holder of a choice for a package in one release
 pub holding_splits : (document : ℕ) (id : List ℕ) (place : ℕ) (release : List ℕ)
     → IsSideOf holder_order (holding_side document id place release)
 holding_splits document id place release =
@@ -42,6 +46,7 @@ holding_splits document id place release =
     (on_total (λ p. p.3) nat_list_cmp_total))
     (λ x y e. e) (document, id, place, release)
 
+-- a holder is for a package if and only if its side is Equal
 pub held_meets : (document : ℕ) (id : List ℕ) (row : Holder)
     → is_held document id row ≡ is_eq (held_side document id row)
 held_meets document id row =
@@ -49,6 +54,7 @@ held_meets document id row =
     (row.document == document) (bytes_eq row.package_id id) (numbers_meet row.document document)
     (texts_meet row.package_id id)
 
+-- the same for a package in one release
 pub holding_meets : (document : ℕ) (id : List ℕ) (place : ℕ) (release : List ℕ) (row : Holder)
     → is_holding document id place release row ≡ is_eq (holding_side document id place release row)
 holding_meets document id place release row =

@@ -26,6 +26,8 @@ holder_order =
 abbrev pub is_held : ℕ → List ℕ → Holder → Bool
 is_held document id row = (row.document == document) && bytes_eq row.package_id id
 
+-- Less for a holder before those for this package, Equal for these, Greater for a holder behind
+-- them
 abbrev pub held_side : ℕ → List ℕ → Holder → Ordering
 held_side document id row = ordering_then (nat_cmp row.document document)
     (slice_cmp nat_cmp row.package_id id)
@@ -39,6 +41,7 @@ abbrev pub is_holding : ℕ → List ℕ → ℕ → List ℕ → Holder → Boo
 is_holding document id place release row = (is_held document id row && (row.place == place))
     && bytes_eq row.release release
 
+-- the same for the holder of a choice for a package in one release
 abbrev pub holding_side : ℕ → List ℕ → ℕ → List ℕ → Holder → Ordering
 holding_side document id place release row =
     ordering_then (ordering_then (held_side document id row) (nat_cmp row.place place))
@@ -48,6 +51,7 @@ holding_side document id place release row =
 abbrev pub is_holder : List ℕ → ℕ → List ℕ → Holder → Bool
 is_holder release document id row = bytes_eq row.release release && is_held document id row
 
+-- a release at a place, as the holder of a choice for a package
 abbrev pub holder_of : List ℕ → ℕ → ℕ → List ℕ → Holder
 holder_of release place document id = record {
   document = document;
@@ -84,6 +88,7 @@ is_among place rows holder = list_any
 abbrev pub letting_go : ℕ → List ChoiceRow → List Holder → List Holder
 letting_go place rows all = filter (λ holder. not (is_among place rows holder)) all
 
+-- the same for a release that may not be there: then nothing changes
 abbrev pub leaving : Option ℕ → List ChoiceRow → List Holder → List Holder
 leaving None rows all = all
 leaving (Some place) rows all = letting_go place rows all

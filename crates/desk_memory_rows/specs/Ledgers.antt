@@ -77,6 +77,7 @@ pushed (row ∷ rows) groups = more_at (pushed rows groups) (row.duty - 1) row
 abbrev pub place_of : ChangeRow → Place
 place_of row = record { duty = row.duty; state = state_after row.word }
 
+-- a duty's number is from 1 to this many
 abbrev pub is_within : ℕ → Place → Bool
 is_within count place = nat_le 1 place.duty && nat_le place.duty count
 

@@ -23,8 +23,11 @@ use std::cmp::Ordering;
 /// What is chosen for a package in a release.
 #[derive(Clone, Copy)]
 pub struct ByPackage<'a> {
+    /// The name of the release.
     pub release: &'a str,
+    /// The number of the document.
     pub document: u32,
+    /// The SPDXID of the package.
     pub id: &'a str,
 }
 
@@ -49,6 +52,7 @@ impl Sought<ChoiceRow> for ByPackage<'_> {
 /// What is chosen in a release.
 #[derive(Clone, Copy)]
 pub struct ByHolder<'a> {
+    /// The name of the release.
     pub release: &'a str,
 }
 
@@ -66,8 +70,8 @@ impl Sought<ChoiceRow> for ByHolder<'_> {
     }
 }
 
-/// The release at a place no longer holds any of its choices. They are gone through in place, so
-/// nothing is allocated.
+/// Removes the release at a place as holder of each of its choices. It goes through them in place,
+/// so nothing is allocated.
 fn drop_holders(
     holders: &mut Blocks<Holder>,
     rows: &Blocks<ChoiceRow>,
@@ -92,11 +96,14 @@ fn drop_holders(
 /// The choices by their key, and the releases that hold one, by package and place.
 #[derive(Drop)]
 pub struct Choices {
+    /// The chosen terms, by release, document, package and term.
     pub rows: Blocks<ChoiceRow>,
+    /// The releases that hold a choice, by document, package and place.
     pub holders: Blocks<Holder>,
 }
 
 impl Choices {
+    /// No choices.
     pub fn new(alloc: Global) -> Choices
         ensures rows { rows_in result.rows.blocks.items ≡ [] }
         ensures holders { rows_in result.holders.blocks.items ≡ [] }

@@ -17,9 +17,13 @@ use std::cmp::Ordering;
 /// A release, with its place among those that were opened, that holds a choice for a package.
 #[derive(Drop)]
 pub struct Holder {
+    /// The number of the document.
     pub document: u32,
+    /// The SPDXID of the package.
     pub package_id: Text,
+    /// The place of the release in the order of opening, from 1.
     pub place: u32,
+    /// The name of the release.
     pub release: Text,
 }
 
@@ -40,7 +44,9 @@ impl Keyed for Holder {
 /// The holders of a choice for a package.
 #[derive(Clone, Copy)]
 pub struct ByHeld<'a> {
+    /// The number of the document.
     pub document: u32,
+    /// The SPDXID of the package.
     pub id: &'a str,
 }
 

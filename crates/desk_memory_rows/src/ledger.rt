@@ -362,6 +362,7 @@ fn singles(alloc: Global, changes: Vec<ChangeRow>) -> Result<Vec<Items<ChangeRow
 }
 
 impl Ledger {
+    /// No duties and no changes.
     pub fn new(alloc: Global) -> Ledger
         ensures duties { result.duties.items ≡ [] }
         ensures groups { result.groups.items ≡ [] }
@@ -380,6 +381,7 @@ impl Ledger {
         self.duties.len()
     }
 
+    /// All duties, by number.
     pub fn duties(&self) -> &[DutyRow]
         ensures { result.now ≡ self.now.duties.items }
     {

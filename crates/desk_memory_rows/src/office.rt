@@ -16,7 +16,9 @@ use std::cmp::Ordering;
 /// The conclusion for a package of a document.
 #[derive(Clone, Copy)]
 pub struct ByConcluded<'a> {
+    /// The number of the document.
     pub document: u32,
+    /// The SPDXID of the package.
     pub id: &'a str,
 }
 
@@ -39,7 +41,9 @@ impl Sought<ConclusionRow> for ByConcluded<'_> {
 /// The adoption of a reference of a document.
 #[derive(Clone, Copy)]
 pub struct ByReference<'a> {
+    /// The number of the document.
     pub document: u32,
+    /// The reference, byte for byte.
     pub reference: &'a str,
 }
 
@@ -62,6 +66,7 @@ impl Sought<AdoptionRow> for ByReference<'_> {
 /// The adoptions of a document.
 #[derive(Clone, Copy)]
 pub struct ByAdopting {
+    /// The number of the document.
     pub document: u32,
 }
 
@@ -82,11 +87,14 @@ impl Sought<AdoptionRow> for ByAdopting {
 /// The office's conclusions and adoptions, each by its key.
 #[derive(Drop)]
 pub struct Office {
+    /// The conclusions, by document and package.
     pub conclusions: Blocks<ConclusionRow>,
+    /// The adoptions, by document and reference.
     pub adoptions: Blocks<AdoptionRow>,
 }
 
 impl Office {
+    /// Nothing concluded or adopted.
     pub fn new(alloc: Global) -> Office
         ensures conclusions { rows_in result.conclusions.blocks.items ≡ [] }
         ensures adoptions { rows_in result.adoptions.blocks.items ≡ [] }

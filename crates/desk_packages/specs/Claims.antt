@@ -17,6 +17,8 @@ read_claim w Nothing = None
 
 -- what was read of this conclusion
 module _ {E : Type 0} (is_of : Profile → List ℕ → E → Type 0) where
+  -- the expression that the conclusion's text spells, or that it spells none, or that there is no
+  -- conclusion
   abbrev pub InForceOf : Readings → Option Conclusion → InForce E → Type 0
   InForceOf w conclusion (read.Expression e) = (c : Conclusion) × (conclusion ≡ Some c)
       × is_of c.profile c.text e

@@ -29,7 +29,7 @@ pub enum Claim {
 pub enum InForce<E> {
     /// It is this expression.
     Expression(E),
-    /// The office's, whose text is no expression: no terms are enough for it.
+    /// The office's, whose text isn't an expression: no terms are enough for it.
     NoExpression,
     /// There is none.
     Nothing,
@@ -49,7 +49,7 @@ fn profile_of<S: Store>(store: &mut S, row: &PackageRow) -> Result<Profile, Faul
     }
 }
 
-/// What may be the conclusion in force for a package, its text not read.
+/// What may be the conclusion in force for a package, without reading its text.
 pub fn claim_of<S: Store>(store: &mut S, row: &PackageRow) -> Result<Claim, Fault>
     ensures found { (w : Readings) → IfOk result (λ claim.
         OfRows (λ t. read_claim w claim ≡ conclusion_found w t row.now)
@@ -73,7 +73,7 @@ pub fn claim_of<S: Store>(store: &mut S, row: &PackageRow) -> Result<Claim, Faul
     }
 }
 
-/// The conclusion in force, read from what may be it.
+/// The conclusion in force, read from a candidate for it.
 pub fn read_claim<T: Texts>(
     alloc: Global,
     texts: &T,
@@ -99,7 +99,7 @@ pub fn read_claim<T: Texts>(
     }
 }
 
-/// The conclusion in force for a package, its text read.
+/// The conclusion in force for a package, with its text read.
 pub fn in_force<T: Texts, S: Store>(
     alloc: Global,
     texts: &T,

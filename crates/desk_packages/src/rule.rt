@@ -15,7 +15,7 @@ use desk_model::{Fault, Rule};
 use std::alloc::Global;
 
 /// The term for which a rule is looked up: a reference of a document that is adopted is replaced by
-/// the licence as which it is adopted.
+/// the licence that it is adopted as.
 fn ruled_term<T: Texts, S: Store>(
     alloc: Global,
     texts: &T,

@@ -19,6 +19,7 @@ pub data CellText : Type 0 where
   last : List ℕ → CellText
   bar : ℕ → ℕ → CellText
 
+-- the cell that the code has, with the bytes of its texts
 abbrev pub cell_of : Cell → CellText
 cell_of (cells.Name text) = name text.now
 cell_of (cells.Anchor duty) = anchor duty
@@ -29,6 +30,7 @@ cell_of (cells.Rules texts) = rules texts.now
 cell_of (cells.Last text) = last text.now
 cell_of (cells.Bar part whole) = bar part whole
 
+-- a cell as HTML
 abbrev pub cell_text : CellText → List ℕ
 cell_text (name text) = name_cell text
 cell_text (anchor duty) = anchor_cell duty
@@ -39,5 +41,6 @@ cell_text (rules texts) = rules_cell texts
 cell_text (last text) = last_cell text
 cell_text (bar part whole) = bar_cell part whole
 
+-- the cells of one or more rows, one after another
 abbrev pub row_text : List CellText → List ℕ
 row_text row = flat_map cell_text row

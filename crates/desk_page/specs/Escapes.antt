@@ -28,6 +28,7 @@ shown_char c =
     else if is_barred c then encode_utf8 65533
     else encode_utf8 c
 
+-- a text as the bytes of a page show it, character by character
 unfoldable pub escaped : List ℕ → List ℕ
 escaped text = flat_map shown_char (chars text)
 

@@ -61,15 +61,18 @@ contents =
     ++ codes
     "<li><a href=\"#changes\">Changes</a></li>\n<li><a href=\"#notices\">Notices</a></li>\n</ul>\n</nav>\n"
 
+-- before the notices: the heading of their section
 unfoldable pub notices_start : List ℕ
 notices_start =
     codes
     "<section id=\"notices\">\n<h2>Notices</h2>\n<p>The texts of the licences, to be handed on with the release.</p>\n"
 
+-- after the rows of a table
 unfoldable pub table_end : List ℕ
 table_end =
     codes "</tbody>\n</table>\n"
 
+-- after a table, or after the note that it has no rows
 unfoldable pub section_end : List ℕ
 section_end =
     codes "</section>\n"

@@ -24,6 +24,7 @@ abbrev pub listing : List ℕ → List ℕ → List ℕ
 listing names [] = codes "<p>None.</p>\n"
 listing names (b ∷ rows) = names ++ (b ∷ rows) ++ table_end
 
+-- a section of the page: its heading, and its table
 unfoldable pub section : Table → List ℕ → List ℕ
 section t rows = opening t ++ listing (columns t) rows ++ section_end
 

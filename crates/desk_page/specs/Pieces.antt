@@ -31,9 +31,11 @@ unfoldable pub link_cell : ℕ → List ℕ
 link_cell duty = paired (codes "<tr><th scope=\"row\"><a href=\"#duty-") duty (codes "\">") duty
     (codes "</a></th>")
 
+-- a cell with a text, in which line feeds count as blanks
 unfoldable pub text_cell : List ℕ → List ℕ
 text_cell text = framed (codes "<td>") text (codes "</td>")
 
+-- a cell with a count, in decimal digits
 unfoldable pub number_cell : ℕ → List ℕ
 number_cell number = counted (codes "<td class=\"number\">") number (codes "</td>")
 
@@ -41,6 +43,7 @@ number_cell number = counted (codes "<td class=\"number\">") number (codes "</td
 unfoldable pub rule_line : List ℕ → List ℕ
 rule_line rule = framed (codes "<div>") rule (codes "</div>")
 
+-- a cell with several licences, a line each
 unfoldable pub rules_cell : List (List ℕ) → List ℕ
 rules_cell rules = codes "<td>" ++ flat_map rule_line rules ++ codes "</td>"
 

@@ -17,6 +17,7 @@ use Rattle.desk_page.specs.Cells.{CellText, name, anchor, link, plain, count, ru
 abbrev pub total_cells : List ℕ → ℕ → ℕ → List CellText
 total_cells word number raised = name word ∷ count number ∷ bar number raised ∷ []
 
+-- all duties, then those in each state; each bar is a share of all
 unfoldable pub totals_rows : Totals → List ℕ
 totals_rows t =
     row_text (total_cells (codes "Raised") t.raised t.raised
@@ -51,9 +52,11 @@ is_of licence duty = bytes_eq licence duty.rule
 abbrev pub is_in : List ℕ → List ℕ → DutyLine → Bool
 is_in licence state duty = is_of licence duty && bytes_eq state (duty_state_name duty.state)
 
+-- how many duties were raised for a licence, whatever their state
 unfoldable pub raised_for : List ℕ → List DutyLine → ℕ
 raised_for licence duties = count_by (is_of licence) duties
 
+-- how many of these are in the state of this name
 unfoldable pub standing : List ℕ → List ℕ → List DutyLine → ℕ
 standing licence state duties = count_by (is_in licence state) duties
 
@@ -73,6 +76,7 @@ licence_row duties licence =
 abbrev pub day_text : Option (List ℕ) → List ℕ
 day_text day = unwrap_or day []
 
+-- a duty, with an anchor to which its other rows link, and the day of its last change
 unfoldable pub duty_row : DutyLine → List ℕ
 duty_row duty =
     row_text (anchor duty.number ∷ count duty.document ∷ plain duty.package_id ∷ plain duty.rule
@@ -81,6 +85,7 @@ duty_row duty =
 
 -- ---- waivers that end
 
+-- the last of a duty's changes, which are in the order of steps
 abbrev pub last_change : List ChangeRow → Option ChangeRow
 last_change changes = slice_get changes (length changes - 1)
 
@@ -106,6 +111,7 @@ waiver_rows (duty ∷ duties) (changes ∷ more) = last_waiver duty changes ++ w
 
 -- ---- changes
 
+-- a change: the duty, the day, what was done, the last day of a waiver, and its text
 unfoldable pub change_row : ChangeRow → List ℕ
 change_row change =
     row_text (link change.duty ∷ plain change.day ∷ plain (word_name change.word)

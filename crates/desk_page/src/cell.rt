@@ -10,7 +10,7 @@ use crate::piece::{Frame, add_counted, add_framed, add_paired};
 use desk_base::Text;
 use std::alloc::{AllocError, Global};
 
-/// A cell of a row. One that names the row begins it, and one of two kinds ends it.
+/// A cell of a row. A cell that names the row begins it, and a cell of one of two kinds ends it.
 #[derive(Clone, Copy)]
 pub(crate) enum Cell<'a> {
     /// A name of the row.

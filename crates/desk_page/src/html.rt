@@ -196,9 +196,9 @@ fn add_notices(text: &mut String, texts: &[BillText]) -> Result<(), AllocError>
 }
 
 /// The page of a frozen release, as HTML in UTF-8: its name and form; how many duties are in each
-/// state; its packages with their version, licences and copyright; the duties of each licence, and
-/// one by one; the waivers that end; the changes; and the notices. `changes` has the changes of
-/// each duty, by step, at the index that the duty has in `duties`.
+/// state; its packages with their version, licences and copyright; the duties, counted by licence
+/// and then one by one; the waivers that end; the changes; and the notices. `changes` has the
+/// changes of each duty, by step, at the index that the duty has in `duties`.
 #[tactic(auto, unfolding(crate::specs::Page::page_text))]
 pub fn page(
     alloc: Global,

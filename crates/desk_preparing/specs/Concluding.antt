@@ -36,9 +36,11 @@ conclude_in t d p = refused_first (
 abbrev pub reference_alone : Readings → List ℕ → Option (List ℕ)
 reference_alone w text = if is_reference w text then w.term text else None
 
+-- the same for a licence, which has neither plus nor exception
 abbrev pub licence_alone : Readings → List ℕ → Option (List ℕ)
 licence_alone w text = if is_plain w text then w.term text else None
 
+-- the row of an adoption, from two terms that were read
 abbrev pub adopted_row : ℕ → List ℕ → List ℕ → AdoptionRow
 adopted_row d reference licence = record { document = d; reference = reference; licence = licence }
 

@@ -18,6 +18,7 @@ abbrev pub open_next : ℕ → Answer
 open_next releases = refused_first
     (unless (nat_lt releases most.releases) (why.Full limit.Releases) ∷ []) answered.Done
 
+-- the row that an Attach adds
 abbrev pub attached_row : List ℕ → ℕ → AttachedRow
 attached_row r d = record { release = r; document = d }
 

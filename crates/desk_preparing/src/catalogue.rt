@@ -1,4 +1,4 @@
-//! Catalogues are loaded.
+//! Loads catalogues.
 
 ghost use Rattle.std.specs.Prelude.{◌≡◌, ◌≤◌, ◌<◌, ◌+◌, ◌^◌, IfOk, IfErr, map, length, Ok, Some, false};
 ghost use Rattle.desk_model.specs.Readings.{Readings};

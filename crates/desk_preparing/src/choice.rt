@@ -1,4 +1,4 @@
-//! Terms are chosen for the packages of a release, and choices dropped.
+//! Chooses terms for the packages of a release, and drops choices.
 
 ghost use Rattle.std.specs.Prelude.{◌≡◌, ℕ, List, [], IfOk, IfErr, map};
 ghost use Rattle.desk_model.specs.Readings.{Readings};
@@ -70,7 +70,7 @@ fn sorted_set(alloc: Global, terms: &TextList) -> Result<Vec<Text>, AllocError>
     Ok(sorted)
 }
 
-/// What a verdict refuses.
+/// The refusal that follows from a verdict.
 fn refusal_of(
     alloc: Global,
     terms: &TextList,
@@ -89,7 +89,7 @@ fn refusal_of(
     }
 }
 
-/// What is refused of a package without a conclusion.
+/// The refusal for a package without a conclusion.
 fn no_conclusion(row: &PackageRow) -> Result<Refusal, AllocError>
     ensures { IfOk result (λ refusal. refusal ≡ Refusal.NoConclusion row.now.document row.now.id) }
 {
@@ -99,7 +99,7 @@ fn no_conclusion(row: &PackageRow) -> Result<Refusal, AllocError>
     })
 }
 
-/// What stands against the terms for a package with an expression in force.
+/// Why the terms are refused for a package with an expression in force, if they are.
 fn judge_by<T: Texts>(
     alloc: Global,
     texts: &T,
@@ -115,7 +115,7 @@ fn judge_by<T: Texts>(
     refusal_of(alloc, terms, verdict)
 }
 
-/// What stands against the terms for a package with this claim. Its text is read once.
+/// Why the terms are refused for a package with this claim, if they are. Its text is read once.
 fn judge<T: Texts>(
     alloc: Global,
     texts: &T,
@@ -183,7 +183,7 @@ struct Place {
     row: PackageRow,
 }
 
-/// Where terms may be chosen, or why not there.
+/// Where terms may be chosen, or why they may not.
 #[derive(Drop)]
 enum Found {
     Here(Place),
@@ -362,7 +362,7 @@ fn drop_choice(
     })
 }
 
-/// Drops the choice for a package, where there is one.
+/// Drops the choice for a package, if there is one.
 fn unchoose_terms(
     alloc: Global,
     release: &Text,

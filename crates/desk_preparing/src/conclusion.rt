@@ -1,4 +1,4 @@
-//! Packages are concluded for, and references adopted as licences.
+//! Concludes licences of packages, and adopts references as licences.
 
 ghost use Rattle.std.specs.Prelude.{◌≡◌, ◌&&◌, IfOk, IfErr, is_some};
 ghost use Rattle.desk_model.specs.Readings.{Readings};
@@ -98,14 +98,14 @@ pub fn conclude<T: Texts, S: Store>(
     conclude_for(store, document, package_id, expression)
 }
 
-/// A reference and the licence that it is adopted as, or which of them is none.
+/// A reference and the licence that it is adopted as, or which of the two isn't one.
 #[derive(Drop)]
 enum AdoptionRead {
     Pair { reference: Text, licence: Text },
     BadTerm(usize),
 }
 
-/// The reference alone that a text spells.
+/// The plain reference that a text spells.
 fn read_reference<T: Texts>(
     alloc: Global,
     texts: &T,
@@ -123,7 +123,7 @@ fn read_reference<T: Texts>(
     }
 }
 
-/// The licence alone that a text spells.
+/// The plain licence that a text spells.
 fn read_licence<T: Texts>(alloc: Global, texts: &T, text: &Text) -> Result<Option<Text>, AllocError>
     ensures { (w : Readings) → T.are_right w
         → IfOk result (λ found. found ≡ licence_alone w text.now) }

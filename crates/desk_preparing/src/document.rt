@@ -1,4 +1,4 @@
-//! Documents are imported.
+//! Imports documents.
 
 ghost use Rattle.std.specs.Prelude.{◌≡◌, ◌≤◌, ◌<◌, ◌+◌, ◌^◌, IfOk, IfErr, map, length, Ok, Some, false};
 ghost use Rattle.desk_model.specs.Readings.{Readings};

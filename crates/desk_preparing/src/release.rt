@@ -1,4 +1,4 @@
-//! Releases are opened, and documents attached to them.
+//! Opens releases, and attaches documents to them.
 
 ghost use Rattle.std.specs.Prelude.{◌≡◌, ◌≤◌, ◌<◌, ◌+◌, ◌^◌, ◌↔◌, IsTrue, IfOk, IfErr, map, length, Ok, Some, false};
 ghost use Rattle.std.specs.List.{list_any, list_all};

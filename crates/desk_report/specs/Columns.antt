@@ -40,6 +40,7 @@ widths lines = widths_with (map width front_names) lines
 abbrev pub filled : ℕ → List ℕ → List ℕ
 filled w cell = shown cell ++ replicate (w - width cell + 2) 32
 
+-- the cells of all columns but the last, each padded
 abbrev pub front_text : List ℕ → List (List ℕ) → List ℕ
 front_text [] cells = []
 front_text (w ∷ ws) [] = []
@@ -49,6 +50,7 @@ front_text (w ∷ ws) (cell ∷ cells) = filled w cell ++ front_text ws cells
 abbrev pub row_line : List ℕ → List (List ℕ) → List ℕ → List ℕ
 row_line ws cells last = front_text ws cells ++ last ++ 10 ∷ []
 
+-- the row of a duty; the day of its last change is the last cell
 abbrev pub duty_row : List ℕ → DutyLine → List ℕ
 duty_row ws line = row_line ws (front_cells line) (unwrap_or line.day [])
 

@@ -11,6 +11,7 @@ use Rattle.desk_model.specs.declared.command.DutyLine.{DutyLine}
 unfoldable pub record_text : List (List ℕ) → List ℕ
 record_text fields = row_text default_writer fields
 
+-- the names of the columns, in the first record
 abbrev pub column_names : List (List ℕ)
 column_names = codes "number" ∷ codes "document" ∷ codes "package" ∷ codes "term" ∷ codes "rule"
     ∷ codes "code" ∷ codes "state" ∷ codes "since" ∷ []
@@ -21,9 +22,11 @@ abbrev pub cells_behind : DutyLine → List (List ℕ)
 cells_behind line = line.package_id ∷ line.term ∷ line.rule ∷ line.code ∷ duty_state_name line.state
     ∷ unwrap_or line.day [] ∷ []
 
+-- the fields of a duty, in these columns
 abbrev pub duty_cells : DutyLine → List (List ℕ)
 duty_cells line = decimal line.number ∷ decimal line.document ∷ cells_behind line
 
+-- a duty as a record
 abbrev pub duty_record : DutyLine → List ℕ
 duty_record line = record_text (duty_cells line)
 

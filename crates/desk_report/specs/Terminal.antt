@@ -8,6 +8,7 @@ use Rattle.desk_base.specs.Terminal.{shown_char}
 abbrev pub line_char : ℕ → List ℕ
 line_char c = if c == 10 then 10 ∷ [] else shown_char c
 
+-- each character of a text as a terminal shows it
 unfoldable pub lines_shown : List ℕ → List ℕ
 lines_shown text = flat_map line_char (chars text)
 

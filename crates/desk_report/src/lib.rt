@@ -8,8 +8,8 @@
 //! - `add_filled` and `add_record` add cells and records to tables of other rows.
 //! - `totals_text` counts the duties in each state, in one line, and `changes_text` has a line for
 //!   each change of a duty (`specs/Lines.antt`).
-//! - `lines_shown` is a text of several lines as a terminal shows it, and `notices_shown` are the
-//!   notices so (`specs/Terminal.antt`).
+//! - `lines_shown` is a text of several lines as a terminal shows it, and `notices_shown` the
+//!   notices in this form (`specs/Terminal.antt`).
 //!
 //! The only error is that no memory is left.
 #![tactic(auto)]

@@ -54,6 +54,7 @@ abbrev pub is_recorded_by : Request → Reply → Bool
 is_recorded_by (Act c) (Became (Answered a)) = is_recorded a
 is_recorded_by _ _ = false
 
+-- some request of these was a command that its reply shows as recorded
 abbrev pub is_any_recorded : List Request → List Reply → Bool
 is_any_recorded (request ∷ requests) (reply ∷ replies) = is_recorded_by request reply
     || is_any_recorded requests replies
@@ -103,6 +104,7 @@ commands_of [] = []
 commands_of (Act c ∷ requests) = c ∷ commands_of requests
 commands_of (_ ∷ requests) = commands_of requests
 
+-- the outcome of each command, at its place; what comes of questions is left out
 abbrev pub outcomes_of : List Request → List Reply → List Outcome
 outcomes_of (Act c ∷ requests) (Became o ∷ replies) = o ∷ outcomes_of requests replies
 outcomes_of (_ ∷ requests) (_ ∷ replies) = outcomes_of requests replies

@@ -16,6 +16,7 @@ text_of NoRequest = bad_command_text
 abbrev pub line_of : Reply → List ℕ
 line_of reply = text_of reply ++ 10 ∷ []
 
+-- replies one after another, a line each
 abbrev pub lines_of : List Reply → List ℕ
 lines_of replies = flat_map line_of replies
 

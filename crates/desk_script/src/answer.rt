@@ -21,7 +21,7 @@ use std::alloc::Global;
 pub enum Reply {
     /// The outcome of its request.
     Became(Outcome),
-    /// It is no request.
+    /// It isn't a request.
     NoRequest,
 }
 

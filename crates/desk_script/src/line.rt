@@ -62,7 +62,7 @@ impl Line {
         self.ends_by_cr = false;
     }
 
-    /// Adds bytes as far as there is room for them.
+    /// Adds as many of the bytes as there is room for.
     fn put(&mut self, run: &[u8]) -> Result<(), AllocError>
         ensures came { (text : List ℕ) → HasCome self.old text
             → OnOk result (HasCome self.new (text ++ run.now)) }

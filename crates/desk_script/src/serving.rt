@@ -25,7 +25,7 @@ use thiserror::Error;
 /// How many lines of a script were refused, and how many failed.
 #[derive(Clone, Copy, PartialEq, Eq)]
 pub struct ScriptEnd {
-    /// The lines that are no request, and those whose request was refused.
+    /// The lines that aren't requests, and those whose request was refused.
     pub refused: u64,
     /// The lines whose request had a fault.
     pub failed: u64,
@@ -42,7 +42,8 @@ pub enum ScriptStop {
     Turns,
     #[error("no memory is left for a line or a reply")]
     Memory,
-    /// The script was to end with the first line that isn't done: it was refused, or is no request.
+    /// The script was to end with the first line that isn't carried out: it was refused, or isn't a
+    /// request.
     #[error("a line was refused or is no request")]
     Refused,
     /// The same, but the request of the line failed.
@@ -94,8 +95,8 @@ fn write_some<W: Write>(writer: &mut W, bytes: &[u8]) -> Result<usize, ScriptSto
     }
 }
 
-/// Writes bytes as `write_all` does. But after a fault of `write_all` nothing is known, and here a
-/// prefix of the bytes was written.
+/// Writes bytes as `write_all` does. But after a fault here a prefix of the bytes was written,
+/// while after a fault of `write_all` nothing is known.
 pub fn write_bytes<W: Write>(writer: &mut W, bytes: &[u8]) -> Result<(), ScriptStop>
     ensures ok { OnOk result (Appends (W.contents writer.old) (W.contents writer.new) bytes.now) }
     ensures err { OnErr result
@@ -168,8 +169,8 @@ fn answer_kept<D: Desk, V: Watch>(
     answer_line(alloc, desk, watch, text)
 }
 
-/// Goes on after a reply, or ends the script with it if its line isn't done and the script is to
-/// end there.
+/// Continues after a reply, or ends the script with it if its line isn't carried out and the script
+/// is to end there.
 fn go_on(stops: bool, reply: &Reply) -> Result<(), ScriptStop>
     ensures goes { OnOk result
         (stops ≡ true → (count_refused reply.now ≡ 0) × (count_failed reply.now ≡ 0)) }
@@ -189,7 +190,7 @@ fn go_on(stops: bool, reply: &Reply) -> Result<(), ScriptStop>
     }
 }
 
-/// Writes a reply, and shows it to the watch. The script goes on after it or ends with it.
+/// Writes a reply, and shows it to the watch. The script continues after it or ends with it.
 fn tell_reply<W: Write, V: Watch>(
     alloc: Global,
     writer: &mut W,
@@ -210,7 +211,7 @@ fn tell_reply<W: Write, V: Watch>(
     go_on(watch.stops(), reply)
 }
 
-/// Serves a line of which these bytes came: a blank one is skipped; for any other the reply is
+/// Serves a line of which these bytes came: a blank line is skipped; for any other the reply is
 /// written and counted.
 pub fn serve<D: Desk, W: Write, V: Watch>(
     alloc: Global,

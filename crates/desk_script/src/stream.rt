@@ -122,8 +122,8 @@ fn finish<D: Desk, W: Write, V: Watch>(
 /// Reads requests, a line each, and writes a reply line for each line that isn't blank. Each reply
 /// is written and flushed before the next line is served.
 ///
-/// It goes on after refusals and faults, and counts them: if no memory is left for a request or its
-/// answer, the reply says so, and the script doesn't end. The reader is asked for bytes at most
+/// It continues after refusals and faults, and counts them: if no memory is left for a request or
+/// its answer, the reply says so, and the script doesn't end. The reader is asked for bytes at most
 /// 1,048,576 times, each time for at most 65,536. After a fault of the reader or the writer, or if
 /// no memory is left for a line or for the text of a reply, what was accepted stays applied, and
 /// all replies are written, except the last one if it had the fault: then a prefix of its line is
@@ -131,8 +131,8 @@ fn finish<D: Desk, W: Write, V: Watch>(
 /// often, each line that ended within the bytes that it gave is answered, and each reply is
 /// written.
 ///
-/// If the watch says so, the script ends with the first line that isn't done, whose reply is
-/// written.
+/// If the watch says so, the script ends with the first line that isn't carried out, after writing
+/// its reply.
 pub fn watched_script<D: Desk, R: Read, W: Write, V: Watch>(
     alloc: Global,
     desk: &mut D,

@@ -30,7 +30,7 @@ pub enum ScriptFault {
     Memory,
 }
 
-/// Watches nothing, and lets a script go on.
+/// Watches nothing, and lets a script continue.
 #[derive(Drop)]
 struct Unwatched;
 
@@ -48,7 +48,7 @@ impl Watch for Unwatched {
     fn replied(&mut self, _reply: &Reply) {}
 }
 
-// The fault by which a script stopped that goes on after lines that aren't done.
+// The fault that stopped a script that continues after lines that aren't carried out.
 fn fault_of(stop: ScriptStop) -> ScriptFault
     requires { IfStop ⊥ stop }
     ensures { stop ≡ stop_of result }
@@ -63,7 +63,7 @@ fn fault_of(stop: ScriptStop) -> ScriptFault
 }
 
 /// Reads requests, a line each, and writes a reply line for each line that isn't blank, as
-/// `watched_script` does. It goes on after lines that aren't done.
+/// `watched_script` does. It continues after lines that aren't carried out.
 pub fn script<D: Desk, R: Read, W: Write>(
     alloc: Global,
     desk: &mut D,

@@ -5,7 +5,7 @@ ghost use Rattle.std.specs.Prelude.{◌≡◌, Bool};
 use crate::answer::Reply;
 
 /// Sees each line of a script, and says whether the script ends with the first line that isn't
-/// done.
+/// carried out.
 pub trait Watch {
     /// Whether the script ends with the first line that isn't done.
     ghost stops: { Self → Bool };
@@ -18,7 +18,7 @@ pub trait Watch {
     fn came(&mut self)
         ensures { stops self.new ≡ stops self.old };
 
-    /// The line that came is no request. Its bytes are given unless they are more than a request
+    /// The line that came isn't a request. Its bytes are given unless they are more than a request
     /// may have.
     fn no_request(&mut self, text: Option<&[u8]>)
         ensures { stops self.new ≡ stops self.old };

@@ -11,6 +11,7 @@ use Rattle.std.specs.declared.cmp.Ordering.{Ordering}
 abbrev pub rows_in : {R : Type 0} → List (Vec R Global) → List R
 rows_in blocks = flat_map (λ block. block.items) blocks
 
+-- a block isn't empty
 abbrev pub has_rows : {A : Type 0} → List A → Bool
 has_rows [] = false
 has_rows (x ∷ xs) = true

@@ -21,6 +21,7 @@ abbrev pub IsSideOf : {A : Type 0} → (A → A → Ordering) → (A → Orderin
 IsSideOf {A} order side = (x y : A) → is_lt (order y x) ≡ false
     → ordering_index (side x) ≤ ordering_index (side y)
 
+-- first come the rows before what is sought, then those that are sought, then those after them
 abbrev pub Rises : {A : Type 0} → (A → Ordering) → List A → Type 0
 Rises side xs = IsNonDecreasingBy (λ x. ordering_index (side x)) xs
 

@@ -11,7 +11,7 @@ use crate::sorted::{Keyed, Run, Sought, reserve, run_near, run_of};
 use desk_model::Fault;
 use std::alloc::Global;
 
-/// Whether a row may follow rows that ascend.
+/// Whether rows that ascend still do so after this row is added.
 fn goes_on<R: Keyed>(rows: &[R], row: &R) -> bool
     ensures { result ≡ true → ascends (below_by R.order) rows.now ≡ true
         → ascends (below_by R.order) (rows.now ++ row.now ∷ []) ≡ true }
@@ -28,15 +28,18 @@ fn first_of<'a, R: Keyed, K: Sought<R>>(rows: &'a [R], key: &K) -> Option<&'a R>
     rows.iter().find(|row| key.side_of(row).is_eq())
 }
 
-/// Rows in the order in which they came, which so far is or isn't that of their keys.
+/// Rows in the order in which they came, with a note whether this is so far the order of their
+/// keys.
 #[derive(Drop)]
 pub struct Appended<R: Keyed> {
+    /// The rows, in the order in which they came.
     pub rows: Vec<R>,
     in_order: bool,
     pub ghost ascending: { in_order ≡ true → ascends (below_by R.order) rows.items ≡ true },
 }
 
 impl<R: Keyed + Drop> Appended<R> {
+    /// No rows.
     pub fn new(alloc: Global) -> Appended<R>
         ensures { result.rows.items ≡ [] }
     {
@@ -57,13 +60,14 @@ impl<R: Keyed + Drop> Appended<R> {
         Ok(appended)
     }
 
+    /// How many rows there are.
     pub fn len(&self) -> usize
         ensures { result ≡ length self.now.rows.items }
     {
         self.rows.len()
     }
 
-    /// Rows that include all that are sought: those alone, found by binary search, if the rows are
+    /// Rows that include all that are sought: only these, found by binary search, if the rows are
     /// in order.
     pub fn among<K: Sought<R>>(&self, key: &K) -> &[R]
         ensures { filter (K.is_at key.now) result.now
@@ -76,7 +80,7 @@ impl<R: Keyed + Drop> Appended<R> {
         &self.rows[run.start..run.end]
     }
 
-    /// A run that includes all rows that are sought: those alone, if the rows are in order, and
+    /// A run that includes all rows that are sought: only these, if the rows are in order, and
     /// found without a search if the run begins at a place.
     pub fn run_near<K: Sought<R>>(&self, key: &K, place: usize) -> Run
         ensures ordered { result.start ≤ result.end }
@@ -102,6 +106,7 @@ impl<R: Keyed + Drop> Appended<R> {
         first_of(self.among(key), key)
     }
 
+    /// Makes room for this many more rows. If memory runs out, the rows are unchanged.
     pub fn reserve(&mut self, count: usize) -> Result<(), Fault>
         ensures items { self.new.rows.items ≡ self.old.rows.items }
         ensures len { vec_len self.new.rows ≡ vec_len self.old.rows }

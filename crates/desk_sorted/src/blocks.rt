@@ -1,5 +1,5 @@
-//! Rows in the order of their keys, cut into blocks: when a row is put in or taken out, only those
-//! of its block are moved.
+//! Rows in the order of their keys, cut into blocks: when a row is added or removed, only those of
+//! its block are moved.
 
 ghost use Rattle.std.specs.Prelude.{◌≡◌, refl, ℕ, suc, Bool, true, false, not, ◌+◌, ◌^◌, ◌<◌, ◌≤◌, ◌++◌, [], ◌∷◌, filter, find, map, OnOk, OnErr, IfOk, IfErr, length, vec_len, ◌==◌, List, Vec, get_or, take, drop};
 ghost use Rattle.std.specs.Vec.{vec_capacity};

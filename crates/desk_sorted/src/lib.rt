@@ -1,8 +1,8 @@
 //! Lists of rows that are found by binary search.
 //!
-//! `Sorted` keeps rows in the order of their keys, `Blocks` does so in blocks, only one of which is
-//! moved by a change, and `Appended` keeps them in the order in which they came, which mostly is
-//! that of their keys. Each is looked up by a key, or by the beginning of a key.
+//! `Sorted` keeps rows in the order of their keys. `Blocks` does so in blocks, and a change moves
+//! rows of only one of them. `Appended` keeps rows in the order in which they came, which mostly is
+//! that of their keys. Rows are looked up by a key, or by the beginning of a key.
 #![tactic(auto)]
 
 mod appended;

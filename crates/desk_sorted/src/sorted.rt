@@ -18,6 +18,7 @@ use std::cmp::Ordering;
 pub trait Keyed {
     ghost order: { Self → Self → Ordering };
 
+    /// The order of two rows by their keys.
     fn compare(&self, other: &Self) -> Ordering
         ensures { result ≡ order self.now other.now };
 
@@ -42,7 +43,9 @@ pub trait Sought<R: Keyed> {
 /// A run of rows: from one place up to another.
 #[derive(Clone, Copy)]
 pub struct Run {
+    /// The place of its first row.
     pub start: usize,
+    /// The place after its last row.
     pub end: usize,
 }
 
@@ -100,7 +103,7 @@ fn place_of<R: Keyed>(rows: &[R], row: &R) -> usize
     rows.partition_point(|other| other.compare(row).is_le())
 }
 
-/// Whether each row is below the next.
+/// Whether each row is less than the next.
 fn climbs<R: Keyed>(rows: &[R]) -> bool
     ensures { result ≡ true → Climbs (below_by R.order) rows.now }
 {
@@ -176,6 +179,7 @@ pub(crate) fn put_rows<R: Keyed + Drop>(rows: &mut Vec<R>, more: Vec<R>)
     }
 }
 
+/// Makes room for this many more rows. If memory runs out, the rows are unchanged.
 pub fn reserve<R>(rows: &mut Vec<R>, count: usize) -> Result<(), Fault>
     ensures items { rows.new.items ≡ rows.old.items }
     ensures len { vec_len rows.new ≡ vec_len rows.old }
@@ -196,11 +200,13 @@ pub fn item_at<T>(items: &[T], place: usize) -> Option<&T>
 /// Rows in the order of their keys.
 #[derive(Drop)]
 pub struct Sorted<R: Keyed> {
+    /// The rows, by their keys.
     pub rows: Vec<R>,
     pub ghost ascending: { ascends (below_by R.order) rows.items ≡ true },
 }
 
 impl<R: Keyed + Drop> Sorted<R> {
+    /// No rows.
     pub fn new(alloc: Global) -> Sorted<R>
         ensures { result.rows.items ≡ [] }
     {
@@ -209,6 +215,7 @@ impl<R: Keyed + Drop> Sorted<R> {
         }
     }
 
+    /// How many rows there are.
     pub fn len(&self) -> usize
         ensures { result ≡ length self.now.rows.items }
     {
@@ -230,6 +237,7 @@ impl<R: Keyed + Drop> Sorted<R> {
         self.run(key).first()
     }
 
+    /// Makes room for this many more rows. If memory runs out, the rows are unchanged.
     pub fn reserve(&mut self, count: usize) -> Result<(), Fault>
         ensures items { self.new.rows.items ≡ self.old.rows.items }
         ensures len { vec_len self.new.rows ≡ vec_len self.old.rows }

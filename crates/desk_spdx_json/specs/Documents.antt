@@ -15,6 +15,7 @@ use Rattle.desk_spdx_json.specs.Members.{document_members, creation_members}
 use Rattle.desk_spdx_json.specs.Values.{if_array, word_in}
 use Rattle.desk_spdx_json.specs.Parts.{object_steps, part_steps, tie_step}
 
+-- the steps of `creationInfo`, if it is there
 abbrev pub creation_steps : List ℕ → Option Data → List StepText
 creation_steps at None = []
 creation_steps at (Some d) = object_steps at creation_members d
@@ -25,6 +26,7 @@ all_parts part at key d = if_array (part_steps part) (member_at at key) (get key
 
 -- ---- documentDescribes: a relationship, unless the document lists it
 
+-- the identifier of the document itself
 abbrev pub document_id : List ℕ
 document_id = codes "SPDXRef-DOCUMENT"
 
@@ -38,28 +40,34 @@ is_describing d =
 abbrev pub target_of : Data → List (List ℕ)
 target_of d = if is_describing d then word_in (codes "relatedSpdxElement") d ∷ [] else []
 
+-- the elements that the relationships of a list describe
 abbrev pub targets_in : Items → List (List ℕ)
 targets_in no_items = []
 targets_in (item d ds) = target_of d ++ targets_in ds
 
+-- the same, if there is such a list
 abbrev pub targets_of : Option Items → List (List ℕ)
 targets_of None = []
 targets_of (Some ds) = targets_in ds
 
+-- the identifier is among these
 abbrev pub is_listed : List (List ℕ) → Option (List ℕ) → Bool
 is_listed ids None = false
 is_listed ids (Some id) = is_among ids id
 
+-- one element of `documentDescribes`: no step if a relationship says so already
 abbrev pub described_steps : List (List ℕ) → List ℕ → Data → List StepText
 described_steps ids at d =
     if is_listed ids (as_str d) then []
     else tie_step at document_id (codes "DESCRIBES") (as_str d) ∷ []
 
+-- the elements that the document's relationships describe
 abbrev pub targets : Data → List (List ℕ)
 targets d = targets_of (option_and_then as_array (get (codes "relationships") d))
 
 -- ---- the whole
 
+-- all steps of a document that is at a place
 abbrev pub steps_at : List ℕ → Data → List StepText
 steps_at at d =
     object_steps at document_members d
@@ -77,6 +85,7 @@ abbrev pub from_member : Data → Option Data → List StepText
 from_member d None = steps_at [] d
 from_member d (Some inner) = steps_at (codes "/sbom") inner
 
+-- all steps of a JSON text
 abbrev pub document_steps : Data → List StepText
 document_steps d = if is_some (get (codes "spdxVersion") d) then steps_at [] d
     else from_member d (get (codes "sbom") d)

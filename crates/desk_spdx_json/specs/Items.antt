@@ -7,6 +7,7 @@ use Rattle.desk_spdx_json.specs.Steps.{StepText}
 use Rattle.desk_spdx_json.specs.Values.{checksum_steps, name_fault, text_steps}
 use Rattle.desk_spdx_json.specs.Parts.{contained_steps}
 
+-- a text, a checksum, the name of an excluded file, or the file of a package
 abbrev pub item_steps : Item → List ℕ → Data → List StepText
 item_steps (items.Text tag) = text_steps tag
 item_steps (items.Checksum tag) = checksum_steps tag

@@ -8,11 +8,13 @@ use Rattle.desk_spdx_json.specs.declared.members.Form.{Form}
 use Rattle.desk_spdx_json.specs.declared.members.Form.TheVariants as forms
 use Rattle.desk_spdx_json.specs.declared.members.Member.{Member}
 
+-- a member: its key, what its value is, and whether it must be there
 pub record MemberText : Type 0 where
   pub key : List ℕ
   pub form : Form
   pub is_needed : Bool
 
+-- the same, apart from where the key is in memory
 abbrev pub member_text : Member → MemberText
 member_text m = record { key = m.key.now; form = m.form; is_needed = m.is_needed }
 
@@ -20,6 +22,7 @@ member_text m = record { key = m.key.now; form = m.form; is_needed = m.is_needed
 abbrev pub needed : List ℕ → Form → MemberText
 needed key form = record { key = key; form = form; is_needed = true }
 
+-- and one that may be absent
 abbrev pub perhaps : List ℕ → Form → MemberText
 perhaps key form = record { key = key; form = form; is_needed = false }
 

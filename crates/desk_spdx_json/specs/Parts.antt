@@ -18,13 +18,16 @@ use Rattle.desk_spdx_json.specs.Values.{value_steps, if_array, word_fault, word_
 
 -- ---- an object, member by member
 
+-- a member that isn't there: a fault if it must be, or else nothing
 abbrev pub missing_steps : List ℕ → Bool → List StepText
 missing_steps at is_needed = if is_needed then step at missing ∷ [] else []
 
+-- the steps of a member, whether it is there or not
 abbrev pub found_steps : List ℕ → MemberText → Option Data → List StepText
 found_steps at m None = missing_steps at m.is_needed
 found_steps at m (Some d) = value_steps at m.form d
 
+-- the steps of one member of an object, at the member's own place
 abbrev pub member_steps : List ℕ → Data → MemberText → List StepText
 member_steps at d m = found_steps (member_at at m.key) m (get m.key d)
 
@@ -32,31 +35,38 @@ member_steps at d m = found_steps (member_at at m.key) m (get m.key d)
 abbrev pub is_known : List MemberText → List ℕ → Bool
 is_known ms key = list_any (λ (m : MemberText). bytes_eq key m.key) ms
 
+-- a member that isn't in the list is left out; its place isn't kept
 abbrev pub unknown_step : List MemberText → List ℕ → List StepText
 unknown_step ms key = if is_known ms key then [] else step [] (left_out kinds.Field) ∷ []
 
+-- those of all members
 abbrev pub unknown_steps : List MemberText → Members → List StepText
 unknown_steps ms no_members = []
 unknown_steps ms (member key d more) = unknown_step ms key ++ unknown_steps ms more
 
+-- the listed members in the order of the list, then all that is left out
 abbrev pub of_members : List ℕ → List MemberText → Data → Option Members → List StepText
 of_members at ms d None = step at bad_type ∷ []
 of_members at ms d (Some members) = flat_map (member_steps at d) ms ++ unknown_steps ms members
 
+-- the steps of an object; a value of another kind is a fault
 abbrev pub object_steps : List ℕ → List MemberText → Data → List StepText
 object_steps at ms d = of_members at ms d (as_object d)
 
 -- ---- relationships (clause 11.1)
 
+-- the line of a relationship, its three words with one blank between them
 abbrev pub relationship_line : List ℕ → List ℕ → List ℕ → LineText
 relationship_line left kind right = one_line tags.Relationship
     (left ++ (codes " " ++ (kind ++ (codes " " ++ right))))
 
+-- the three words of a relationship object; a missing one is empty
 abbrev pub words_of : Data → LineText
 words_of d =
     relationship_line (word_in (codes "spdxElementId") d) (word_in (codes "relationshipType") d)
     (word_in (codes "relatedSpdxElement") d)
 
+-- a relationship is written only if each of its three members is a word
 abbrev pub relationship_steps : List ℕ → Data → List StepText
 relationship_steps at d =
     object_steps at relationship_members d
@@ -85,15 +95,19 @@ package_steps at d =
     ++ if_array (contained_steps (word_in (codes "SPDXID") d)) (member_at at (codes "hasFiles"))
     (get (codes "hasFiles") d))
 
+-- a blank line and a file
 abbrev pub file_steps : List ℕ → Data → List StepText
 file_steps at d = step [] (put blank) ∷ object_steps at file_members d
 
+-- a blank line and a snippet
 abbrev pub snippet_steps : List ℕ → Data → List StepText
 snippet_steps at d = step [] (put blank) ∷ object_steps at snippet_members d
 
+-- a blank line and an extracted licence
 abbrev pub extracted_steps : List ℕ → Data → List StepText
 extracted_steps at d = step [] (put blank) ∷ object_steps at extracted_members d
 
+-- the steps of a part, by what it is
 abbrev pub part_steps : Part → List ℕ → Data → List StepText
 part_steps parts.Package = package_steps
 part_steps parts.File = file_steps

@@ -17,6 +17,7 @@ pub data WhatText : Type 0 where
   bad_type : WhatText
   bad_value : WhatText
 
+-- what a step does, apart from where its text is in memory
 abbrev pub what_text : What → WhatText
 what_text what.Blank = put blank
 what_text (what.OneLine tag text) = put (one_line tag text.now)
@@ -32,9 +33,11 @@ pub record StepText : Type 0 where
   pub at : List ℕ
   pub what : WhatText
 
+-- the same with its place
 abbrev pub step_text : Step → StepText
 step_text s = record { at = string_bytes s.at; what = what_text s.what }
 
+-- one thing to do at a place
 abbrev pub step : List ℕ → WhatText → StepText
 step at what = record { at = at; what = what }
 
@@ -42,5 +45,6 @@ step at what = record { at = at; what = what }
 abbrev pub member_at : List ℕ → List ℕ → List ℕ
 member_at at key = at ++ (codes "/" ++ key)
 
+-- items are counted from 0
 abbrev pub item_at : List ℕ → ℕ → List ℕ
 item_at at i = at ++ (codes "/" ++ decimal i)

@@ -19,12 +19,15 @@ abbrev pub line_what : (List ℕ → LineText) → Option (List ℕ) → WhatTex
 line_what line None = bad_type
 line_what line (Some text) = put (line text)
 
+-- the same as a step at a place
 abbrev pub line_step : List ℕ → (List ℕ → LineText) → Option (List ℕ) → StepText
 line_step at line text = step at (line_what line text)
 
+-- NONE and NOASSERTION are written as they are, any other text in <text>
 abbrev pub copyright_line : Tag → List ℕ → LineText
 copyright_line tag text = if is_keyword text then one_line tag text else in_text tag text
 
+-- a truth value as the tag-value form has it
 abbrev pub flag_text : Bool → List ℕ
 flag_text true = codes "true"
 flag_text false = codes "false"
@@ -57,10 +60,12 @@ abbrev pub text_fault : List ℕ → (List ℕ → Bool) → Option (List ℕ) �
 text_fault at test None = step at bad_type ∷ []
 text_fault at test (Some text) = if test text then [] else step at bad_value ∷ []
 
+-- what is wrong with a member that must be a word: it may also be missing
 abbrev pub found_fault : List ℕ → Option Data → List StepText
 found_fault at None = step at missing ∷ []
 found_fault at (Some d) = text_fault at is_word (as_str d)
 
+-- the same for the member with a key
 abbrev pub word_fault : List ℕ → List ℕ → Data → List StepText
 word_fault at key d = found_fault (member_at at key) (get key d)
 
@@ -68,6 +73,7 @@ word_fault at key d = found_fault (member_at at key) (get key d)
 abbrev pub text_or_empty : Option (List ℕ) → List ℕ
 text_or_empty text = unwrap_or text []
 
+-- the text of a member; empty if it has none, which another step reports
 abbrev pub word_in : List ℕ → Data → List ℕ
 word_in key d = text_or_empty (option_and_then as_str (get key d))
 
@@ -76,6 +82,7 @@ abbrev pub checksum_line : Tag → Data → LineText
 checksum_line tag d = one_line tag
     (word_in (codes "algorithm") d ++ (codes ": " ++ word_in (codes "checksumValue") d))
 
+-- a checksum is written only if its algorithm and its value are words
 abbrev pub checksum_steps : Tag → List ℕ → Data → List StepText
 checksum_steps tag at d =
     word_fault at (codes "algorithm") d
@@ -85,19 +92,23 @@ checksum_steps tag at d =
 abbrev pub name_fault : List ℕ → Data → List StepText
 name_fault at d = text_fault at is_name (as_str d)
 
+-- the names after the first one, each after a comma and a blank
 abbrev pub more_names : Items → List ℕ
 more_names no_items = []
 more_names (item d ds) = codes ", " ++ (text_or_empty (as_str d) ++ more_names ds)
 
+-- the names between parentheses behind the code; nothing for an empty list
 abbrev pub names_text : Items → List ℕ
 names_text no_items = []
 names_text (item d ds) = codes " (excludes: "
     ++ (text_or_empty (as_str d) ++ (more_names ds ++ codes ")"))
 
+-- the same, if there is such a list
 abbrev pub excluded_text : Option Items → List ℕ
 excluded_text None = []
 excluded_text (Some ds) = names_text ds
 
+-- the list of the files that a verification code excludes
 abbrev pub names_in : Data → Option Data
 names_in d = get (codes "packageVerificationCodeExcludedFiles") d
 
@@ -107,6 +118,7 @@ code_line tag d = one_line tag
     (word_in (codes "packageVerificationCodeValue") d
     ++ excluded_text (option_and_then as_array (names_in d)))
 
+-- a verification code: its value must be a word, and each excluded file a name
 abbrev pub code_steps : List ℕ → Tag → Data → List StepText
 code_steps at tag d =
     word_fault at (codes "packageVerificationCodeValue") d
@@ -114,15 +126,20 @@ code_steps at tag d =
     (names_in d) ++ step at (put (code_line tag d)) ∷ [])
 
 -- ---- what is left out: each item of an array, or any other value as one
+
+-- each item of an array counts as one, whatever it is
 abbrev pub left_items : Kind → Items → List StepText
 left_items kind no_items = []
 left_items kind (item d ds) = step [] (left_out kind) ∷ left_items kind ds
 
+-- each item, or the value itself if it is no array
 abbrev pub left_steps : Kind → Option Items → List StepText
 left_steps kind None = step [] (left_out kind) ∷ []
 left_steps kind (Some ds) = left_items kind ds
 
 -- ---- all of them
+
+-- the steps of a value by its member's form; what is written elsewhere has none here
 abbrev pub value_steps : List ℕ → Form → Data → List StepText
 value_steps at (forms.OneLine tag) d = line_step at (one_line tag) (as_str d) ∷ []
 value_steps at (forms.InText tag) d = line_step at (in_text tag) (as_str d) ∷ []

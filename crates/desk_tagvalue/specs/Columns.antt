@@ -38,9 +38,12 @@ pub record HaveEachOnce (es : List EntryText) : Type 0 where
 abbrev pub named : List ℕ → List EntryText → Option (List ℕ)
 named name es = value_of (tag_of name) es
 
+-- the same, or the empty text if there is no such field
 abbrev pub named_or_empty : List ℕ → List EntryText → List ℕ
 named_or_empty name es = unwrap_or (named name es) []
 
+-- the package that a section says (clause 7), each column by its tag: a field that is absent is
+-- none, but an absent SPDXID is an empty id
 pub record IsPackageOf (s : Section) (p : PackageText) : Type 0 where
   pub line : p.line ≡ s.start.line
   pub name : p.name ≡ s.start.value
@@ -53,6 +56,7 @@ pub record IsPackageOf (s : Section) (p : PackageText) : Type 0 where
   pub declared : p.declared ≡ named (codes "PackageLicenseDeclared") s.fields
   pub copyright : p.copyright ≡ named (codes "PackageCopyrightText") s.fields
 
+-- the file that a section says (clause 8); of its checksums only the first SHA1 counts
 pub record IsFileOf (s : Section) (f : FileText) : Type 0 where
   pub line : f.line ≡ s.start.line
   pub name : f.name ≡ s.start.value
@@ -61,10 +65,12 @@ pub record IsFileOf (s : Section) (f : FileText) : Type 0 where
   pub concluded : f.concluded ≡ named (codes "LicenseConcluded") s.fields
   pub copyright : f.copyright ≡ named (codes "FileCopyrightText") s.fields
 
+-- the snippet that a section says (clause 9); the identifier is on the line that begins it
 pub record IsSnippetOf (s : Section) (x : SnippetText) : Type 0 where
   pub line : x.line ≡ s.start.line
   pub id : x.id ≡ s.start.value
 
+-- the extracted licence that a section says (clause 10)
 pub record IsExtractedOf (s : Section) (x : ExtractedText) : Type 0 where
   pub line : x.line ≡ s.start.line
   pub id : x.id ≡ s.start.value
@@ -81,6 +87,8 @@ AreEach Is (x ∷ xs) (y ∷ ys) = Is x y × AreEach Is xs ys
 abbrev pub begun_by : List ℕ → List EntryText → List Section
 begun_by name es = filter (begins_with (tag_of name)) (sections_of es)
 
+-- a document's name and namespace, and its packages, files, snippets and extracted licences, each
+-- in the order of the text
 pub record HasColumns (d : DocumentText) : Type 0 where
   pub name : d.name ≡ named_or_empty (codes "DocumentName") d.entries
   pub namespace : d.namespace ≡ named_or_empty (codes "DocumentNamespace") d.entries

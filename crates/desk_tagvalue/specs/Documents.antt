@@ -24,6 +24,7 @@ document_text d = record {
   edges = map edge_text d.edges;
 }
 
+-- the document, or its fault if it has one
 abbrev pub unless : Option DocFault → DocumentText → Result DocumentText DocFault
 unless None d = Ok d
 unless (Some fault) d = Err fault

@@ -19,11 +19,13 @@ pub data LineText : Type 0 where
   one_line : (tag : Tag) (value : List ℕ) → LineText
   in_text : (tag : Tag) (value : List ℕ) → LineText
 
+-- a line of a draft, apart from where its value is in memory
 abbrev pub line_text : DraftLine → LineText
 line_text Blank = blank
 line_text (OneLine tag value) = one_line tag value.now
 line_text (InText tag value) = in_text tag value.now
 
+-- the bytes of a line; each line ends by LF
 abbrev pub spelled : LineText → List ℕ
 spelled blank = 10 ∷ []
 spelled (one_line tag value) = tag_name tag ++ (codes ": " ++ (value ++ (10 ∷ [])))
@@ -35,6 +37,8 @@ abbrev pub copyright_line : Tag → List ℕ → LineText
 copyright_line tag value = if bytes_eq value (codes "NOASSERTION") then one_line tag value
     else in_text tag value
 
+-- the lines of the document and of its package; the package bears the document's name and is
+-- described by it
 abbrev pub head_lines : Draft → List LineText
 head_lines d =
     one_line tags.Version (codes "SPDX-2.3")
@@ -55,6 +59,8 @@ head_lines d =
     ∷ one_line tags.Relationship (codes "SPDXRef-DOCUMENT DESCRIBES SPDXRef-Package")
     ∷ []
 
+-- an empty line and the fields of a file, from its name, its identifier and its checksum as they
+-- are printed
 abbrev pub lines_of_file : List ℕ → List ℕ → List ℕ → DraftFile → List LineText
 lines_of_file name id checksum f =
     blank
@@ -75,6 +81,7 @@ abbrev pub files_lines : ℕ → List DraftFile → List LineText
 files_lines k [] = []
 files_lines k (f ∷ fs) = file_lines k f ++ files_lines (k + 1) fs
 
+-- all lines of a draft: the head, then its files, numbered from 1
 abbrev pub draft_lines : Draft → List LineText
 draft_lines d = head_lines d ++ files_lines 1 d.files
 

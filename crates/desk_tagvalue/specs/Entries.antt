@@ -12,9 +12,11 @@ pub record EntryText : Type 0 where
   pub tag : Tag
   pub value : List ℕ
 
+-- the value that an entry borrows, with its line and its tag
 abbrev pub entry_text : Entry → EntryText
 entry_text e = record { line = e.line; tag = e.tag; value = e.value.now }
 
+-- a field, its tag read
 abbrev pub read_entry : FieldText → EntryText
 read_entry f = record { line = f.line; tag = tag_of f.tag; value = f.value }
 

@@ -22,9 +22,11 @@ use Rattle.desk_tagvalue.specs.Relationships.{is_relationship}
 abbrev pub begins : EntryText → Bool
 begins e = is_some (section_begun e.tag)
 
+-- the field has this tag
 abbrev pub has_tag : Tag → EntryText → Bool
 has_tag tag e = same_tag e.tag tag
 
+-- the kind of section after a field: the one that it begins, or else the one before
 abbrev pub kind_after : Option SectionKind → SectionKind → SectionKind
 kind_after None before = before
 kind_after (Some kind) before = kind
@@ -61,11 +63,13 @@ is_misspelt (Some forms.Licence) value = not (is_licence_id value)
 abbrev pub names : List EntryText → EntryText → Option IdForm
 names before e = id_form (kind_of before) e.tag
 
+-- the identifiers of the document, of packages, files and snippets are of one space of names
 abbrev pub names_element : Option IdForm → Bool
 names_element (Some forms.Document) = true
 names_element (Some forms.Element) = true
 names_element _ = false
 
+-- the identifiers of extracted licences are of a space of their own
 abbrev pub names_licence : Option IdForm → Bool
 names_licence (Some forms.Licence) = true
 names_licence _ = false
@@ -75,10 +79,12 @@ abbrev pub has_element : List ℕ → List EntryText → Bool
 has_element id [] = false
 has_element id (e ∷ es) = names_element (names es e) && bytes_eq e.value id || has_element id es
 
+-- the same for an extracted licence
 abbrev pub has_licence : List ℕ → List EntryText → Bool
 has_licence id [] = false
 has_licence id (e ∷ es) = names_licence (names es e) && bytes_eq e.value id || has_licence id es
 
+-- an identifier occurs among those of its own space that were named before
 abbrev pub is_taken : Option IdForm → List ℕ → List EntryText → Bool
 is_taken None id before = false
 is_taken (Some forms.Document) id before = has_element id before
@@ -111,6 +117,7 @@ value_fault e =
     then Some (faults.BadRelationship e.line)
     else None)
 
+-- the first fault if there is one, or else the later one
 abbrev pub first_of : Option DocFault → Option DocFault → Option DocFault
 first_of None later = later
 first_of (Some fault) later = Some fault

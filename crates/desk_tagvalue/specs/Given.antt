@@ -16,6 +16,7 @@ pub record IsPackage (d : Draft) (p : PackageText) : Type 0 where
   pub concluded : p.concluded ≡ Some d.concluded
   pub copyright : p.copyright ≡ Some d.copyright
 
+-- there is one package, and it is the draft's
 abbrev pub IsOnlyPackage : Draft → List PackageText → Type 0
 IsOnlyPackage d (p ∷ []) = IsPackage d p
 IsOnlyPackage d _ = ⊥
@@ -40,6 +41,8 @@ IsOnlyEdge (e ∷ []) = (e.left ≡ codes "SPDXRef-DOCUMENT") × (e.kind ≡ cod
     × (e.right ≡ codes "SPDXRef-Package")
 IsOnlyEdge _ = ⊥
 
+-- the document says what the draft says and nothing else: one package, the draft's files in order,
+-- and one relationship
 pub record GivesDraft (d : Draft) (x : DocumentText) : Type 0 where
   pub name : x.name ≡ d.name
   pub namespace : x.namespace ≡ d.namespace

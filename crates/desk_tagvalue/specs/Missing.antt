@@ -10,6 +10,7 @@ use Rattle.desk_tagvalue.specs.Entries.{EntryText, value_of}
 use Rattle.desk_tagvalue.specs.Faults.{first_of}
 use Rattle.desk_tagvalue.specs.Parts.{head_of}
 
+-- no field has this tag; an empty value is a value
 abbrev pub is_absent : Tag → List EntryText → Bool
 is_absent tag es = is_none (value_of tag es)
 
@@ -33,5 +34,6 @@ missing_of_elements [] = None
 missing_of_elements (e ∷ es) = if is_unnamed e es then Some (faults.Missing e.line tags.Identifier)
     else missing_of_elements es
 
+-- what is missing, the document's fields before those of its elements
 abbrev pub missing_of : List EntryText → Option DocFault
 missing_of es = first_of (missing_of_document es) (missing_of_elements es)

@@ -11,6 +11,7 @@ use Rattle.desk_tagvalue.specs.Entries.{EntryText, value_of}
 use Rattle.desk_tagvalue.specs.Faults.{begins}
 use Rattle.desk_tagvalue.specs.Relationships.{left_word, kind_word, right_word}
 
+-- a field that begins no section
 abbrev pub is_inside : EntryText → Bool
 is_inside e = not (begins e)
 
@@ -23,6 +24,7 @@ pub record Section : Type 0 where
   pub start : EntryText
   pub fields : List EntryText
 
+-- the section that a field begins, with the fields up to the next section
 abbrev pub section_at : EntryText → List EntryText → Section
 section_at e es = record { start = e; fields = head_of es }
 
@@ -31,6 +33,7 @@ abbrev pub sections_of : List EntryText → List Section
 sections_of [] = []
 sections_of (e ∷ es) = if begins e then section_at e es ∷ sections_of es else sections_of es
 
+-- the section begins with this tag
 abbrev pub begins_with : Tag → Section → Bool
 begins_with tag s = same_tag s.start.tag tag
 
@@ -55,6 +58,7 @@ pub record PackageText : Type 0 where
   pub declared : Option (List ℕ)
   pub copyright : Option (List ℕ)
 
+-- what a package's section says
 abbrev pub package_of : Section → PackageText
 package_of s = record {
   line = s.start.line;
@@ -69,6 +73,7 @@ package_of s = record {
   copyright = value_of tags.PackageCopyright s.fields;
 }
 
+-- a hexadecimal digit in either case
 abbrev pub is_hex : ℕ → Bool
 is_hex b = nat_le 48 b && nat_le b 57 || nat_le 65 b && nat_le b 70 || nat_le 97 b && nat_le b 102
 
@@ -96,6 +101,7 @@ pub record FileText : Type 0 where
   pub concluded : Option (List ℕ)
   pub copyright : Option (List ℕ)
 
+-- what a file's section says
 abbrev pub file_of : Section → FileText
 file_of s = record {
   line = s.start.line;
@@ -111,6 +117,7 @@ pub record SnippetText : Type 0 where
   pub line : ℕ
   pub id : List ℕ
 
+-- what a snippet's section says
 abbrev pub snippet_of : Section → SnippetText
 snippet_of s = record { line = s.start.line; id = s.start.value }
 
@@ -120,6 +127,7 @@ pub record ExtractedText : Type 0 where
   pub id : List ℕ
   pub text : Option (List ℕ)
 
+-- what the section of an extracted licence says
 abbrev pub extracted_of : Section → ExtractedText
 extracted_of s = record {
   line = s.start.line;
@@ -134,6 +142,7 @@ pub record EdgeText : Type 0 where
   pub kind : List ℕ
   pub right : List ℕ
 
+-- the three words of a relationship, with its line
 abbrev pub edge_of : EntryText → EdgeText
 edge_of e = record {
   line = e.line;
@@ -142,9 +151,11 @@ edge_of e = record {
   right = right_word e.value;
 }
 
+-- a field that is a relationship
 abbrev pub is_edge : EntryText → Bool
 is_edge e = same_tag e.tag tags.Relationship
 
+-- the relationships of all sections, in the order of the text
 abbrev pub edges_of : List EntryText → List EdgeText
 edges_of es = map edge_of (filter is_edge es)
 
@@ -160,6 +171,7 @@ pub record DocumentText : Type 0 where
   pub extracted : List ExtractedText
   pub edges : List EdgeText
 
+-- the document that the fields say, if they have no fault
 abbrev pub document_of : List EntryText → DocumentText
 document_of es = record {
   entries = es;

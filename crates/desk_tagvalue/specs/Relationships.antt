@@ -11,6 +11,7 @@ use Rattle.desk_tagvalue.specs.Ids.{is_element_id}
 abbrev pub is_document_byte : ℕ → Bool
 is_document_byte b = is_ascii_alphanumeric b || b == 46 || b == 45 || b == 43
 
+-- the colon between a document's name and an element of it
 abbrev pub is_colon : ℕ → Bool
 is_colon b = b == 58
 
@@ -36,6 +37,7 @@ is_end text = is_element_id text || is_external text
 abbrev pub is_target : List ℕ → Bool
 is_target text = is_end text || bytes_eq text (codes "NONE") || bytes_eq text (codes "NOASSERTION")
 
+-- a capital or `_`
 abbrev pub is_kind_byte : ℕ → Bool
 is_kind_byte b = nat_le 65 b && nat_le b 90 || b == 95
 
@@ -47,9 +49,11 @@ is_kind text = list_all is_kind_byte text && nat_lt 0 (length text)
 abbrev pub left_word : List ℕ → List ℕ
 left_word value = first_word value
 
+-- the second word, the relationship's type; empty if there is none
 abbrev pub kind_word : List ℕ → List ℕ
 kind_word value = first_word (after_word value)
 
+-- the third word; empty if there is none
 abbrev pub right_word : List ℕ → List ℕ
 right_word value = first_word (after_word (after_word value))
 

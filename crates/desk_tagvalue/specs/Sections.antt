@@ -16,20 +16,25 @@ section_begun tags.SnippetIdentifier = Some kinds.Snippet
 section_begun tags.LicenseIdentifier = Some kinds.Extracted
 section_begun _ = None
 
+-- the sections in which SPDXID is read (clauses 6.3, 7.2 and 8.2); a snippet and an extracted
+-- licence have their identifiers in the tag that begins them
 abbrev pub has_identifier : SectionKind → Bool
 has_identifier kinds.Document = true
 has_identifier kinds.Package = true
 has_identifier kinds.File = true
 has_identifier _ = false
 
+-- the section of a package
 abbrev pub is_package : SectionKind → Bool
 is_package kinds.Package = true
 is_package _ = false
 
+-- the section of a file
 abbrev pub is_file : SectionKind → Bool
 is_file kinds.File = true
 is_file _ = false
 
+-- the section of an extracted licence
 abbrev pub is_extracted : SectionKind → Bool
 is_extracted kinds.Extracted = true
 is_extracted _ = false
@@ -77,6 +82,7 @@ once_in_section tags.FileCopyright = true
 once_in_section tags.ExtractedText = true
 once_in_section _ = false
 
+-- what SPDXID names in each section
 abbrev pub named_by_identifier : SectionKind → Option IdForm
 named_by_identifier kinds.Document = Some forms.Document
 named_by_identifier kinds.Package = Some forms.Element

@@ -14,13 +14,17 @@ use Rattle.desk_tagvalue.specs.Faults.{begins, kind_of, section, has_element, ha
 abbrev pub newest : List Entry → List EntryText
 newest entries = reverse (map entry_text entries)
 
+-- the set has the identifier
 abbrev pub has_key : List ℕ → BTreeSet (Bor (List ℕ)) → Bool
 has_key id s = contains_by (λ (k : Bor (List ℕ)). slice_cmp nat_cmp id k.now) s
 
+-- the two sets have the identifiers of the fields passed: of elements, and of extracted licences
 pub record HoldsIds (before : List EntryText) (ids : Ids) : Type 0 where
   pub elements : (q : List ℕ) → has_key q ids.elements ≡ has_element q before
   pub licences : (q : List ℕ) → has_key q ids.licences ≡ has_licence q before
 
+-- the kind of the open section, the place of its first field, how many elements were begun, and the
+-- identifiers named so far
 pub record Knows (before : List Entry) (s : Seen) : Type 0 where
   pub kind : s.kind ≡ kind_of (newest before)
   pub start : s.start ≤ length before

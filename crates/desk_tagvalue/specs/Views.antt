@@ -7,6 +7,7 @@ use Rattle.desk_tagvalue.specs.declared.parts.Edge.{Edge}
 use Rattle.desk_tagvalue.specs.Entries.{value_text}
 use Rattle.desk_tagvalue.specs.Parts.{PackageText, FileText, SnippetText, ExtractedText, EdgeText}
 
+-- the texts that a package borrows
 abbrev pub package_text : Package → PackageText
 package_text p = record {
   line = p.line;
@@ -21,6 +22,7 @@ package_text p = record {
   copyright = value_text p.copyright;
 }
 
+-- the texts that a file borrows
 abbrev pub file_text : FileEntry → FileText
 file_text f = record {
   line = f.line;
@@ -31,11 +33,14 @@ file_text f = record {
   copyright = value_text f.copyright;
 }
 
+-- the text that a snippet borrows
 abbrev pub snippet_text : Snippet → SnippetText
 snippet_text s = record { line = s.line; id = s.id.now }
 
+-- the texts that an extracted licence borrows
 abbrev pub extracted_text : Extracted → ExtractedText
 extracted_text x = record { line = x.line; id = x.id.now; text = value_text x.text }
 
+-- the three words that a relationship borrows
 abbrev pub edge_text : Edge → EdgeText
 edge_text e = record { line = e.line; left = e.left.now; kind = e.kind.now; right = e.right.now }

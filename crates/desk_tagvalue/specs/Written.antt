@@ -9,6 +9,7 @@ use Rattle.desk_tagvalue.specs.declared.drafts.DraftFile.{DraftFile}
 use Rattle.desk_tagvalue.specs.Drafts.{LineText, blank, one_line, in_text, spelled, text_of_lines}
 use Rattle.desk_tagvalue.specs.Parts.{sha1_digits}
 
+-- a field of this line, tag and value
 abbrev pub field_at : ℕ → List ℕ → List ℕ → FieldText
 field_at line tag value = record { line = line; tag = tag; value = value }
 

@@ -1,4 +1,4 @@
-//! Fields whose tags are read.
+//! Fields with their tags read.
 
 ghost use Rattle.std.specs.Prelude.{◌≡◌, ◌≤◌, ◌<◌, ◌+◌, ◌^◌, ◌/◌, ◌⊎◌, length, IfOk, IfErr, Err, map};
 ghost use Rattle.desk_fields.specs.declared.fault.DocFault.{DocFault};
@@ -11,7 +11,7 @@ use desk_fields::{DocFault, Field, Scanner, Tag};
 use memchr::memchr_iter;
 use std::alloc::Global;
 
-/// A field whose tag is read.
+/// A field with its tag read.
 #[derive(Clone, Copy)]
 pub struct Entry<'a> {
     /// The line on which it begins, from 1. For a document of 4 MiB 32 bits are enough.
@@ -45,7 +45,7 @@ fn most_fields(text: &str) -> usize
 }
 
 /// All fields of a text with their tags read. Room for the most that there can be is reserved once,
-/// and what they don't need is given back.
+/// and what isn't needed is released.
 pub(crate) fn entries_of<'a>(alloc: Global, text: &'a str) -> Result<Vec<Entry<'a>>, DocFault>
     requires { length text.now ≤ document_bytes }
     ensures ok { IfOk result (λ v. AreEntries text.now (map entry_text v.items)) }

@@ -111,7 +111,7 @@ fn place_fault(seen: &Seen, before: &[Entry], entry: &Entry) -> Option<DocFault>
     None
 }
 
-// How a field fails because of its value alone.
+// How a field fails because of its value, whatever precedes it.
 fn value_fault(entry: &Entry) -> Option<DocFault>
     ensures { result ≡ value_fault (entry_text entry.now) }
 {

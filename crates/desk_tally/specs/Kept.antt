@@ -129,6 +129,8 @@ pub record AreCounted (places : List ℕ) (all : List Stand) (t : Tables) : Type
   pub stands : all ≡ map (stand_of t.releases) t.duty
   pub numbered : are_numbered 1 t.duty ≡ true
 
+-- tallies can be counted from these: there are at most 100,000 duties, each of a release that has a
+-- place, and the places are different, from 1 to their number
 abbrev pub can_count : List ℕ → List Stand → Bool
 can_count places all = nat_le (length all) most.duties
     && (are_placed (length places) all && are_places (length places) (λ place. false) places)

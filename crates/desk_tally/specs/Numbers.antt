@@ -4,6 +4,7 @@ use Rattle.desk_model.specs.declared.state.DutyState.{DutyState}
 use Rattle.desk_model.specs.declared.state.DutyState.TheVariants as stands
 use Rattle.desk_model.specs.declared.command.Totals.{Totals}
 
+-- what a duty adds to a count: 1 if it is counted, else 0
 abbrev pub one_if : Bool → ℕ
 one_if so = if so then 1 else 0
 

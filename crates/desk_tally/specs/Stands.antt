@@ -15,6 +15,7 @@ use Rattle.desk_tally.specs.declared.stand.Step.{Step}
 use Rattle.desk_tally.specs.declared.stand.Step.TheVariants as step
 use Rattle.desk_tally.specs.declared.tally.Tally.{Tally}
 
+-- a duty of the release at a place
 abbrev pub is_of : ℕ → Stand → Bool
 is_of place stand = stand.place == place
 
@@ -51,6 +52,7 @@ are_places count taken [] = true
 are_places count taken (place ∷ places) = is_within count place
     && (not (taken place) && are_places count (λ other. (other == place) || taken other) places)
 
+-- a duty as it is raised for the release at a place
 abbrev pub open_at : ℕ → Stand
 open_at place = record { place = place; state = IsOpen }
 
@@ -65,6 +67,7 @@ abbrev pub shifted : List Shift → List Stand → List Stand
 shifted [] all = all
 shifted (shift ∷ shifts) all = at_state (shift.duty - 1) shift.state (shifted shifts all)
 
+-- each duty that is moved is one of this many, numbered from 1
 abbrev pub are_duties : ℕ → List Shift → Bool
 are_duties count shifts = list_all (λ shift. is_within count shift.duty) shifts
 
@@ -72,6 +75,8 @@ are_duties count shifts = list_all (λ shift. is_within count shift.duty) shifts
 abbrev pub shift_of : ChangeRow → Shift
 shift_of row = record { duty = row.duty; state = state_after row.word }
 
+-- after a step: raised duties come at the end, with the next numbers; a release that is opened has
+-- none
 abbrev pub stands_after : Step → List Stand → List Stand
 stands_after (step.Raise place count) all = all ++ replicate count (open_at place)
 stands_after (step.Move shifts) all = shifted shifts all

@@ -1,10 +1,10 @@
 //! How many duties of each release are in each state, kept beside the rows instead of being
 //! counted.
 //!
-//! - `Tally` is what is kept of one release. Its numbers change as its duties are raised and moved.
+//! - `Tally` is what is kept for one release. Its numbers change as duties are raised and moved.
 //! - `Tallies` are those of all releases, by place, with the place and state of each duty, by
-//!   number. `Tallies::plan` returns the step that a change of the rows comes to and makes room for
-//!   it, before anything is written; `Tallies::take` takes the step and can't fail.
+//!   number. `Tallies::plan` returns the step that a change of the rows amounts to, and makes room
+//!   for it, before anything is written; `Tallies::take` takes the step and can't fail.
 #![tactic(auto)]
 
 mod changes;

@@ -70,7 +70,7 @@ impl Tallies {
 
     /// The tallies of the rows of releases and duties, counted once. `None` if the releases' places
     /// are not those from 1 to their number, the duties are not numbered 1, 2 and so on, one is of
-    /// a release that isn't there, or there are more than 100,000.
+    /// a release that doesn't exist, or there are more than 100,000.
     pub fn counted(
         alloc: Global,
         releases: &[ReleaseRow],
@@ -206,12 +206,12 @@ impl Tallies {
         }
     }
 
-    /// The step that a change of the rows comes to. Room is made for it, and nothing is done yet.
+    /// The step that a change of the rows amounts to. Room is made for it, but nothing is done yet.
     /// For a freeze, `place` is that of its release.
     ///
-    /// Each change that continues the rows has a step. There is none for what no command does:
-    /// releases that aren't opened one after another, duties that don't have the next numbers or
-    /// are more than 100,000, and changes of duties that don't exist.
+    /// Each change that continues the rows has a step. There is no step for what no command does:
+    /// opening a release at a place that isn't the next, raising duties without the next numbers or
+    /// more than 100,000 in all, and changes of duties that don't exist.
     pub fn plan(&mut self, change: &Change, place: Option<u32>) -> Result<Option<Step>, AllocError>
         ensures kept { (t : Tables) → AreKept self.old t → AreKept self.new t }
         ensures fits { IfOk result (λ found. IfSome found (λ step. Fits step self.new)) }

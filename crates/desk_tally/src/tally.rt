@@ -9,10 +9,15 @@ use desk_model::{DutyState, Totals};
 /// How many duties of a release were raised, and how many of these are in each state.
 #[derive(Clone, Copy, PartialEq, Eq)]
 pub struct Tally {
+    /// All of them.
     pub raised: u64,
+    /// Those that are open.
     pub still_open: u64,
+    /// Those that are met.
     pub met: u64,
+    /// Those that are waived.
     pub waived: u64,
+    /// Those that are withdrawn.
     pub withdrawn: u64,
     pub ghost balanced: { raised ≡ still_open + met + waived + withdrawn },
     pub ghost limited: { raised ≤ 100000 },

@@ -16,6 +16,7 @@ use Rattle.desk_catalogue.specs.declared.catalogue.Catalogue.{Catalogue as Whole
 use Rattle.desk_catalogue.specs.declared.catalogue.LicenceText.{LicenceText as WholeText}
 use Rattle.desk_texts.specs.declared.licences.Taken.{Taken}
 
+-- the forms and the rules of a catalogue; its fault stays the same
 abbrev pub kept_catalogue : Result WholeCatalogue CatalogueFault → Result Catalogue CatalogueFault
 kept_catalogue (Ok catalogue) = Ok (record { forms = catalogue.forms; rules = catalogue.rules })
 kept_catalogue (Err fault) = Err fault

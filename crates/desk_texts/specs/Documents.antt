@@ -31,6 +31,7 @@ abbrev pub marked : List PackageText → List Bool → List (PackageText × Bool
 marked [] marks = []
 marked (p ∷ ps) marks = (p, slice_index_or marks 0 false) ∷ marked ps (drop 1 marks)
 
+-- a package with its mark
 abbrev pub package_of : PackageText × Bool → Package
 package_of m = record {
   id = m.0.id;
@@ -41,9 +42,11 @@ package_of m = record {
   shipped = m.1;
 }
 
+-- an extracted licence, by its LicenseID
 abbrev pub reference_of : ExtractedText → Reference
 reference_of x = record { id = x.id; body = x.text }
 
+-- the namespace, and the packages and references in the order of their ids
 abbrev pub document_of : List Bool → DocumentText → Document
 document_of marks d = record {
   namespace = d.namespace;

@@ -22,6 +22,7 @@ use Rattle.desk_findings.specs.Fields.{is_no_licence}
 abbrev pub IsExpression : Profile → List ℕ → Tree → Type 0
 IsExpression profile text e = (is_no_licence text ≡ false) × SpellsWithinBy profile text e
 
+-- a value that is no expression: NONE, NOASSERTION, or a text that spells nothing within the limits
 abbrev pub IsNoExpression : Profile → List ℕ → Type 0
 IsNoExpression profile text = (e : Tree) → IsExpression profile text e → ⊥
 

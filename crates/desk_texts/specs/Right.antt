@@ -21,6 +21,8 @@ use Rattle.desk_texts.specs.Findings.{Finds}
 use Rattle.desk_texts.specs.Listings.{Lists, HasTerms, Prices}
 use Rattle.desk_texts.specs.Terms.{reference_in, is_licence, adopted_as, licence_id_in, exception_in}
 
+-- each reading says of each text what the definitions of the standards and of the catalogue's
+-- format say
 pub record AreRight (w : Readings) : Type 0 where
   -- the licence term that a text spells, as printed
   pub term : ReadsTerms w.term

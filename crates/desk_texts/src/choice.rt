@@ -1,6 +1,6 @@
 //! How the terms of a choice satisfy an expression.
 //!
-//! Whether an expression is true depends on its own terms alone. So of a choice, which may list
+//! Whether an expression is true depends only on its own terms. So of a choice, which may list
 //! millions of terms, only the first copy of each of these is kept, and the first of all other
 //! terms: at most 1,025 terms.
 

@@ -55,8 +55,8 @@ fn fault_of(fault: ParseFault) -> Result<ExpressionFault, AllocError>
     }
 }
 
-/// Why a value is no licence expression by a profile of operators, if it is none. If reading stops,
-/// the fault is the one that stops it, even if the text is too long.
+/// Why a value isn't a licence expression by a profile of operators, if it isn't one. If reading
+/// stops, the fault is the one that stops it, even if the text is too long.
 pub(crate) fn expression_fault(
     alloc: Global,
     text: &str,

@@ -35,7 +35,7 @@ fn by_id(
     Ok(map)
 }
 
-/// The texts of the catalogue that a text is, by their ids, or none if it is no catalogue.
+/// The texts of the catalogue that a text is, by their ids, or none if it isn't a catalogue.
 fn licences_of(alloc: Global, text: &str) -> Result<BTreeMap<Key, LicenceText>, AllocError>
     ensures { (terms : List ℕ → Option (List ℕ)) → ReadsTerms terms → IfOk result (λ texts.
         (id : List ℕ) → text_in texts id ≡ licence_text_in (catalogue_of terms text.now) id) }
@@ -64,8 +64,8 @@ fn copy_at(found: &[Option<LicenceText>], place: usize) -> Result<Option<Licence
     }
 }
 
-/// The texts that were found, and those that are left. Since a body may be large, each is moved out
-/// when it is first asked for, and copied from there when it is asked for again.
+/// The texts that were found, and those that remain. Since a body may be large, each is moved when
+/// it is first asked for, and copied from its new place when it is asked for again.
 #[derive(Drop)]
 pub(crate) struct Taken {
     pub(crate) left: BTreeMap<Key, LicenceText>,

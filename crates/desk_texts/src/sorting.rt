@@ -45,7 +45,7 @@ fn lower<P: Identified>(sorted: &VecDeque<&P>, id: &str) -> usize
     low
 }
 
-/// Whether a part goes in at a place, because there is none with its id.
+/// Whether a part is inserted at a place, because there is none with its id.
 fn is_new<P: Identified>(sorted: &VecDeque<&P>, place: usize, id: &str) -> bool
     requires { place ≤ length sorted.now.items }
     ensures { result ≡ is_below_first id.now
@@ -73,7 +73,7 @@ fn put_by<'s, P: Identified>(sorted: &mut VecDeque<&'s P>, part: &'s P) -> Resul
 }
 
 /// The parts by their ids, each id once. They are inserted from the last to the first, so those of
-/// a document that numbers them go in near the front, where a `VecDeque` moves few.
+/// a document that numbers them are inserted near the front, where a `VecDeque` moves few.
 pub(crate) fn sorted_by<'s, P: Identified>(
     alloc: Global,
     parts: &'s [P],

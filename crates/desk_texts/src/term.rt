@@ -60,7 +60,7 @@ pub(crate) fn reference_of(alloc: Global, term: &str) -> Result<Option<Text>, Al
     }
 }
 
-/// Whether a printed term is a licence alone: no reference, no plus, no exception.
+/// Whether a printed term is only a licence: no reference, no plus, no exception.
 pub(crate) fn is_licence(term: &str) -> bool
     ensures { result ≡ is_licence term.now }
 {

@@ -8,6 +8,7 @@ use Rattle.desk_base.specs.declared.profile.Profile.{Profile}
 use Rattle.desk_base.specs.declared.profile.Profile.TheVariants.{Capitals}
 use Rattle.desk_base.specs.Bytes.{is_blank}
 
+-- `(` or `)`; each is a token, even if no blank is beside it
 abbrev pub is_parenthesis : ℕ → Bool
 is_parenthesis b = b == 40 || b == 41
 
@@ -34,6 +35,7 @@ pub record Lexeme : Type 0 where
   pub end : ℕ
   pub kind : Kind
 
+-- the bytes that a token borrows, with its places and its kind
 abbrev pub lexeme : Token → Lexeme
 lexeme t = record { text = t.text.now; start = t.start; end = t.end; kind = t.kind }
 

@@ -95,7 +95,7 @@ pub fn is_reference(bytes: &[u8]) -> bool
         || (bytes.starts_with(b"DocumentRef-") && is_reference_of_document(&bytes[12..]))
 }
 
-// Whether the bytes begin as a reference does.
+// Whether the bytes begin like a reference.
 fn begins_like_reference(bytes: &[u8]) -> bool
     ensures { result ≡ begins_like_reference bytes.now }
 {
@@ -109,7 +109,7 @@ fn is_licence_or_later(bytes: &[u8]) -> bool
     bytes.ends_with(b"+") && is_idstring_of_bytes(&bytes[..bytes.len() - 1])
 }
 
-// What a run that is no operator is.
+// What a run that isn't an operator is.
 fn word_kind(bytes: &[u8]) -> Kind
     ensures { result ≡ word_kind bytes.now }
 {
@@ -203,7 +203,7 @@ fn first_token<'a>(profile: Profile, rest: &'a str, place: usize) -> Option<(Tok
     Some((token, after))
 }
 
-/// The tokens of a text, from the left: what is left of the text, its place, and the profile of
+/// The tokens of a text, from the left: the rest of the text, its place, and the profile of
 /// operators by which it is read.
 #[derive(Drop)]
 pub struct TokenCuts<'a> {

@@ -15,6 +15,7 @@ abbrev pub found_inner : Option (Bor (List ℕ)) → Option (List ℕ)
 found_inner None = None
 found_inner (Some t) = Some t.now
 
+-- what the code finds for a run: no tag that counts, a tag without a value, or a value
 abbrev pub found : Option (Option (Bor (List ℕ))) → Option (Option (List ℕ))
 found None = None
 found (Some o) = Some (found_inner o)

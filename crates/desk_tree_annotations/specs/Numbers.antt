@@ -5,6 +5,7 @@ use Rattle.desk_tree_annotations.specs.declared.fault.AnnotationFault.TheVariant
 use Rattle.desk_tree_annotations.specs.declared.fault.AnnotationFault.TheVariants.{BadPrecedence}
 use Rattle.desk_tree_annotations.specs.declared.fault.AnnotationFault.TheVariants.{BadExpression}
 
+-- The number with which a fault is reported; a lower one is looked for first.
 abbrev pub kind_number : AnnotationFault → ℕ
 kind_number NoPath = 1
 kind_number BadKind = 2

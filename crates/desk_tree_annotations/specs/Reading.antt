@@ -32,6 +32,8 @@ pub record WrittenTexts : Type 0 where
   pub notices : List (List ℕ)
   pub licences : List (List ℕ)
 
+-- What these values say, if each has its kind. A value of another kind is missing here, and the
+-- fault is BadKind whichever it is.
 abbrev pub written_by : ℕ → Option (List (List ℕ)) → Option (List ℕ) → Option (List (List ℕ))
     → Option (List (List ℕ)) → Read WrittenTexts
 written_by index (Some paths) (Some precedence) (Some notices) (Some licences) =
@@ -49,6 +51,7 @@ written_with index ms path =
     (texts_at (get_member (codes "SPDX-FileCopyrightText") ms))
     (texts_at (get_member (codes "SPDX-License-Identifier") ms))
 
+-- what the entry with this index says: it is a table, and has a `path`
 abbrev pub written_at : ℕ → Data → Read WrittenTexts
 written_at index d =
     then_read (ok_or (as_table d) (BadAnnotation index BadKind)) (λ ms.
@@ -69,6 +72,7 @@ annotation_of r index w =
     })
     else Err (BadAnnotation index BadExpression))
 
+-- the annotation of the entry with this index, or its first fault
 abbrev pub annotation_at : Reading → ℕ → Data → Read Annotation
 annotation_at r index d = then_read (written_at index d) (annotation_of r index)
 
@@ -82,6 +86,7 @@ abbrev pub entries_in : Members → Read Items
 entries_in ms = if is_version (get_member (codes "version") ms)
     then listed (get_member (codes "annotations") ms) else Err BadToml
 
+-- the entries of a text that is TOML 1.0 with `version = 1`; their own faults come later
 abbrev pub entries : List ℕ → Read Items
 entries text = then_read (ok_or (parse_document text) BadToml) entries_in
 

@@ -15,6 +15,8 @@ pub record Reading : Type 0 where
   pub pieces : List ℕ → List Piece
   pub is_expression : List ℕ → Bool
 
+-- a right reading cuts each pattern into its pieces (REUSE Specification 3.3, "REUSE.toml"), and
+-- knows each licence expression
 pub record IsRight (r : Reading) : Type 0 where
   pub patterns : (pattern : List ℕ) → Spells pattern (r.pieces pattern)
   pub expressions : (text : List ℕ) → Tells text (r.is_expression text)

@@ -7,9 +7,11 @@ use Rattle.desk_base.specs.declared.lines.LineEnd.{LineEnd}
 use Rattle.desk_base.specs.Lines.{end_bytes, Ends}
 use Rattle.desk_tree_annotations.specs.declared.runs.Run.{Run}
 
+-- what begins an ignored stretch, anywhere on a line
 abbrev pub start : List ℕ
 start = codes "REUSE-IgnoreStart"
 
+-- what ends it; the stretch includes it
 abbrev pub stop : List ℕ
 stop = codes "REUSE-IgnoreEnd"
 
@@ -60,6 +62,7 @@ pub record RunText : Type 0 where
   pub line : ℕ
   pub text : List ℕ
 
+-- the run that the code keeps, with the bytes that it borrows
 abbrev pub run_text : Run → RunText
 run_text r = record { line = r.line; text = r.text.now }
 

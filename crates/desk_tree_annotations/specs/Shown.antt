@@ -9,6 +9,7 @@ abbrev pub Gives : {A B : Type 0} → Read B → (A → B) → Result A Annotati
 Gives read show (Ok x) = read ≡ Ok (show x)
 Gives read show (Err fault) = read ≡ Err fault
 
+-- what the code keeps of an annotation as it is written
 abbrev pub written_in : Written → WrittenTexts
 written_in w = record {
   paths = w.paths;

@@ -21,14 +21,17 @@ abbrev pub each_good : {A : Type 0} → (ℕ → Data → Read A) → ℕ → It
 each_good entry index no_items = []
 each_good entry index (item d ds) = good (entry index d) ++ each_good entry (index + 1) ds
 
+-- why others of them can't be read, in their order
 abbrev pub each_bad : {A : Type 0} → (ℕ → Data → Read A) → ℕ → Items → List AnnotationsFault
 each_bad entry index no_items = []
 each_bad entry index (item d ds) = bad (entry index d) ++ each_bad entry (index + 1) ds
 
+-- the annotations that can be read, of entries that may be none: then there are none
 abbrev pub good_in : Reading → Read Items → List Annotation
 good_in r (Ok ds) = each_good (annotation_at r) 0 ds
 good_in r (Err fault) = []
 
+-- the faults, of entries that may be none: then the only one is that of the whole file
 abbrev pub bad_in : Reading → Read Items → List AnnotationsFault
 bad_in r (Ok ds) = each_bad (annotation_at r) 0 ds
 bad_in r (Err fault) = fault ∷ []
@@ -37,6 +40,7 @@ bad_in r (Err fault) = fault ∷ []
 abbrev pub good_annotations : Reading → List ℕ → List Annotation
 good_annotations r text = good_in r (entries text)
 
+-- all faults of a text, in the order of its entries; that of the whole file is alone
 abbrev pub annotation_faults : Reading → List ℕ → List AnnotationsFault
 annotation_faults r text = bad_in r (entries text)
 

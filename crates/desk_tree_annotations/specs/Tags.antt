@@ -4,9 +4,11 @@ use Rattle.desk_fields.specs.Text.{trim_end, trimmed}
 use Rattle.desk_tree_annotations.specs.declared.tags.Tagged.{Tagged}
 use Rattle.desk_tree_annotations.specs.Runs.{Lacks, IsUpTo, RunText, Shows}
 
+-- the tag of a copyright notice; the notice follows on the same line
 abbrev pub notice_tag : List ℕ
 notice_tag = codes "SPDX-FileCopyrightText:"
 
+-- the tag of a licence expression
 abbrev pub licence_tag : List ℕ
 licence_tag = codes "SPDX-License-Identifier:"
 
@@ -50,6 +52,7 @@ pub record TagText : Type 0 where
   pub line : ℕ
   pub value : List ℕ
 
+-- the tag that the code keeps, with the value that it borrows
 abbrev pub tag_text : Tagged → TagText
 tag_text t = record { line = t.line; value = t.value.now }
 

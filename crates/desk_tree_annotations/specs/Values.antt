@@ -13,6 +13,7 @@ is_one None = false
 is_one (Some (pos n)) = n == 1
 is_one (Some (negsuc n)) = false
 
+-- the value of `version` is the whole number 1, the only version there is
 abbrev pub is_version : Option Data → Bool
 is_version value = is_one (option_and_then as_integer value)
 
@@ -22,6 +23,7 @@ strings no_items = Some []
 strings (item d ds) = option_and_then (λ text. option_map (λ more. text ∷ more) (strings ds))
     (as_str d)
 
+-- a text as the only one, or the texts of a list; nothing for a value of another kind
 abbrev pub one_or_listed : Option (List ℕ) → Option Items → Option (List (List ℕ))
 one_or_listed (Some text) values = Some (text ∷ [])
 one_or_listed None values = option_and_then strings values
@@ -40,6 +42,7 @@ abbrev pub precedence_text : Option Data → Option (List ℕ)
 precedence_text None = Some (codes "closest")
 precedence_text (Some d) = as_str d
 
+-- which precedence a text names, byte by byte; any other text names none
 abbrev pub precedence_of : List ℕ → Option Precedence
 precedence_of text =
     if bytes_eq text (codes "closest") then Some Closest

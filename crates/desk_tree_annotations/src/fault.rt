@@ -1,4 +1,4 @@
-//! Why a text is no REUSE.toml.
+//! Why a text isn't a REUSE.toml.
 
 ghost use Rattle.std.specs.Prelude.{◌≡◌};
 ghost use Rattle.desk_tree_annotations.specs.Numbers.{kind_number};
@@ -12,13 +12,13 @@ pub enum AnnotationFault {
     /// It has no `path`.
     #[error("no path")]
     NoPath,
-    /// A value of another kind than its key needs, or no table.
+    /// A value of another kind than its key needs, or an entry that isn't a table.
     #[error("a value of another kind")]
     BadKind,
-    /// A precedence that is none of the three.
+    /// A precedence that isn't one of the three.
     #[error("an unknown precedence")]
     BadPrecedence,
-    /// A licence that is no expression.
+    /// A licence that isn't an expression.
     #[error("a licence that is no expression")]
     BadExpression,
 }
@@ -38,10 +38,10 @@ impl AnnotationFault {
     }
 }
 
-/// Why a text is no REUSE.toml.
+/// Why a text isn't a REUSE.toml.
 #[derive(Clone, Copy, Debug, PartialEq, Eq, Error)]
 pub enum AnnotationsFault {
-    /// No TOML document, or one whose `version` isn't 1.
+    /// It isn't a TOML document, or its `version` isn't 1.
     #[error("no TOML document of version 1")]
     BadToml,
     /// The annotation at this index, from 0.

@@ -18,12 +18,12 @@
 //!   of the text: the annotations in order, or the first fault. It takes the table that `toml`
 //!   reads in the text and, from a `Reading`, the pieces of patterns and which texts are licence
 //!   expressions. `read` returns this for each reading that is right by the definitions of patterns
-//!   and of `desk_expr` (`IsRight`); they all give the same answer (`one_reading`).
-//! - The notices and licences of an annotation are `SharedTexts`: they stand in one buffer, and all
-//!   files for which it counts hold each, a `SharedText`, without a copy.
-//! - `Annotations::sift` goes on after faults: it returns all annotations that can be read, and the
-//!   fault of each other one (`specs/Sifting.antt`). If `read` returns annotations, they are the
-//!   same, and if not, its fault is the first (`reading_is_sifting`).
+//!   and of `desk_expr` (`IsRight`); all of these give the same answer (`one_reading`).
+//! - The notices and licences of an annotation are `SharedTexts`: they are in one buffer, and every
+//!   file for which the annotation counts holds each of them as a `SharedText`, without a copy.
+//! - `Annotations::sift` continues after faults: it returns all annotations that can be read, and
+//!   the fault of each other one (`specs/Sifting.antt`). If `read` returns annotations, they are
+//!   the same; otherwise its fault is the first (`reading_is_sifting`).
 #![tactic(auto)]
 
 mod annotation;

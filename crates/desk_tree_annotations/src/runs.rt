@@ -70,9 +70,9 @@ fn behind<'a>(bytes: &'a [u8], front: &[u8]) -> Option<&'a [u8]>
     bytes.strip_prefix(front)
 }
 
-// What comes before the first ignored stretch that begins on the first line, and after the word
-// with which it begins. Nothing further right is looked at, so that a line with many stretches is
-// read once.
+// What comes before the first ignored stretch that begins on the first line, and what comes after
+// the word with which it begins. Nothing further to the right is examined, so that a line with many
+// stretches is read once.
 fn around_start(bytes: &[u8]) -> Option<(&[u8], &[u8])>
     ensures none { IfNone result ((text more : List ℕ) → bytes.now ≡ text ++ more
         → All (λ b. b ≢ 10) text → Lacks start text) }

@@ -14,7 +14,7 @@ pub(crate) const MARK: &[u8] = b"SPDX-";
 /// With fewer bytes than this before a tag, a search for lines to skip costs more than it saves.
 const NEAR: usize = 64;
 
-// What is left of a file from a line on.
+// The rest of a file, from a line on.
 #[derive(Clone, Copy)]
 pub(crate) struct Left<'a> {
     // From 1.
@@ -22,8 +22,8 @@ pub(crate) struct Left<'a> {
     pub bytes: &'a [u8],
 }
 
-// In how many bytes at the front no tag begins, if one may begin after them. Those that are known
-// already aren't searched again, so all searches together read a file once.
+// The number of bytes at the front in which no tag begins, if one may begin after them. Bytes that
+// are already known aren't searched again, so all searches together read a file once.
 pub(crate) fn clear_of(bytes: &[u8], mark: &Finder<'_>, known: usize) -> Option<usize>
     requires mark { mark.now ≡ codes "SPDX-" }
     requires clear { IsClear (codes "SPDX-") known bytes.now }
@@ -63,8 +63,8 @@ fn whole_lines(bytes: &[u8]) -> &[u8]
     }
 }
 
-// What is left of some bytes after whole lines on which nothing begins, if no tag begins in the
-// first `clear` bytes. If a tag is near, nothing is skipped.
+// The rest of some bytes after whole lines on which nothing begins, if no tag begins in the first
+// `clear` bytes. If a tag is near, nothing is skipped.
 pub(crate) fn skip(bytes: &[u8], clear: usize, line: u64) -> Left<'_>
     requires within { clear < length bytes.now }
     requires room { line + length bytes.now < 2 ^ 64 }

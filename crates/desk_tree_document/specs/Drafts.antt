@@ -22,6 +22,8 @@ pub record Named : Type 0 where
 
 -- ---- files
 
+-- a covered file in the draft: its path, the SHA1 of its bytes (clause 8.4), its licences as one
+-- expression (8.5) and its notices (8.8)
 abbrev pub file_of : Reader → List SourceFile → FileInfo → Read DraftFile
 file_of r tree info =
     then_read (expression_read r.reading info.licences) (λ concluded.
@@ -32,12 +34,14 @@ file_of r tree info =
       copyright = copyright_of info.notices;
     }))
 
+-- the same for files in their order, or the first fault
 abbrev pub files_of : Reader → List SourceFile → List FileInfo → Read (List DraftFile)
 files_of r tree [] = Ok []
 files_of r tree (i ∷ is) = followed (file_of r tree i) (files_of r tree is)
 
 -- ---- the package
 
+-- the file has no licence
 abbrev pub is_bare : FileInfo → Bool
 is_bare info = is_none info.licences
 
@@ -52,6 +56,8 @@ package_notices infos = sorted_set (flat_map (λ i. i.notices) infos)
 
 -- ---- the whole, with a verification code
 
+-- the draft from its files and a verification code; the package's licence (7.13) and copyright
+-- (7.17) are those of all files together
 abbrev pub draft_with : Reader → Named → List FileInfo → List DraftFile → List ℕ → Read Draft
 draft_with r title infos files code =
     then_read (expression_read r.reading (package_licences infos)) (λ concluded.
@@ -65,6 +71,7 @@ draft_with r title infos files code =
       files = files;
     }))
 
+-- the draft of a tree with this verification code, or the first fault
 abbrev pub draft_of : Reader → List SourceFile → Named → List ℕ → Read Draft
 draft_of r files title code =
     then_read (gathered r files) (λ infos.

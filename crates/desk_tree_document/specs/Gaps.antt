@@ -9,9 +9,11 @@ use Rattle.desk_tree_document.specs.declared.gaps.Gaps.{Gaps}
 abbrev pub is_unsaid : List ℕ → Bool
 is_unsaid value = bytes_eq value (codes "NOASSERTION")
 
+-- the draft doesn't say which licence the file has
 abbrev pub has_no_licence : DraftFile → Bool
 has_no_licence f = is_unsaid f.concluded
 
+-- the draft doesn't say whose copyright the file is
 abbrev pub has_no_notice : DraftFile → Bool
 has_no_notice f = is_unsaid f.copyright
 

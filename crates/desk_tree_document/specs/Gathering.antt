@@ -67,6 +67,7 @@ abbrev pub IsUnwritable : Reader → List SourceFile → Named → Type 0
 IsUnwritable r files title = (d : Draft) × IsDraft r files title d
     × (All Stands (draft_lines d) → ⊥)
 
+-- what is printed for a tree: the document, or the fault's line
 abbrev pub gathering_text : Gathering → List ℕ
 gathering_text (Document text gaps) = string_bytes text
 gathering_text (Fault fault) = fault_line fault

@@ -29,7 +29,7 @@ pub enum TextFault {
 /// The answer for the document of a tree.
 #[derive(Drop)]
 pub enum Gathering {
-    /// The text of the document, and about how many files it says nothing.
+    /// The text of the document, and for how many files it gives no licence or no notice.
     Document(String, Gaps),
     /// Why nothing is gathered.
     Fault(GatherFault),
@@ -84,7 +84,7 @@ impl Gathering {
         }
     }
 
-    /// About how many files the document says nothing, if it is one.
+    /// For how many files the document gives no licence or no notice, if it is one.
     pub fn gaps(&self) -> Option<Gaps>
         ensures { result ≡ gaps_in self.now }
     {

@@ -1,16 +1,16 @@
-//! What a draft doesn't say about its files.
+//! What a draft lacks about its files.
 
 ghost use Rattle.std.specs.Prelude.{◌≡◌};
 ghost use Rattle.desk_tree_document.specs.Gaps.{gaps_of, has_no_licence, has_no_notice, is_unsaid};
 
 use desk_tagvalue::{Draft, DraftFile};
 
-/// About how many files a document says nothing.
+/// For how many files a document gives no licence or no notice.
 #[derive(Clone, Copy, Debug, PartialEq, Eq)]
 pub struct Gaps {
-    /// The files of which it says no licence.
+    /// The files for which it gives no licence.
     pub licences: usize,
-    /// The files of which it says no notice.
+    /// The files for which it gives no notice.
     pub notices: usize,
 }
 
@@ -32,7 +32,7 @@ fn has_no_notice(file: &DraftFile) -> bool
     is_unsaid(file.copyright.as_str())
 }
 
-/// Of how many files a draft says no licence, and of how many no notice.
+/// For how many files a draft gives no licence, and for how many no notice.
 pub(crate) fn gaps_of(draft: &Draft) -> Gaps
     ensures { result ≡ gaps_of draft.now }
 {

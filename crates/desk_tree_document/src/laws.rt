@@ -6,7 +6,7 @@
 //! ships the draft's package and no other, and the package's verification code agrees with its
 //! files. `drafts_ship` says so about any draft, `drafts_of_trees_ship` about those of `draft`.
 //!
-//! What the licences of a file or a package say together is `joined_licences_are_all_of_them`.
+//! `joined_licences_are_all_of_them` says what the licences of a file or a package mean together.
 
 ghost use Rattle.std.specs.Prelude.{◌≡◌, ◌≤◌, ◌∷◌, [], List, ℕ, length, All, Ok};
 ghost use Rattle.desk_expr.specs.Listed.{EachSpells};

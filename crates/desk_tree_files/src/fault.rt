@@ -13,7 +13,7 @@ pub enum TreeFault {
     /// A file or folder can't be read, or a name in it isn't UTF-8: its path, and why.
     #[error("cannot read {0:?}: {1}")]
     Read(String, io::Error),
-    /// A file or folder that is no longer one: its path.
+    /// What was a file or folder, but no longer is: its path.
     #[error("cannot read {0:?}: it is no file or folder any more; try again when nothing changes the folder")]
     Changed(String),
 }

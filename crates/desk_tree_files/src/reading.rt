@@ -15,8 +15,8 @@ use std::rt::Files;
 /// After how many files the count of those that were read is reported again.
 const FILES_A_STEP: usize = 1_000;
 
-// How much of a file is read at first, at most. More at once would leave the processor's caches
-// before it is looked at.
+// How much of a file is read at first, at most. More at once would have left the processor's caches
+// by the time it is examined.
 const FIRST_READ: usize = 128 * 1024;
 
 // Reads what fits into some bytes, and returns how many were read: none if a signal interrupts it.
@@ -31,10 +31,9 @@ fn read_some<F: Read>(file: &mut F, bytes: &mut [u8]) -> io::Result<usize>
 }
 
 // The bytes of a file, or nothing if there is now a pipe, a link or something else in its place,
-// which isn't opened: opening a pipe would wait for a writer. The room is that of the size that the
-// file is said to have, so that no more is taken than the file needs, and this much is read at
-// first: then most files are read by one call. A file that grows is read as far as it went when it
-// was opened.
+// which isn't opened: opening a pipe would wait for a writer. The room is the reported size of the
+// file, so that no more is taken than the file needs, and this much is read at first: so most files
+// are read by one call. A file that grows is read up to its size when it was opened.
 fn bytes_at<R: Files + AllocGlobal + Clone + Drop>(
     rt: &R,
     place: &str,
@@ -81,7 +80,7 @@ fn file_at<R: Files + AllocGlobal + Clone + Drop>(
 // Reports on standard error how many of all files are read, on the line of the last report.
 fn tell<R: Eprint>(rt: &R, count: usize, all: usize) {
     if count % FILES_A_STEP == 0 {
-        // If it can't be reported, the files are read all the same.
+        // If it can't be reported, the files are still read.
         let _told = eprint!(rt; "\r{count} of {all} files read");
     }
 }

@@ -111,7 +111,7 @@ fn list_folder<R: Files + AllocGlobal + Clone + Drop>(
     Ok(true)
 }
 
-// Goes through the folders that are left, until there are more files than a tree may have.
+// Goes through the remaining folders, until there are more files than a tree may have.
 fn walk<R: Files + AllocGlobal + Clone + Drop>(
     rt: &R,
     root: &str,

@@ -5,8 +5,10 @@ use Rattle.desk_tree_gather.specs.declared.telling.Digested.{Digested}
 use Rattle.desk_tree_gather.specs.declared.telling.ToldFile.{ToldFile}
 use Rattle.desk_tree_infos.specs.Sharing.{info_at}
 
+-- a file's information, from the annotations that count for it, with the digest of its bytes
 abbrev pub told_at : List Annotation → Digested → ToldFile
 told_at all file = record { info = info_at all file.info; digest = file.digest }
 
+-- the same for files in their order
 abbrev pub all_told : List Annotation → List Digested → List ToldFile
 all_told all files = map (told_at all) files

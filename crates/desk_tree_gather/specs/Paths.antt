@@ -22,9 +22,11 @@ abbrev pub name_from : List ℕ → List ℕ → List ℕ
 name_from name [] = name
 name_from name (b ∷ bs) = if b == 47 then name_from bs bs else name_from name bs
 
+-- the name of a file: what follows the last slash of its path, or all of it
 abbrev pub name_of : List ℕ → List ℕ
 name_of path = name_from path path
 
+-- the file is named REUSE.toml, in whichever folder
 abbrev pub is_toml : SourceFile → Bool
 is_toml file = bytes_eq (name_of file.path) (codes "REUSE.toml")
 
@@ -36,6 +38,7 @@ folder_of path = take (length path - 10) path
 abbrev pub is_named : List ℕ → List ℕ → Bool
 is_named name word = bytes_eq name word || starts_with nat_eq name (word ++ codes ".")
 
+-- the usual names of a project's licence text, each with any ending or none
 abbrev pub is_licence_name : List ℕ → Bool
 is_licence_name name = is_named name (codes "LICENSE")
     || (is_named name (codes "LICENCE") || is_named name (codes "COPYING"))

@@ -21,15 +21,19 @@ Gives read show (Err fault) = read ≡ Err fault
 abbrev pub file_of : File → SourceFile
 file_of f = record { path = f.path.now; bytes = f.bytes.now }
 
+-- the same for several
 abbrev pub files_of : List File → List SourceFile
 files_of fs = map file_of fs
 
+-- borrowed files by path: the path, and the bytes
 abbrev pub Tree : Type 0
 Tree = BTreeMap (Bor (List ℕ)) (Bor (List ℕ))
 
+-- an entry of such a map as a file
 abbrev pub file_at : Bor (List ℕ) × Bor (List ℕ) → SourceFile
 file_at e = record { path = e.0.now; bytes = e.1.now }
 
+-- entries as files, in the map's order
 abbrev pub entries_of : List (Bor (List ℕ) × Bor (List ℕ)) → List SourceFile
 entries_of es = map file_at es
 
@@ -45,9 +49,11 @@ tree_in m = entries_of m.entries
 abbrev pub OwnedTree : Type 0
 OwnedTree = BTreeMap (List ℕ) (List ℕ)
 
+-- an entry of that map as a file
 abbrev pub owned_at : List ℕ × List ℕ → SourceFile
 owned_at e = record { path = e.0; bytes = e.1 }
 
+-- the files of that map, in byte order of their paths
 abbrev pub left_in : OwnedTree → List SourceFile
 left_in m = map owned_at m.entries
 

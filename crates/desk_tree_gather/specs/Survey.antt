@@ -33,6 +33,7 @@ path_flaw sorted path =
     else (if is_some (bytes_at sorted path) then Some (TwicePath path)
     else None)
 
+-- the file at its place among the others, unless its path has a flaw
 abbrev pub unless_flawed : Option Flaw → SourceFile → List SourceFile → List SourceFile
 unless_flawed None f sorted = put_file f sorted
 unless_flawed (Some flaw) f sorted = sorted
@@ -54,6 +55,8 @@ path_flaws sorted (f ∷ fs) = option_to_list (path_flaw sorted f.path)
 
 -- ---- REUSE.toml files
 
+-- The fault of a REUSE.toml as a flaw, with the path of that file. Lack of memory is no flaw: it
+-- ends the call before, and only needs some clause here.
 abbrev pub flaw_of : List ℕ → AnnotationsFault → Flaw
 flaw_of path why.BadToml = BadToml path
 flaw_of path (why.BadAnnotation index kind) = BadAnnotation path index kind
@@ -74,6 +77,7 @@ toml_sifted r file = record {
 
 -- ---- what files state
 
+-- the flaw of one licence that a file states, with its line and its text
 abbrev pub tag_flaws : Reader → List ℕ → TagText → List Flaw
 tag_flaws r path tag = if r.reading.is_expression tag.value then []
     else BadExpression path tag.line tag.value ∷ []
@@ -93,6 +97,8 @@ abbrev pub tree_flaws : Reader → List SourceFile → List Flaw
 tree_flaws r tree = flat_map (toml_flaws r) (filter is_toml tree)
     ++ flat_map (λ f. stated_flaws r (holder tree f)) (filter is_covered tree)
 
+-- All flaws of files, in the order in which they are looked for. Beyond 10,000 files nothing else
+-- is looked at.
 abbrev pub flaws_of : Reader → List SourceFile → List Flaw
 flaws_of r files = if nat_lt most.tree_files (length files) then TooManyFiles ∷ []
     else path_flaws [] files ++ tree_flaws r (sifted [] files)
@@ -102,12 +108,15 @@ abbrev pub info_sifted : Reader → List TomlText → List SourceFile → Source
 info_sifted r tomls tree file = info_with file.path (counting r tomls file.path)
     (r.stated (holder tree file).bytes)
 
+-- the same for each covered file
 abbrev pub infos_sifted : Reader → List SourceFile → List FileInfo
 infos_sifted r tree = map (info_sifted r (map (toml_sifted r) (filter is_toml tree)) tree)
     (filter is_covered tree)
 
 -- ---- what is gathered, up to the first flaw
 
+-- The fault as which a flaw is reported where the first one ends the gathering. It has less: a path
+-- that can't be there isn't named, and the text of a licence is left out.
 abbrev pub gather_fault : Flaw → GatherFault
 gather_fault TooManyFiles = first.TooManyFiles
 gather_fault (BadPath path) = first.BadPath
@@ -116,6 +125,7 @@ gather_fault (BadToml path) = first.BadToml path
 gather_fault (BadAnnotation path index kind) = first.BadAnnotation path index kind
 gather_fault (BadExpression path line text) = first.BadExpression path line
 
+-- the fault of the first flaw, if there is one
 abbrev pub first_fault : List Flaw → Option GatherFault
 first_fault [] = None
 first_fault (flaw ∷ more) = Some (gather_fault flaw)

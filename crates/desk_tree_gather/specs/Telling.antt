@@ -27,6 +27,7 @@ abbrev pub told_of : Reader → List TomlText → List SourceFile → SourceFile
 told_of r tomls tree file = then_read (info_of r tomls tree file)
     (λ info. Ok (with_digest tree info))
 
+-- the same for each covered file of a tree, or the first fault
 abbrev pub told_in : Reader → List TomlText → List SourceFile → Read (List ToldFile)
 told_in r tomls tree = each is_covered (told_of r tomls tree) tree
 

@@ -19,13 +19,16 @@ told_of path why.BadToml = BadToml path
 told_of path (why.BadAnnotation index kind) = BadAnnotation path index kind
 told_of path (why.Memory error) = BadToml path
 
+-- a REUSE.toml with its folder, from what its text is read as
 abbrev pub toml_read : List ℕ → Result (List Annotation) AnnotationsFault → Read TomlText
 toml_read path (Ok annotations) = Ok (record { folder = folder_of path; annotations = annotations })
 toml_read path (Err fault) = Err (told_of path fault)
 
+-- the annotations of a REUSE.toml; one that isn't UTF-8 can't be read
 abbrev pub toml_of : Reader → SourceFile → Read TomlText
 toml_of r file = if is_utf8 file.bytes
     then toml_read file.path (annotations_of r.reading file.bytes) else Err (BadToml file.path)
 
+-- all REUSE.toml files of a tree in order, or the first fault
 abbrev pub tomls_of : Reader → List SourceFile → Read (List TomlText)
 tomls_of r tree = each is_toml (toml_of r) tree

@@ -37,6 +37,7 @@ abbrev pub some_bytes : Option (List ℕ) → List ℕ
 some_bytes (Some bytes) = bytes
 some_bytes None = []
 
+-- the bytes of the file at a path, none if there is no such file
 abbrev pub bytes_of : List SourceFile → List ℕ → List ℕ
 bytes_of tree path = some_bytes (bytes_at tree path)
 

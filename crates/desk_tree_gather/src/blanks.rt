@@ -72,8 +72,8 @@ fn add_each(
     Ok(())
 }
 
-/// Adds those of a REUSE.toml, from what is wrong with its annotations and those that can be read:
-/// none, unless all of them can.
+/// Adds those of a REUSE.toml, given its annotations that can be read and what is wrong with the
+/// others: none, unless all can be read.
 pub(crate) fn add_blanks(
     blanks: &mut Items<Blank>,
     path: &SharedText,

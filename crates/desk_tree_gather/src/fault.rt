@@ -11,14 +11,14 @@ use thiserror::Error;
 /// Why nothing is gathered from a tree.
 #[derive(Debug, Drop, Error)]
 pub enum GatherFault {
-    /// A REUSE.toml, named by its path, that is no TOML document of version 1.
+    /// A REUSE.toml, named by its path, that isn't a TOML document of version 1.
     #[error("a REUSE.toml that is no TOML document of version 1")]
     BadToml(Text),
     /// An annotation of a REUSE.toml: its path, the index from 0, and what is wrong.
     #[error("annotation {1} of a REUSE.toml: {2}")]
     BadAnnotation(Text, usize, AnnotationFault),
-    /// A tag whose value is no licence expression: the path of the file that has it, and its line,
-    /// from 1.
+    /// A tag whose value isn't a licence expression: the path of the file that has it, and its
+    /// line, from 1.
     #[error("a tag without a licence expression on line {1}")]
     BadExpression(Text, u64),
     /// A path that can't be in a tree.

@@ -10,13 +10,13 @@ pub enum Flaw {
     TooManyFiles,
     /// A path that can't be in a tree.
     BadPath(Text),
-    /// A path that is there already.
+    /// A path that already exists.
     TwicePath(Text),
-    /// A REUSE.toml, named by its path, that is no TOML document of version 1.
+    /// A REUSE.toml, named by its path, that isn't a TOML document of version 1.
     BadToml(Text),
     /// An annotation of a REUSE.toml: its path, the index from 0, and what is wrong.
     BadAnnotation(SharedText, usize, AnnotationFault),
-    /// A tag whose value is no licence expression: the path of the file that has it, its line, from
-    /// 1, and its value.
+    /// A tag whose value isn't a licence expression: the path of the file that has it, its line,
+    /// from 1, and its value.
     BadExpression(SharedText, u64, Text),
 }

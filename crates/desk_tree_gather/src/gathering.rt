@@ -21,7 +21,7 @@ use desk_tree_annotations::{Annotation, Info, Tagged, header, is_expression_besi
 use desk_tree_infos::{Covered, FileInfo, Sources, Subject, set_in, sources_of};
 use std::alloc::{AllocError, Global};
 
-// The line of the first licence that is no expression.
+// The line of the first licence that isn't an expression.
 fn bad_line(alloc: Global, tags: &[Tagged<'_>]) -> Result<Option<u64>, AllocError>
     ensures { (r : Reader) → IsRightReader r
         → IfOk result (λ line. line ≡ bad_line r (map tag_text tags.now)) }

@@ -31,7 +31,7 @@ fn held_at<'a>(alloc: Global, path: &str, bytes: &'a [u8]) -> Result<Held<'a>, A
     Ok(Held { path, bytes })
 }
 
-/// The file beside a file, if it has bytes, and else the file itself.
+/// The file beside a file, if it has bytes, otherwise the file itself.
 pub(crate) fn holder_by<'a>(
     alloc: Global,
     beside: &str,

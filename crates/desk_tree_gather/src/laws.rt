@@ -12,7 +12,7 @@ pub fn one_reader()
     ensures { (r s : Reader) → IsRightReader r → IsRightReader s → r ≡ s }
 {}
 
-/// What is gathered is what a survey gives if nothing is wrong, and else the fault is the first
+/// What is gathered is what a survey gives if nothing is wrong; otherwise the fault is the first
 /// flaw.
 pub fn gathered_is_surveyed()
     ensures answer { (r : Reader) (files : List SourceFile)

@@ -34,14 +34,14 @@ pub struct Surveyed<'a> {
     /// The bytes of its files by path, without those whose path is wrong; none if there are more
     /// than 10,000 files.
     pub tree: BTreeMap<&'a str, &'a [u8]>,
-    /// That there are too many files, or what is wrong with the paths in turn, with the REUSE.toml
-    /// files by path, and with what the covered files state, by path.
+    /// That there are too many files; or what is wrong with the paths, in the order of the files,
+    /// with the REUSE.toml files, by path, and with what the covered files state, by path.
     pub flaws: Items<Flaw>,
-    /// Annotations with a licence that no document can hold, by path, in each REUSE.toml of which
-    /// all annotations can be read.
+    /// Annotations with a licence that no document can hold, by path, from each REUSE.toml whose
+    /// annotations can all be read.
     pub blanks: Items<Blank>,
     /// The information of the covered files by path, from the annotations that can be read. A tag
-    /// that is no licence expression is there as it is written.
+    /// that isn't a licence expression is kept as it is written.
     pub infos: Infos,
 }
 
@@ -220,8 +220,8 @@ fn tomls_sifted<'a>(
     Ok(tomls)
 }
 
-// Adds a tag that is no licence expression, and returns a text that is known to be one: the tag's,
-// or what was known before.
+// Adds a tag that isn't a licence expression, and returns a text that is known to be one: the
+// tag's, or what was known before.
 fn add_tag<'a>(
     alloc: Global,
     path: &SharedText,
@@ -244,7 +244,7 @@ fn add_tag<'a>(
     Ok(known)
 }
 
-// Adds the tags that are no licence expression.
+// Adds the tags that aren't licence expressions.
 fn add_tags(
     alloc: Global,
     path: &SharedText,
@@ -399,8 +399,8 @@ fn survey_of<'a>(
 /// All that is wrong in a tree, and what is gathered from the rest of it. The only error is lack of
 /// memory.
 ///
-/// If `gathered` returns the information of the files, nothing is wrong and this is the same; if
-/// not, its fault is the first flaw (`gathered_is_surveyed`).
+/// If `gathered` returns the information of the files, nothing is wrong and this is the same;
+/// otherwise its fault is the first flaw (`gathered_is_surveyed`).
 pub fn survey<'a>(alloc: Global, files: &'a [SourceFile]) -> Result<Surveyed<'a>, AllocError>
     ensures tree { IfOk result (λ s. tree_in s.tree ≡ kept files.now) }
     ensures flaws { (r : Reader) → IsRightReader r

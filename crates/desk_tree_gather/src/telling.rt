@@ -43,8 +43,8 @@ pub(crate) struct Digested {
     pub(crate) digest: [u8; 20],
 }
 
-/// What is reported about the covered files of a tree, by path: seen as what is reported about
-/// each. What an annotation gives is kept once.
+/// What is reported about the covered files of a tree, by path, seen as a list with one item for
+/// each file. What an annotation gives is kept once.
 #[derive(Drop)]
 pub struct ToldFiles {
     annotations: Vec<Annotation>,
@@ -196,8 +196,8 @@ fn bytes_at<'a>(tree: &'a BTreeMap<Key, Items<u8>>, path: &Key) -> Option<&'a [u
     }
 }
 
-// The file whose tags are a file's own information: the `.license` file beside it, among those that
-// are left, or the file itself.
+// The file whose tags are a file's own information: the `.license` file beside it, among the
+// remaining files, or the file itself.
 fn holder<'a>(
     alloc: Global,
     left: &'a BTreeMap<Key, Items<u8>>,
@@ -210,8 +210,8 @@ fn holder<'a>(
     holder_by(alloc, beside.as_str(), file, bytes_at(left, &path))
 }
 
-// What is reported about a file, from itself and the files that are left, with the trail of the
-// file before.
+// What is reported about a file, from itself and the remaining files, with the trail of the file
+// before.
 fn told_beside(
     alloc: Global,
     left: &BTreeMap<Key, Items<u8>>,
@@ -237,7 +237,7 @@ fn told_beside(
 }
 
 // What is reported about the covered files of a tree, with the trail of the file before. A
-// `.license` file comes after the file that it is beside, and so is among those that are left.
+// `.license` file comes after the file that it is beside, and so is among the remaining ones.
 fn each_told(
     alloc: Global,
     tree: BTreeMap<Key, Items<u8>>,

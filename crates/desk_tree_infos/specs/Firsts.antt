@@ -13,6 +13,7 @@ use Rattle.desk_tree_infos.specs.declared.information.Subject.{Subject}
 use Rattle.desk_tree_infos.specs.declared.information.Subject.TheVariants.{Notices, Licences}
 use Rattle.desk_tree_infos.specs.Sharing.{texts_at}
 
+-- the notices of a file, or its licences
 abbrev pub texts_in : Subject → FileInfo → List (List ℕ)
 texts_in Notices info = info.notices
 texts_in Licences info = info.licences
@@ -29,9 +30,11 @@ firsts_behind of known (info ∷ infos) =
     record { path = info.path; texts = filter (λ t. not (is_among known t)) (texts_in of info) }
     ∷ firsts_behind of (known ++ texts_in of info) infos
 
+-- for each file in order, those of its texts that no file before it has
 abbrev pub firsts_of : Subject → List FileInfo → List FirstTexts
 firsts_of of infos = firsts_behind of [] infos
 
+-- all those texts one after another: each text that some file has is there
 abbrev pub first_texts : List FirstTexts → List (List ℕ)
 first_texts firsts = flat_map (λ (f : FirstTexts). f.texts) firsts
 

@@ -8,9 +8,11 @@ use Rattle.desk_tree_infos.specs.declared.folders.Folders.{Folders}
 use Rattle.desk_tree_infos.specs.Sharing.{annotations_at}
 use Rattle.desk_tree_infos.specs.Tomls.{TomlText, annotations_in}
 
+-- from a folder, with a slash at its end or empty for the root, to numbers of annotations
 abbrev pub Numbers : Type 0
 Numbers = BTreeMap (Vec ℕ Global) (Vec ℕ Global)
 
+-- the numbers of a folder, none if it has no entry
 abbrev pub list_or_none : Option (Vec ℕ Global) → List ℕ
 list_or_none None = []
 list_or_none (Some numbers) = numbers.items

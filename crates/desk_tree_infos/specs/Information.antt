@@ -22,6 +22,7 @@ rests (b ∷ bs) = if b == 47 then bs ∷ rests bs else rests bs
 abbrev pub covers : Reader → Annotation → List ℕ → Bool
 covers r annotation path = list_any (λ pieces. r.matches pieces path) annotation.paths
 
+-- the first of two that is there
 abbrev pub or_else : {A : Type 0} → Option A → Option A → Option A
 or_else (Some x) other = Some x
 or_else None other = other
@@ -43,15 +44,19 @@ counting r tomls path = filter_map (counting_in r tomls path) (path ∷ rests pa
 
 -- ---- what they give
 
+-- the notices that an annotation gives, or its licences
 abbrev pub texts_of : Subject → Annotation → List (List ℕ)
 texts_of Notices annotation = annotation.notices
 texts_of Licences annotation = annotation.licences
 
+-- what the annotation gives counts instead of what the file states, and of what annotations in
+-- lower folders give
 abbrev pub is_override : Precedence → Bool
 is_override Override = true
 is_override Aggregate = false
 is_override Closest = false
 
+-- what the annotation gives counts in addition to what the file states
 abbrev pub is_aggregate : Precedence → Bool
 is_aggregate Override = false
 is_aggregate Aggregate = true
@@ -68,10 +73,12 @@ abbrev pub aggregated : Subject → List Annotation → List (List ℕ)
 aggregated of annotations = flat_map (texts_of of)
     (filter (λ a. is_aggregate a.precedence) annotations)
 
+-- a list, or the other one if it is empty
 abbrev pub some_or : {A : Type 0} → List A → List A → List A
 some_or [] others = others
 some_or (x ∷ xs) others = x ∷ xs
 
+-- the texts of an annotation with the precedence `closest`; none for another precedence
 abbrev pub closest_texts : Subject → Precedence → Annotation → List (List ℕ)
 closest_texts of Override annotation = []
 closest_texts of Aggregate annotation = []
@@ -89,5 +96,7 @@ abbrev pub given_by : Subject → List (List ℕ) → List Annotation
 given_by of own annotations (Some top) = aggregated of top.0 ++ texts_of of top.1
 given_by of own annotations None = aggregated of annotations ++ some_or own (nearest of annotations)
 
+-- The notices or the licences of a file, from what it states itself and from the annotations that
+-- count, the root's first (REUSE Specification 3.3, "REUSE.toml").
 abbrev pub given : Subject → List (List ℕ) → List Annotation → List (List ℕ)
 given of own annotations = given_by of own annotations (topmost annotations)

@@ -18,6 +18,8 @@ pub record Reader : Type 0 where
   pub matches : List Piece → List ℕ → Bool
   pub stated : List ℕ → Stated
 
+-- A right reader knows pieces and expressions, matches a pattern just when the path divides into
+-- its pieces, and takes from each file what its tags state.
 pub record IsRightReader (r : Reader) : Type 0 where
   pub reading : IsRight r.reading
   pub matching : (pieces : List Piece) (path : List ℕ)

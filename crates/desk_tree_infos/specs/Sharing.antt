@@ -42,11 +42,13 @@ info_at all file = record {
   licences = sorted_set (all_texts all Licences file.licences);
 }
 
+-- the information of these files, each from the annotations that count for it
 abbrev pub infos_at : List Annotation → List Covered → List FileInfo
 infos_at all files = map (info_at all) files
 
 -- ---- a file in outline
 
+-- there are no texts
 abbrev pub is_none : List (List ℕ) → Bool
 is_none [] = true
 is_none (t ∷ ts) = false
@@ -57,6 +59,7 @@ pub record OutlineText : Type 0 where
   pub no_notice : Bool
   pub no_licence : Bool
 
+-- what is left of a file when only the lack of texts matters
 abbrev pub outline_of : FileInfo → OutlineText
 outline_of info = record {
   path = info.path;

@@ -19,5 +19,6 @@ annotations_in (t ∷ ts) folder = if bytes_eq t.folder folder then t.annotation
 abbrev pub toml_in : Toml → TomlText
 toml_in t = record { folder = t.folder.now; annotations = t.annotations.list }
 
+-- the same for several
 abbrev pub tomls_in : List Toml → List TomlText
 tomls_in ts = map toml_in ts

@@ -11,6 +11,7 @@ way path rest = take (length path - length rest) path
 abbrev pub ways : List ℕ → List (List ℕ)
 ways path = map (way path) (path ∷ rests path)
 
+-- the first of some rests of a path, or the path if there is none
 abbrev pub first_or : List ℕ → List (List ℕ) → List ℕ
 first_or path [] = path
 first_or path (rest ∷ more) = rest
@@ -26,5 +27,6 @@ Shares before path many rest =
     (both others : List (List ℕ)) × (length both ≡ many) × (ways before ≡ both ++ others)
     × (ways path ≡ both ++ map (way path) (rests rest))
 
+-- borrowed texts as their bytes
 abbrev pub lists_of : List (Bor (List ℕ)) → List (List ℕ)
 lists_of lists = map (λ (l : Bor (List ℕ)). l.now) lists

@@ -1,4 +1,5 @@
-//! The annotations of a tree: each has a number, and each folder has the numbers of its own.
+//! The annotations of a tree: each has a number, and each folder has the numbers of its
+//! annotations.
 
 ghost use Rattle.std.specs.Prelude.{◌≡◌, ◌++◌, List, IfOk, OnOk};
 ghost use Rattle.desk_tree_infos.specs.Folders.{kept_for, Holds};
@@ -18,7 +19,7 @@ pub struct Toml<'a> {
     pub annotations: Annotations,
 }
 
-/// The annotations of a tree. The number of one is its place among all.
+/// The annotations of a tree. The number of an annotation is its place among all of them.
 #[derive(Drop)]
 pub struct Folders {
     /// All of them.

@@ -103,8 +103,8 @@ fn with_own(
     Ok(Sources { numbers, own })
 }
 
-/// The texts of a file: its own, and those of the annotations that count. The numbers take no more
-/// room than those of all these annotations, because a deep tree has many for each file.
+/// The texts of a file: its own, and those of the annotations that count. The list has room for no
+/// more numbers than there are such annotations, because in a deep tree each file has many.
 pub fn sources_of(
     alloc: Global,
     of: Subject,

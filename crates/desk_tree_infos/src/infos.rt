@@ -14,7 +14,7 @@ use desk_tree_annotations::{Annotation, SharedText, SharedTexts};
 use std::alloc::{AllocError, Global};
 use std::marker::Model;
 
-/// The information of a file: what it is under.
+/// The information of a file: its notices and licences.
 #[derive(Drop)]
 pub struct FileInfo {
     /// Its path.
@@ -142,7 +142,7 @@ pub fn info_at(alloc: Global, all: &[Annotation], file: &Covered) -> Result<File
     })
 }
 
-// Whether there are no texts of the annotation with a number.
+// Whether the annotation with a number has no texts.
 fn has_none_at(of: Subject, all: &[Annotation], number: usize) -> bool
     ensures { result ≡ is_none (texts_at all.now of (number ∷ [])) }
 {

@@ -1,4 +1,4 @@
-//! Which annotation of a REUSE.toml counts, said of the patterns alone.
+//! Which annotation of a REUSE.toml counts, stated only in terms of the patterns.
 
 ghost use Rattle.std.specs.Prelude.{◌≡◌, ◌∷◌, ◌++◌, ℕ, List, Some, None, All};
 ghost use Rattle.desk_tree_annotations.specs.declared.annotation.Annotation.{Annotation};
@@ -8,7 +8,7 @@ ghost use Rattle.desk_tree_infos.specs.Readers.{Reader, IsRightReader};
 ghost use Rattle.desk_tree_infos.specs.Tomls.{TomlText, annotations_in};
 ghost use Rattle.desk_tree_infos.specs.Ways.{way};
 
-/// Of the annotations of a folder that cover a path as seen from there, the last counts (REUSE
+/// Of the annotations of a folder that cover a path relative to it, the last counts (REUSE
 /// Specification 3.3, "REUSE.toml"). If none covers it, none counts.
 pub fn last_annotation_counts()
     ensures last { (r : Reader) → IsRightReader r → (tomls : List TomlText) (path rest : List ℕ)

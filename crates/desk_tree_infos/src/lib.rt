@@ -1,5 +1,6 @@
 //! The information of all files of a source tree (REUSE Specification 3.3): which annotations count
-//! for a file, and what these and the file itself give it, with the texts of annotations kept once.
+//! for a file, and what information these and the file itself give. The texts of annotations are
+//! kept once.
 //!
 //! - At most one annotation counts for a file in each folder from the root to its own: the last that
 //!   covers its path (`specs/Information.antt`, `last_annotation_counts`). The code goes down the
@@ -11,11 +12,11 @@
 //!   count (`specs/Sharing.antt`). Contracts see `Infos` as the list of the files' information; the
 //!   texts of a file are joined only when it is asked for (`info_at`).
 //! - `Infos::firsts` gives each text at the first file that has it (`specs/Firsts.antt`). It goes
-//!   through each annotation once, so that what is asked about all files takes time and memory in
-//!   proportion to the tree: their distinct texts, which licences they use, and which file names
-//!   each first.
-//! - Files come by path, and what is looked up for one is used for the next: `Trail` keeps the
-//!   annotations of the folders on its way.
+//!   through each annotation once, so that questions about all files (their distinct texts, which
+//!   licences they use, and which file names each first) take time and memory in proportion to the
+//!   tree.
+//! - Files come in the order of their paths, and what is looked up for one is used for the next:
+//!   `Trail` keeps the annotations of the folders on the way.
 //! - The definitions are over a `Reader`: the pieces of patterns, the licence expressions, the
 //!   matches of paths and what files state themselves (`specs/Readers.antt`).
 #![tactic(auto)]

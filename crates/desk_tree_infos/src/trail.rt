@@ -1,8 +1,8 @@
 //! The way to a path, from the root to its folder, with the numbers of the annotations of each
 //! folder on it.
 //!
-//! Files come by path, so the folders of one are mostly those of the file before: each is looked up
-//! once.
+//! Files come in the order of their paths, so the folders of a file are mostly those of the file
+//! before: each is looked up once.
 
 ghost use Rattle.std.specs.Prelude.{◌≡◌, ◌≤◌, ◌∷◌, ◌++◌, length, map, IfOk, OnOk, IfSome, IfNone, List, ℕ};
 ghost use Rattle.desk_tree_infos.specs.Folders.{kept_for};

@@ -18,9 +18,11 @@ pub record AskedText : Type 0 where
   pub key : List ℕ
   pub first : Option MentionText
 
+-- what the code keeps of a key and its first mention, with the bytes that it borrows
 abbrev pub asked_in : Asked → AskedText
 asked_in a = record { key = a.key.now; first = option_map mention_in a.first }
 
+-- the keys that are asked for
 abbrev pub keys_asked : List Asked → List (List ℕ)
 keys_asked asked = map (λ (a : Asked). a.key.now) asked
 
@@ -37,5 +39,6 @@ pub record Holds (keys : List (List ℕ)) (ms : List MentionText) (asked : List 
 abbrev pub mentions_of : FirstTexts → List MentionText
 mentions_of f = flat_map (mentions_by f.path) f.texts
 
+-- the mentions in all such texts, file by file
 abbrev pub first_mentions : List FirstTexts → List MentionText
 first_mentions fs = flat_map mentions_of fs

@@ -24,6 +24,7 @@ unused used texts = map (λ (t : TextFile). t.path)
 abbrev pub is_bare : FileInfo → Bool
 is_bare info = is_none info.notices || is_none info.licences
 
+-- their paths, in the order of the files
 abbrev pub bare : List FileInfo → List (List ℕ)
 bare infos = map (λ (i : FileInfo). i.path) (filter is_bare infos)
 
@@ -32,6 +33,7 @@ abbrev pub bare_in : List OutlineText → List (List ℕ)
 bare_in outlines = map (λ (o : OutlineText). o.path)
     (filter (λ (o : OutlineText). o.no_notice || o.no_licence) outlines)
 
+-- the three lists of a tree: keys without a text, texts without a use, and bare files
 abbrev pub lists_of : List FileInfo → List (List ℕ) → List TextFile → Lint
 lists_of infos used texts = record {
   missing = missing used texts;

@@ -23,6 +23,7 @@ cut_at byte texts = flat_map (slice_split (λ b. b == byte)) texts
 abbrev pub runs : List ℕ → List (List ℕ)
 runs licence = cut_at 41 (cut_at 40 (cut_at 9 (cut_at 32 (licence ∷ []))))
 
+-- AND, OR or WITH in capitals (SPDX 2.3, Annex D.4)
 abbrev pub is_operator : List ℕ → Bool
 is_operator run = bytes_eq run (codes "AND")
     || (bytes_eq run (codes "OR") || bytes_eq run (codes "WITH"))
@@ -31,6 +32,7 @@ is_operator run = bytes_eq run (codes "AND")
 abbrev pub ids_in : List (List ℕ) → List (List ℕ)
 ids_in listed = map without_plus (filter (λ run. not (is_operator run)) listed)
 
+-- the identifiers in a licence in their order, some twice, and empty texts where separators meet
 abbrev pub ids : List ℕ → List (List ℕ)
 ids licence = ids_in (runs licence)
 
@@ -41,15 +43,19 @@ pub record MentionText : Type 0 where
   pub id : List ℕ
   pub path : List ℕ
 
+-- an identifier in the file with this path
 abbrev pub mention : List ℕ → List ℕ → MentionText
 mention path id = record { id = id; path = path }
 
+-- the identifiers in one licence of a file
 abbrev pub mentions_by : List ℕ → List ℕ → List MentionText
 mentions_by path licence = map (mention path) (ids licence)
 
+-- those in all licences of a file
 abbrev pub mentions_in : FileInfo → List MentionText
 mentions_in i = flat_map (mentions_by i.path) i.licences
 
+-- those in the licences of all files, in order
 abbrev pub mentions : List FileInfo → List MentionText
 mentions infos = flat_map mentions_in infos
 
@@ -63,5 +69,6 @@ abbrev pub name_by : List ℕ → Option MentionText → Name
 name_by key (Some n) = record { id = n.id; path = Some n.path }
 name_by key None = record { id = key; path = None }
 
+-- the name of a key, by its first mention in these files
 abbrev pub name_of : List FileInfo → List ℕ → Name
 name_of infos key = name_by key (first_with key (mentions infos))

@@ -11,6 +11,7 @@ use Rattle.desk_tree_lint.specs.Texts.{TextFile}
 abbrev pub text_in : LicenceText → TextFile
 text_in t = record { path = t.path.now; key = t.key }
 
+-- the same for several
 abbrev pub texts_in : List LicenceText → List TextFile
 texts_in ts = map text_in ts
 

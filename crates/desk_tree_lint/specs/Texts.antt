@@ -32,9 +32,11 @@ pub record TextFile : Type 0 where
   pub path : List ℕ
   pub key : List ℕ
 
+-- the file as the text of a licence; nothing if it is none
 abbrev pub text_file : SourceFile → Option TextFile
 text_file f = option_map (λ name. record { path = f.path; key = key_of (stem name) })
     (text_name f.path)
 
+-- the licence texts of a tree, in the order of its files
 abbrev pub text_files : List SourceFile → List TextFile
 text_files tree = filter_map text_file tree

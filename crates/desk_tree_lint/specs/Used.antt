@@ -15,6 +15,7 @@ use Rattle.desk_tree_infos.specs.Firsts.{FirstTexts}
 abbrev pub term_keys : Term → List (List ℕ)
 term_keys t = t.key ∷ option_to_list t.exception
 
+-- the same for several terms
 abbrev pub keys_in : List Term → List (List ℕ)
 keys_in ts = flat_map term_keys ts
 
@@ -31,6 +32,7 @@ SomeOf P (x ∷ xs) = P x ⊎ SomeOf P xs
 abbrev pub IsUsedIn : List (List ℕ) → List ℕ → Type 0
 IsUsedIn licences key = SomeOf (λ text. Uses text key) licences
 
+-- some licence of some covered file uses the key
 abbrev pub IsUsed : List FileInfo → List ℕ → Type 0
 IsUsed infos key = SomeOf (λ (i : FileInfo). IsUsedIn i.licences key) infos
 

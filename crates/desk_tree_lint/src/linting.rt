@@ -20,7 +20,7 @@ use std::alloc::{AllocError, Global};
 use std::collections::BTreeMap;
 
 /// The lists of a tree, from the information of its covered files and the licences that they have
-/// first. A licence that is no expression uses nothing. The only error is lack of memory.
+/// first. A licence that isn't an expression uses nothing. The only error is lack of memory.
 pub fn lists_of<'a>(
     alloc: Global,
     tree: &BTreeMap<&'a str, &'a [u8]>,

@@ -23,7 +23,7 @@ pub struct Lint {
     /// Licences, exceptions and references that are used and have no text, by their keys, in byte
     /// order.
     pub missing: TextList,
-    /// Paths of licences' texts that nothing uses, in byte order.
+    /// Paths of licence texts that nothing uses, in byte order.
     pub unused: Items<Text>,
     /// Paths of covered files without a copyright notice or without a licence, in byte order.
     pub bare: Items<Text>,
@@ -74,7 +74,7 @@ fn add_if(
     Ok(())
 }
 
-// Adds a text where it belongs to a list in one buffer.
+// Adds a text to a list in one buffer, if it belongs there.
 fn add_key_if(list: &mut TextList, belongs: bool, key: &str) -> Result<(), AllocError>
     ensures { OnOk result (list.new ≡ list.old ++ only belongs key.now) }
 {

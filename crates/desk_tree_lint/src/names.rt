@@ -74,7 +74,7 @@ impl Names {
     pub(crate) fn push(&mut self, id: &str, path: Option<SharedPath>) -> Result<(), AllocError>
         ensures { OnOk result (self.new ≡ self.old ++ (record { id = id.now; path = path }) ∷ []) }
     {
-        // With room for the path the identifier is never added alone.
+        // Room for the path is reserved first, so that the identifier is never added without it.
         self.paths.reserve(1)?;
         self.ids.push(id)?;
         self.paths.push(path)?;

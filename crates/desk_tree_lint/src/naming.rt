@@ -25,8 +25,8 @@ use desk_tree_annotations::SharedText;
 use desk_tree_gather::First;
 use std::alloc::{AllocError, Global};
 
-// For how many keys at once the first mentions are kept, because they take much memory: for more
-// keys the licences are gone through again.
+// For how many keys at once the first mentions are kept, because they take much memory: if there
+// are more keys, the licences are gone through again.
 const ASKED_MOST: usize = 524_288;
 
 /// How a licence, an exception or a reference is shown.
@@ -197,7 +197,7 @@ fn keep<'a>(
     Ok(())
 }
 
-// Keeps the mention in a run of a licence after others, if the run is no operator.
+// Keeps the mention in a run of a licence after others, if the run isn't an operator.
 fn keep_run<'a>(
     alloc: Global,
     asked: &mut [Asked<'_, 'a>],
@@ -310,7 +310,7 @@ fn add_name(names: &mut Names, key: &str, first: Option<&Mention<'_>>) -> Result
     }
 }
 
-// Adds what keys are shown by, where the first of each is known.
+// Adds what keys are shown by, if the first mention of each is known.
 fn add_names(asked: &[Asked<'_, '_>], keys: &TextList, names: &mut Names) -> Result<(), AllocError>
     ensures { (all : List (List ℕ)) (ms : List MentionText) → Holds all ms asked.now
         → ((key : List ℕ) → is_among keys.now key ≡ true → is_among all key ≡ true)

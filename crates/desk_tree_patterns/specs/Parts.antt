@@ -7,6 +7,7 @@ use Rattle.desk_tree_patterns.specs.declared.glob.Star.{Star}
 use Rattle.desk_tree_patterns.specs.declared.glob.Star.TheVariants.{Single, Double}
 use Rattle.desk_tree_patterns.specs.declared.glob.Part.{Part}
 
+-- the piece that a star is: `*` covers bytes of one name, `**` those of any path
 abbrev pub star_piece : Star → Piece
 star_piece Single = InName
 star_piece Double = InPath

@@ -16,6 +16,7 @@ star true any rest = InPath ∷ rest
 star false true rest = InName ∷ rest
 star false false rest = rest
 
+-- what is at this place of a pattern, before other pieces: its star, or nothing more
 abbrev pub star_at : Stars → ℕ → List Piece → List Piece
 star_at s at rest = star (get_or s.double.items at false) (get_or s.any.items at false) rest
 

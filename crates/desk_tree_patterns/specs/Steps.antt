@@ -8,22 +8,28 @@ use Rattle.desk_tree_patterns.specs.declared.matching.Search.{Search}
 use Rattle.desk_tree_patterns.specs.Glob.{IsMatch, Covers}
 use Rattle.desk_tree_patterns.specs.Parts.{literal, pieces}
 
+-- a place of the search: the pieces that are still to be matched, and the rest of the text
 pub record Spot : Type 0 where
   pub pieces : List Piece
   pub text : List ℕ
 
+-- a search under way: where it is, and the places behind its last `*` and its last `**`, to which
+-- it may go back
 pub record State : Type 0 where
   pub here : Spot
   pub name : Option Spot
   pub path : Option Spot
 
+-- the place that the code keeps as bytes, parts and text
 abbrev pub spot : Place → Spot
 spot p = record { pieces = pieces p.bytes.now p.parts.now; text = p.text.now }
 
+-- the same for a place to go back to, if there is one
 abbrev pub back : Option Place → Option Spot
 back None = None
 back (Some p) = Some (spot p)
 
+-- the search that the code keeps, with its three places
 abbrev pub state : Search → State
 state s = record { here = spot s.here; name = back s.name; path = back s.path }
 
@@ -40,6 +46,7 @@ abbrev pub Longer : Option Spot → Spot → Type 0
 Longer None r = ⊥
 Longer (Some s) r = (b : ℕ) × (s.pieces ≡ r.pieces) × (s.text ≡ b ∷ r.text) × Passes InName b
 
+-- the last `*` can't take one more byte: there is none, the text ends, or a `/` is next
 abbrev pub NoLonger : Option Spot → Type 0
 NoLonger o = (r : Spot) → Longer o r → ⊥
 
@@ -52,6 +59,7 @@ abbrev pub Further : Option Spot → Spot → Type 0
 Further None r = ⊥
 Further (Some s) r = (s.pieces ≡ r.pieces) × IsBehindName s.text r.text
 
+-- the last `**` can't take the rest of a name: there is none, or no `/` is left in its text
 abbrev pub NoFurther : Option Spot → Type 0
 NoFurther o = (r : Spot) → Further o r → ⊥
 
@@ -79,6 +87,7 @@ Follows s n = ByByte s n ⊎ (ByName s n ⊎ ByPath s n)
 abbrev pub ByLongerName : State → State → Type 0
 ByLongerName s n = Longer s.name n.here × (n.name ≡ Some n.here) × (n.path ≡ s.path)
 
+-- the last `*` can take no more, so the last `**` takes the rest of its name with the `/`
 abbrev pub ByNextName : State → State → Type 0
 ByNextName s n = NoLonger s.name × Further s.path n.here × (n.name ≡ Some n.here)
     × (n.path ≡ Some n.here)
@@ -87,6 +96,7 @@ ByNextName s n = NoLonger s.name × Further s.path n.here × (n.name ≡ Some n.
 abbrev pub Spent : State → Type 0
 Spent s = NoLonger s.name × NoFurther s.path
 
+-- a step back, when no piece fits: to the last `*`, or else to the last `**`
 abbrev pub Returns : State → State → Type 0
 Returns s n = ByLongerName s n ⊎ ByNextName s n
 
@@ -125,6 +135,7 @@ abbrev pub SettlesInPath : State → State → Type 0
 SettlesInPath s n = Skips s.here n.here × (s.name ≡ Some s.here) × (s.path ≡ Some s.here)
     × (n.name ≡ Some n.here) × (n.path ≡ Some n.here)
 
+-- behind a star, on to the first place of the text at which what follows may match
 abbrev pub Settles : State → State → Type 0
 Settles s n = SettlesInName s n ⊎ SettlesInPath s n
 

@@ -13,7 +13,7 @@ use std::marker::Model;
 /// A piece of a pattern.
 #[derive(Clone, Copy)]
 pub enum Piece {
-    /// A byte that stands for itself.
+    /// A byte that matches only itself.
     Byte(u8),
     /// `*`: any bytes except `/`, or none.
     InName,
@@ -28,7 +28,7 @@ pub(crate) enum Star {
     Double,
 }
 
-// A star, and how many literal bytes stand between the star before it and this one.
+// A star, and how many literal bytes are between the star before it and this one.
 #[derive(Clone, Copy)]
 pub(crate) struct Part {
     pub before: u32,
@@ -52,13 +52,13 @@ fn first_piece(pattern: &[u8]) -> Option<(Piece, &[u8])>
 
 /// A pattern of paths, seen as its pieces.
 ///
-/// `*` is any bytes except `/`, `**` any bytes, `\*` an asterisk and `\\` a backslash. A pattern is
-/// read from the left: two asterisks are `**`, and a backslash stands for the byte after it, or at
-/// the end for itself. So each text is a pattern. It takes one byte for each byte that stands for
-/// itself, and eight for each star.
+/// `*` matches any bytes except `/`, `**` any bytes, `\*` an asterisk and `\\` a backslash. A
+/// pattern is read from the left: two asterisks are `**`, and a backslash makes the byte after it
+/// match only itself, or at the end matches itself. So each text is a pattern. It takes one byte of
+/// memory for each byte that matches only itself, and eight for each star.
 #[derive(Drop)]
 pub struct Glob {
-    // The bytes that stand for themselves, one after another.
+    // The bytes that match only themselves, one after another.
     bytes: Vec<u8>,
     // The stars in order.
     parts: Vec<Part>,
@@ -75,8 +75,8 @@ impl Model for Glob {
 }
 
 impl Glob {
-    /// The pieces of a pattern. The only error is lack of memory: it also comes if 2 ^ 32 bytes or
-    /// more stand for themselves with no star between them.
+    /// The pieces of a pattern. The only error is lack of memory: it also occurs if 2 ^ 32 bytes or
+    /// more match only themselves with no star between them.
     pub fn parse(alloc: Global, pattern: &str) -> Result<Glob, AllocError>
         ensures { IfOk result (λ g. Spells pattern.now g) }
     {
@@ -119,8 +119,8 @@ impl Glob {
         matches(self.parts.as_slice(), self.bytes.as_slice(), path)
     }
 
-    /// The same, soon also if the search goes back often: it then goes over rows of all places of
-    /// the pattern. Lack of memory for these is the only error.
+    /// The same, but fast even if the search goes back often: it then goes over rows of all places
+    /// of the pattern. The only error is lack of memory for these.
     pub fn matches_soon(&self, alloc: Global, path: &str) -> Result<bool, AllocError>
         ensures { IfOk result (λ found. IsTrue found ↔ IsMatch self.now path.now) }
     {
@@ -143,8 +143,8 @@ pub fn each_text_is_a_glob()
     ensures { (pattern : List ℕ) → (pieces : List Piece) × Spells pattern pieces }
 {}
 
-/// A `*` never takes a `/`: a path that a pattern without `**` matches has as many of them as the
-/// pattern.
+/// A `*` never takes a `/`: if a pattern without `**` matches a path, both have the same number of
+/// slashes.
 pub fn stars_take_no_slash()
     ensures { (pattern path : List ℕ) (pieces : List Piece) → Spells pattern pieces
         → All (λ p. p ≢ InPath) pieces → IsMatch pieces path

@@ -6,9 +6,9 @@
 //! - A pattern can be read in only one way (`one_glob`), and each text is one
 //!   (`each_text_is_a_glob`). A `*` takes no `/` (`stars_take_no_slash`).
 //! - A search goes from star to star (`specs/Steps.antt`). `Glob::matches` takes no memory.
-//!   `Glob::matches_soon` gives up a search that goes back too often for a row of all places of the
-//!   pattern (`specs/Rows.antt`), which takes a step for each byte of the path and each literal byte
-//!   of the pattern.
+//!   `Glob::matches_soon` replaces a search that goes back too often by one over rows of all places
+//!   of the pattern (`specs/Rows.antt`), which takes a step for each byte of the path and each
+//!   literal byte of the pattern.
 #![tactic(auto)]
 
 mod glob;

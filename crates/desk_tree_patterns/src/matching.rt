@@ -4,16 +4,16 @@
 //! before it: what an earlier one could reach with a longer stretch, the last one reaches too. So
 //! no other place is kept.
 //!
-//! A `**` acts as a `*` within the name where it begins, and goes on to the next name only once no
+//! A `**` acts like a `*` within the name where it begins, and goes on to the next name only if no
 //! match begins in this one.
 //!
-//! The bytes between two stars are a run, which is found as a whole: behind a star the search goes
-//! on at once where its run first occurs, or, for the last run, where it would end the text. Each
-//! `*` also looks for the end of its name, many bytes at a time.
+//! The bytes between two stars are a run, which is found as a whole: after a star the search
+//! continues at once where the next run first occurs or, for the last run, where it would end the
+//! text. Each `*` also looks for the end of its name, many bytes at a time.
 //!
-//! So a pattern with no `**` costs about its bytes and those of the path. What is behind a `**`, up
-//! to the next, may be tried from each name; a search that goes back so often is given up, and
-//! `rows.rt` finds the answer.
+//! So a pattern without `**` takes about as many steps as it and the path have bytes. What follows
+//! a `**`, up to the next one, may be tried from each name; a search that goes back so often is
+//! abandoned, and `rows.rt` finds the answer.
 
 ghost use Rattle.std.specs.Prelude.{◌≡◌, ◌≢◌, ◌↔◌, ◌<◌, ◌≤◌, ◌+◌, ℕ, List, length, take, drop, slice_index, All, Some, IsTrue, IfSome, IfNone, IfOk};
 ghost use Rattle.memchr.specs.Find.{OccursAt};
@@ -26,7 +26,7 @@ use crate::rows::matches_by_rows;
 use memchr::{memchr, memmem};
 use std::alloc::{AllocError, Global};
 
-// How many places are tried one by one, before a search of many at once is worth its beginning.
+// How many places are tried one by one before a search of many at once is worth starting.
 const NEAR: usize = 16;
 
 // Parts that are still to be found, with their literal bytes, in the text that is left.
@@ -178,7 +178,7 @@ fn next_place<'a>(place: Place<'a>, end: usize) -> usize
     }
 }
 
-// The place so many bytes further.
+// The place this many bytes further on.
 fn further<'a>(place: Place<'a>, count: usize) -> Place<'a>
     requires { count ≤ length place.text.now }
     ensures { spot result ≡ record {
@@ -301,7 +301,7 @@ pub(crate) fn matches(parts: &[Part], bytes: &[u8], path: &[u8]) -> bool
     true
 }
 
-// What a search of so many steps finds, if it ends by then.
+// What a search finds within this many steps, if it ends by then.
 fn found_within(parts: &[Part], bytes: &[u8], path: &[u8], steps: usize) -> Option<bool>
     ensures { IfSome result (λ found. IsTrue found ↔ IsMatch (pieces bytes.now parts.now) path.now) }
 {
@@ -326,9 +326,10 @@ fn found_within(parts: &[Part], bytes: &[u8], path: &[u8], steps: usize) -> Opti
     None
 }
 
-/// The same, at most in as many steps as the path has bytes and the pattern stars, and then by rows.
+/// The same, by at most as many steps as the path has bytes and the pattern stars together, and
+/// then by rows.
 ///
-/// It takes memory only if a search of so many steps hasn't ended.
+/// It takes memory only if the search hasn't ended after these steps.
 pub(crate) fn matches_soon(
     alloc: Global,
     parts: &[Part],

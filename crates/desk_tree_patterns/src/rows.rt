@@ -1,5 +1,5 @@
-//! The search for a match if the other one goes back too often: over the path from its end to its
-//! beginning.
+//! The search for a match if the other one goes back too often: it goes over the path from its end
+//! to its beginning.
 //!
 //! A place of a pattern is before one of its literal bytes or at its end. A row has, for each place,
 //! whether the pieces from there on match what was seen of the path. So a search takes a step for

@@ -13,6 +13,7 @@ lacking true true = Both
 lacking true false = Notice
 lacking false no_licence = Licence
 
+-- a file, with what it lacks; asked only of files that lack something
 abbrev pub bare_file : FileInfo → Bare
 bare_file info = record {
   path = info.path;
@@ -27,6 +28,7 @@ bare_files infos = map bare_file (filter is_bare infos)
 abbrev pub bare_outline : OutlineText → Bare
 bare_outline o = record { path = o.path; lacking = lacking o.no_notice o.no_licence }
 
+-- the outlines that lack something, each with what it lacks
 abbrev pub bare_in : List OutlineText → List Bare
 bare_in outlines = map bare_outline
     (filter (λ (o : OutlineText). o.no_notice || o.no_licence) outlines)

@@ -23,6 +23,7 @@ use Rattle.desk_tree_gather.specs.Blanks.{blanks_in}
 abbrev pub has_dep5 : List SourceFile → Bool
 has_dep5 tree = is_some (bytes_at tree (codes ".reuse/dep5"))
 
+-- there is at least one flaw
 abbrev pub are_some : List Flaw → Bool
 are_some [] = false
 are_some (flaw ∷ flaws) = true

@@ -25,6 +25,7 @@ use Rattle.desk_tree_problems.specs.declared.row.Kind.{Kind}
 use Rattle.desk_tree_problems.specs.declared.row.Kind.TheVariants as kind
 use Rattle.desk_tree_problems.specs.declared.row.Row.{Row}
 
+-- the place of a kind in the order in which rows are reported
 abbrev pub kind_number : Kind → ℕ
 kind_number kind.Dep5 = 0
 kind_number kind.TooManyFiles = 1
@@ -44,6 +45,7 @@ kinds = kind.Dep5 ∷ kind.TooManyFiles ∷ kind.BadPath ∷ kind.TwicePath ∷ 
     ∷ kind.BadAnnotation ∷ kind.BadExpression ∷ kind.BlankAtEnd ∷ kind.Missing ∷ kind.Unused
     ∷ kind.Bare ∷ []
 
+-- the name of a kind, as the report writes it
 abbrev pub kind_name : Kind → List ℕ
 kind_name kind.Dep5 = codes "Dep5"
 kind_name kind.TooManyFiles = codes "TooManyFiles"
@@ -77,6 +79,7 @@ StopsAt text None = (e : Tree) × SpellsWithin text e
 StopsAt text (Some fault) = ((e : Tree) → SpellsWithin text e → ⊥) × (0 < fault_number fault)
     × IsStop SpellsTree text fault
 
+-- the fault of an expression and the byte at which it stops, in parentheses
 abbrev pub stop_words : Option ParseFault → List ℕ
 stop_words None = []
 stop_words (Some fault) = codes " ("
@@ -88,10 +91,12 @@ quoted text = if nat_lt 200 (length text)
     then codes "a text of " ++ (decimal (length text) ++ codes " bytes")
     else codes "'" ++ (text ++ codes "'")
 
+-- what to do about a text that is no licence expression
 abbrev pub mending_words : List ℕ
 mending_words = codes
     " is no licence expression: mend it, state the licence in FILE.license beside the file, or put REUSE-IgnoreStart before the line and REUSE-IgnoreEnd behind it"
 
+-- what is wrong with such a text, and what to do
 abbrev pub expression_words : List ℕ → Option ParseFault → List ℕ
 expression_words text stop = quoted text ++ (stop_words stop ++ mending_words)
 
@@ -99,12 +104,15 @@ expression_words text stop = quoted text ++ (stop_words stop ++ mending_words)
 abbrev pub low_words : List ℕ
 low_words = codes "a byte below 32 in the path, as a line end or a tab: give the file another name"
 
+-- what is wrong with a path that ends with a space
 abbrev pub blank_words : List ℕ
 blank_words = codes "a blank at the end of the path: give the file another name"
 
+-- what is wrong with the parts of any other path that can't be in a tree
 abbrev pub part_words : List ℕ
 part_words = codes "an empty part, . or .. in the path: give its parts from the root, each a name"
 
+-- what is wrong with a path: of several faults, the first in this order
 abbrev pub path_words : List ℕ → List ℕ
 path_words path =
     if list_any (λ b. nat_lt b 32) path then low_words
@@ -143,6 +151,7 @@ abbrev pub StopsSo : Flaw → Option ParseFault → Type 0
 StopsSo (BadExpression path line text) stop = StopsAt text stop
 StopsSo _ stop = stop ≡ None
 
+-- the row is that of the flaw; for a licence, with the place where its text stops
 abbrev pub IsFlawRow : Flaw → Row → Type 0
 IsFlawRow flaw row = (stop : Option ParseFault) × StopsSo flaw stop × (row ≡ flaw_row flaw stop)
 
@@ -155,6 +164,7 @@ AreFlawRows (flaw ∷ flaws) (row ∷ rows) = IsFlawRow flaw row × AreFlawRows 
 
 -- ---- licences that no document can hold
 
+-- the row of an annotation with such a licence
 abbrev pub blank_row : Blank → Row
 blank_row blank = plain_row kind.BlankAtEnd blank.path
     (codes "annotation " ++ (decimal blank.index
@@ -163,6 +173,8 @@ blank_row blank = plain_row kind.BlankAtEnd blank.path
 
 -- ---- older annotations
 
+-- the row of the older file of annotations, if it is there (REUSE Specification 3.3 allows it and
+-- calls it deprecated)
 abbrev pub dep5_rows : Bool → List Row
 dep5_rows true = plain_row kind.Dep5 (codes ".reuse/dep5")
     (codes
@@ -184,14 +196,17 @@ text_words id =
     then codes ": its text is in another document, so name a licence whose text is in LICENSES/"
     else codes ": add it as LICENSES/" ++ (id ++ codes ".txt")
 
+-- the row of a licence without a text, at the folder where texts are kept
 abbrev pub missing_row : Name → Row
 missing_row name = plain_row kind.Missing (codes "LICENSES/")
     (codes "no text of " ++ (name.id ++ (named_words name.path ++ text_words name.id)))
 
+-- the row of a licence text that no file uses
 abbrev pub unused_row : List ℕ → Row
 unused_row path = plain_row kind.Unused path
     (codes "no file uses this text: take it away, or state its licence where it is used")
 
+-- what a file lacks, and the three places where it can be stated
 abbrev pub lacking_words : Lacking → List ℕ
 lacking_words Notice = codes
     "no SPDX-FileCopyrightText (a notice without it doesn't count): state one in the file, beside it in FILE.license, or in REUSE.toml"
@@ -200,11 +215,13 @@ lacking_words Licence = codes
 lacking_words Both = codes
     "no SPDX-FileCopyrightText and no SPDX-License-Identifier (what is said without them doesn't count): state them in the file, beside it in FILE.license, or in REUSE.toml"
 
+-- the row of a file without a notice, a licence or both
 abbrev pub bare_row : Bare → Row
 bare_row bare = plain_row kind.Bare bare.path (lacking_words bare.lacking)
 
 -- ---- the whole
 
+-- the rows of the lists: licences with blanks, missing texts, unused texts, bare files
 abbrev pub list_rows : Problems → List Row
 list_rows p = map blank_row p.blanks
     ++ (map missing_row p.names ++ (map unused_row p.unused ++ map bare_row p.bare))

@@ -5,9 +5,9 @@
 //!   `desk_tree_gather::survey` finds, licences with a blank at an end, and the three lists of
 //!   `desk_tree_lint` for what can be read despite all that (`specs/Problems.antt`). If everything
 //!   in the tree is gathered, there are no flaws, and the lists are those of
-//!   `desk_tree_lint::lint`, without unused texts if there are older annotations; if not, the fault
-//!   of `desk_tree_gather::gather` is the first flaw.
-//! - A row says of a problem where it is, what is wrong and what to do (`specs/Rows.antt`).
+//!   `desk_tree_lint::lint`, without unused texts if there are older annotations; otherwise the
+//!   fault of `desk_tree_gather::gather` is the first flaw.
+//! - For each problem a row says where it is, what is wrong and what to do (`specs/Rows.antt`).
 #![tactic(auto)]
 
 mod bare;

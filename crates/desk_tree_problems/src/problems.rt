@@ -21,19 +21,19 @@ use std::collections::BTreeMap;
 pub struct Problems {
     /// Whether the tree has the older file of annotations, `.reuse/dep5`, which isn't read.
     pub dep5: bool,
-    /// That there are too many files, or what is wrong with the paths in turn, with the REUSE.toml
-    /// files by path, and with what the covered files state, by path.
+    /// That there are too many files; or what is wrong with the paths, in the order of the files,
+    /// with the REUSE.toml files, by path, and with what the covered files state, by path.
     pub flaws: Items<Flaw>,
-    /// Annotations with a licence that no document can hold, by path, in each REUSE.toml of which
-    /// all annotations can be read.
+    /// Annotations with a licence that no document can hold, by path, from each REUSE.toml whose
+    /// annotations can all be read.
     pub blanks: Items<Blank>,
     /// Licences, exceptions and references that are used and have no text, by their keys, in byte
     /// order.
     pub missing: TextList,
     /// How each of these is first written, and the first file that names it.
     pub names: Names,
-    /// Paths of licences' texts that nothing uses, in byte order; none where some use may not have
-    /// been read, for a flaw or older annotations.
+    /// Paths of licence texts that nothing uses, in byte order; none if some use may not have been
+    /// read, because of a flaw or older annotations.
     pub unused: Items<Text>,
     /// Covered files without a copyright notice or without a licence, by path.
     pub bare: Items<Bare>,
@@ -96,8 +96,8 @@ fn survey_problems(alloc: Global, files: Vec<SourceFile>) -> Result<Problems, Al
 }
 
 /// All problems of a tree (REUSE Specification 3.3). The lists are for what can be read despite the
-/// flaws: annotations that can't be read give nothing, and a tag that is no expression is a licence
-/// that uses nothing. The only error is lack of memory.
+/// flaws: annotations that can't be read contribute nothing, and a tag that isn't an expression is
+/// a licence that uses nothing. The only error is lack of memory.
 ///
 /// For each right reader they are those of `AreProblems`. If `desk_tree_lint::lint` has lists,
 /// there are no flaws, and they are those lists, without unused texts if there are older

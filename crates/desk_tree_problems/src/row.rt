@@ -17,11 +17,11 @@ pub enum Kind {
     BadPath,
     /// A path that appears twice.
     TwicePath,
-    /// A REUSE.toml that is no TOML document of version 1.
+    /// A REUSE.toml that isn't a TOML document of version 1.
     BadToml,
     /// An annotation that can't be read.
     BadAnnotation,
-    /// A tag that is no licence expression.
+    /// A tag that isn't a licence expression.
     BadExpression,
     /// An annotation with a licence that no document can hold.
     BlankAtEnd,

@@ -48,7 +48,7 @@ fn annotation_row(
     row_of(alloc, Kind::BadAnnotation, path, message.as_str())
 }
 
-// The fault at which a text that is no licence expression stops.
+// The fault at which a text that isn't a licence expression stops.
 fn stop_of(alloc: Global, text: &str) -> Result<Option<ParseFault>, AllocError>
     ensures { IfOk result (StopsAt text.now) }
 {
@@ -102,7 +102,7 @@ fn expression_words(
     )
 }
 
-// The row of a tag that is no licence expression.
+// The row of a tag that isn't a licence expression.
 fn expression_row(alloc: Global, path: &str, line: u64, text: &str) -> Result<Row, AllocError>
     ensures { IfOk result (IsFlawRow (BadExpression path.now line text.now)) }
 {

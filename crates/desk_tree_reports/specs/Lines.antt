@@ -11,6 +11,7 @@ abbrev pub place : Option ℕ → List ℕ
 place None = codes ": "
 place (Some line) = codes ":" ++ (decimal line ++ codes ": ")
 
+-- a row as a line: path, number of the line if it has one, and message, with no control characters
 abbrev pub row_line : Row → List ℕ
 row_line row = shown row.path ++ (place row.line ++ (shown row.message ++ codes "\n"))
 

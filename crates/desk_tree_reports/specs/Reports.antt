@@ -29,6 +29,7 @@ abbrev pub some_count : Kind → ℕ → List ℕ
 some_count kind count = if count == 0 then []
     else codes ", " ++ (kind_name kind ++ (codes ": " ++ decimal count))
 
+-- those of several kinds, in order
 abbrev pub counts_of : List Kind → List Row → List ℕ
 counts_of some rows = flat_map (λ kind. some_count kind (count_of kind rows)) some
 
@@ -37,6 +38,7 @@ abbrev pub counts : List Row → List ℕ
 counts rows = if length rows == 0 then codes "; nothing is wrong by the desk's rules"
     else counts_of kinds rows
 
+-- the last line: how many problems, how many covered files, and the counts by kind
 abbrev pub summary : List Row → ℕ → List ℕ
 summary rows covered = codes "problems: "
     ++ (decimal (length rows) ++ (codes ", covered files: "
@@ -48,20 +50,24 @@ lines_text rows covered = flat_map row_line rows ++ summary rows covered
 
 -- ---- JSON
 
+-- the report as an object: the number of covered files, and the rows
 abbrev pub report_value : List Row → ℕ → Data
 report_value rows covered = object
     (member (codes "covered") (number (unsigned covered))
     (member (codes "problems") (array (items_of (map row_value rows))) no_members))
 
+-- the object without blanks, and a line feed
 abbrev pub json_text : List Row → ℕ → List ℕ
 json_text rows covered = compact_text (report_value rows covered) ++ codes "\n"
 
 -- ---- the whole
 
+-- the report in the form that is asked for: JSON if so, else lines
 abbrev pub text_of : Bool → List Row → ℕ → List ℕ
 text_of true rows covered = json_text rows covered
 text_of false rows covered = lines_text rows covered
 
+-- there are no rows
 abbrev pub is_none : List Row → Bool
 is_none [] = true
 is_none (row ∷ rows) = false

@@ -13,10 +13,12 @@ abbrev pub row_text : Form → Bool → Row → List ℕ
 row_text (Lines only) later row = line_if only row
 row_text Json later row = comma_if later ++ row_json row
 
+-- what is written for rows that follow one another
 abbrev pub rows_text : Form → Bool → List Row → List ℕ
 rows_text form later [] = []
 rows_text form later (row ∷ rows) = row_text form later row ++ rows_text form true rows
 
+-- there is at least one row, so that the next one needs a comma
 abbrev pub are_some : List Row → Bool
 are_some [] = false
 are_some (row ∷ rows) = true

@@ -49,8 +49,8 @@ pub(crate) fn count_of(problems: &Problems, kind: Kind) -> usize
     }
 }
 
-// The sum of some numbers, each of how much is in memory: there is none for more than a number
-// holds.
+// The sum of some numbers, each of which counts things in memory. A sum too large for its type is
+// an error.
 fn total(counts: &[usize]) -> Result<usize, AllocError>
     ensures { IfOk result (λ total. total ≡ sum counts.now) }
 {

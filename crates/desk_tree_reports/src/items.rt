@@ -32,7 +32,7 @@ fn write_text(writer: &mut Writer, key: &str, text: &str) -> Result<(), AllocErr
     writer.string(text)
 }
 
-// Bytes, and behind them the item of a row up to its path.
+// Bytes, followed by the item of a row up to its path.
 fn with_front(bytes: Vec<u8>, row: &Row) -> Result<Vec<u8>, AllocError>
     ensures { IfOk result (λ all. all.items ≡ bytes.items ++ row_front row.now) }
 {
@@ -95,7 +95,7 @@ pub(crate) fn path_member(alloc: Global, path: &str) -> Result<Vec<u8>, AllocErr
     Ok(bytes)
 }
 
-/// The item of a text that is missing, behind others, up to the licence.
+/// The item of a missing text, after others, up to the licence.
 pub(crate) fn missing_front(alloc: Global) -> Result<Vec<u8>, AllocError>
     ensures { IfOk result (λ bytes. bytes.items ≡ missing_front) }
 {
@@ -105,7 +105,7 @@ pub(crate) fn missing_front(alloc: Global) -> Result<Vec<u8>, AllocError>
     )
 }
 
-/// That item behind the last words.
+/// That item after the last words.
 pub(crate) fn missing_end(alloc: Global) -> Result<Vec<u8>, AllocError>
     ensures { IfOk result (λ bytes. bytes.items ≡ missing_end) }
 {

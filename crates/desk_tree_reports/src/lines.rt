@@ -29,7 +29,7 @@ pub(crate) fn shown_text(alloc: Global, text: &str) -> Result<Vec<u8>, AllocErro
     Ok(bytes)
 }
 
-/// The line of a row behind its path.
+/// The line of a row after its path.
 pub(crate) fn behind_path(alloc: Global, row: &Row) -> Result<Vec<u8>, AllocError>
     ensures { IfOk result (λ bytes. bytes.items
         ≡ place row.now.line ++ (shown row.now.message ++ codes "\n")) }

@@ -10,7 +10,7 @@ use std::io::{self, Write};
 use std::marker::Model;
 use std::mem;
 
-// From how many bytes on a block takes no more.
+// A block with this many bytes takes no more.
 const BYTES_FULL: usize = 65_000;
 
 // A part of a text: pieces, and then bytes.
@@ -21,7 +21,7 @@ pub(crate) struct Block {
 }
 
 impl Block {
-    // A part of nothing.
+    // An empty part.
     fn new(alloc: Global) -> Block
         ensures { block_text result ≡ [] }
     {
@@ -47,7 +47,8 @@ impl Block {
 }
 
 /// An owned text in blocks, seen as its bytes. What many rows have in common, such as a long path,
-/// is kept once, and blocks are small enough for the places that other things leave free.
+/// is kept once, and blocks are small enough to fit into the gaps that other things leave in
+/// memory.
 #[derive(Drop)]
 pub struct LongText {
     full: Vec<Block>,
@@ -84,7 +85,7 @@ fn write_blocks<W: Write>(writer: &mut W, blocks: &[Block]) -> io::Result<()>
 }
 
 impl LongText {
-    /// A text of nothing.
+    /// An empty text.
     pub(crate) fn new(alloc: Global) -> LongText
         ensures { result ≡ [] }
     {

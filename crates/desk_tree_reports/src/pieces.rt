@@ -10,7 +10,7 @@ use std::io::{self, Write};
 use std::marker::Model;
 use std::rc::Rc;
 
-// With how many pieces a list is full.
+// A list with this many pieces is full.
 const PIECES_FULL: usize = 4_096;
 
 /// Bytes that may have several holders. A clone takes no memory for them.
@@ -96,7 +96,7 @@ fn write_pieces<W: Write>(writer: &mut W, owns: &TextList, shares: &[SharedBytes
 }
 
 impl Pieces {
-    /// A text of nothing.
+    /// An empty text.
     pub(crate) fn new(alloc: Global) -> Pieces
         ensures { result ≡ [] }
     {
@@ -106,8 +106,8 @@ impl Pieces {
         }
     }
 
-    /// Whether there are so many that others belong in a list of their own, so that none needs a
-    /// large place in memory.
+    /// Whether there are so many that others belong in another list, so that no list needs a large
+    /// place in memory.
     pub(crate) fn is_full(&self) -> bool {
         self.shares.len() >= PIECES_FULL
     }
@@ -116,7 +116,8 @@ impl Pieces {
     pub(crate) fn push(&mut self, own: &str, share: SharedBytes) -> Result<(), AllocError>
         ensures { OnOk result (self.new ≡ self.old ++ (own.now ++ share)) }
     {
-        // With room for what is shared the piece's own bytes are never added alone.
+        // Room for what is shared is reserved first, so that the piece's own bytes are never added
+        // without it.
         self.shares.reserve(1)?;
         self.owns.push(own)?;
         self.shares.push(share)?;

@@ -38,8 +38,7 @@ fn text_of(alloc: Global, json: bool, problems: &Problems) -> Result<LongText, A
     }
 }
 
-// Lets the keys of the missing texts go: a report shows their names instead, and so doesn't keep
-// both.
+// Drops the keys of the missing texts: a report shows their names instead, so it needn't keep both.
 fn let_keys_go(alloc: Global, problems: &mut Problems)
     ensures { problems.new ≡ record problems.old { missing = [] } }
 {

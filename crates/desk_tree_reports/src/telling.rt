@@ -42,8 +42,8 @@ pub(crate) struct Telling {
     pub(crate) text: LongText,
     /// Whether some row was added.
     pub(crate) later: bool,
-    // What was written of the last path, of the last path of a file that names a licence, and at
-    // the front and the end of the item of a text that is missing.
+    // What was written for the last path, for the last path of a file that names a licence, and at
+    // the front and the end of the item of a missing text.
     path: Option<Shown>,
     named: Option<Shown>,
     front: Option<Shown>,
@@ -147,7 +147,7 @@ impl Telling {
         self.text.add(alloc, end.as_slice())
     }
 
-    // Adds the item of a text that is missing, behind others.
+    // Adds the item of a missing text, after others.
     fn add_missing_item(&mut self, alloc: Global, name: NameAt<'_>) -> Result<(), AllocError>
         ensures { OnOk result (self.new.text
             ≡ self.old.text ++ (codes "," ++ row_json (missing_row (name_at name.entry)))) }
@@ -164,7 +164,7 @@ impl Telling {
         self.text.add_shared(alloc, end)
     }
 
-    // Adds what is written of a text that is missing: what rows of many have in common is kept once.
+    // Adds what is written for a missing text: what the rows of many have in common is kept once.
     fn add_missing(&mut self, alloc: Global, form: Form, name: NameAt<'_>) -> Result<(), AllocError>
         ensures { OnOk result (self.new.text
             ≡ self.old.text ++ row_text form self.old.later (missing_row (name_at name.entry))) }
@@ -290,7 +290,7 @@ fn add_problems(
     add_bare(alloc, telling, form, problems.bare.as_slice())
 }
 
-/// A text with what is written of problems behind it.
+/// A text, followed by what is written for problems.
 pub(crate) fn with_problems(
     alloc: Global,
     text: LongText,

@@ -1,4 +1,4 @@
-//! What is written of a text, kept for the next row that has the same text.
+//! What is written for a text, kept for the next row with the same text.
 
 ghost use Rattle.std.specs.Prelude.{◌≡◌, true, Some, IfOk};
 ghost use Rattle.std.specs.String.{string_bytes};
@@ -23,9 +23,9 @@ pub(crate) enum Way {
     NamedLine,
     /// The same, in an item.
     NamedItem,
-    /// As what stands before the licence in the item of a text that is missing, whatever the text.
+    /// As what comes before the licence in the item of a missing text, whatever the text.
     Front,
-    /// As what stands behind the words in such an item, whatever the text.
+    /// As what comes after the words in such an item, whatever the text.
     End,
 }
 
@@ -50,7 +50,7 @@ fn render(alloc: Global, way: Way, text: &str) -> Result<Vec<u8>, AllocError>
     }
 }
 
-/// A text, and what is written of it.
+/// A text, and what is written for it.
 #[derive(Drop)]
 pub(crate) struct Shown {
     way: Way,
@@ -94,8 +94,8 @@ impl Shown {
     }
 }
 
-/// What is written of a text: what is kept, if that is of this text, and else it is kept from now
-/// on.
+/// What is written for a text: what is kept, if that is for this text; otherwise it is kept from
+/// now on.
 pub(crate) fn share_of(
     alloc: Global,
     kept: &mut Option<Shown>,

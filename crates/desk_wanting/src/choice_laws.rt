@@ -15,7 +15,7 @@ ghost use Rattle.desk_wanting.specs.Sole.{sole_choices_found};
 ghost use Rattle.desk_wanting.specs.declared.sole_choice.SoleChoice.{SoleChoice};
 
 /// For tables that find their packages, and a reading that lists minimal sets, each sole choice is
-/// accepted: a Choose of it that comes next is done.
+/// accepted: if a Choose of it comes next, it is carried out.
 pub fn sole_choices_are_accepted()
     ensures { (w : Readings) (t : Tables) (r : List ℕ) (choices : List SoleChoice) (c : SoleChoice)
         → ListsMinimalSets w → FindsPackages t
@@ -24,8 +24,8 @@ pub fn sole_choices_are_accepted()
 {}
 
 /// The same after any recorded commands, if the reading lists the packages of a document by id,
-/// each once: their tables find their packages (`found`), and a Choose of a sole choice that comes
-/// next is done (`accepted`).
+/// each once: their tables find their packages (`found`), and if a Choose of a sole choice comes
+/// next, it is carried out (`accepted`).
 pub fn recorded_sole_choices_are_accepted()
     ensures found { (w : Readings) (h : List Command)
         → ListsInOrder w → IsHistory w h → FindsPackages (tables w h) }

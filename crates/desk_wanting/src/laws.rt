@@ -23,8 +23,8 @@ ghost use Rattle.desk_model.specs.Obstacles.{names_reference};
 ghost use Rattle.desk_wanting.specs.Obstacles.{wanting_found};
 
 /// For any tables, a freeze on a day of the calendar is refused with the first refusal of the list
-/// (`refused`). If there is none, it is accepted if its duties fit (`accepted`), and else refused
-/// as full (`full`). So the list is empty if a freeze is accepted (`only`).
+/// (`refused`). If there is none, it is accepted if its duties fit (`accepted`), and otherwise
+/// refused as full (`full`). So the list is empty if a freeze is accepted (`only`).
 pub fn freeze_meets_the_first_refusal()
     ensures refused { (w : Readings) (t : Tables) (r day : List ℕ) (first : Refusal)
         (others : List Refusal)

@@ -1,16 +1,16 @@
-//! Everything that stands in the way of a freeze (a freeze itself reports only the first refusal),
-//! and which choices of a release leave nothing to choose.
+//! Everything that keeps a release from being frozen (a freeze itself reports only the first
+//! refusal), and its sole choices, which leave nothing to choose.
 //!
 //! - `wanting` lists the refusals in the order in which a freeze meets them: a freeze today is
 //!   refused with the first. `open_wanting` does so for a release that is open.
 //! - `idle_documents` lists the attached documents that ship no package. They raise no duty, and no
 //!   refusal names them.
 //! - `sole_choices` lists the choices of a release for packages whose conclusion is true under only
-//!   one minimal set of terms (`specs/Sole.antt`). `choice_lines` prints them as the requests that
-//!   make them, a line of JSON each (`specs/Requests.antt`).
+//!   one minimal set of terms (`specs/Sole.antt`). `choice_lines` prints the requests that make
+//!   these choices, one line of JSON each (`specs/Requests.antt`).
 //!
 //! All look up rows in a store (`desk_access::Store`), for the desk in memory as well as the desk
-//! in tables, and leave them as they are. Their contracts name the definitions of `specs/`.
+//! in tables, and don't change them. Their contracts name the definitions of `specs/`.
 //!
 //! How the list of `wanting` relates to a freeze is proved over these definitions, by
 //! `freeze_meets_the_first_refusal` for any tables and by `recorded_freeze_meets_the_first_refusal`

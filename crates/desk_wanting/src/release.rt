@@ -26,8 +26,8 @@ fn alone(alloc: Global, refusal: Refusal) -> Result<Vec<Refusal>, Fault>
     Ok(refusals)
 }
 
-/// What stands in the way of a freeze of an open release with this form, in the order in which a
-/// freeze meets it.
+/// What keeps an open release with this form from being frozen, in the order in which a freeze
+/// meets it.
 ///
 /// # Errors
 ///
@@ -54,8 +54,8 @@ pub fn open_wanting<T: Texts, S: Store>(
     told_once(alloc, refusals)
 }
 
-/// Everything that stands in the way of a freeze of a release, in the order in which a freeze meets
-/// it. If there is no such release, or it isn't open, or no document is attached, that is the only
+/// Everything that keeps a release from being frozen, in the order in which a freeze meets it. If
+/// there is no such release, or it isn't open, or no document is attached, that is the only
 /// refusal. Otherwise these are the refusals for each package that it ships, by document and id:
 /// NoConclusion, NoChoice, NotAdopted for each chosen reference without an adoption, unless the
 /// list already names that reference of the document, and NoRule for each other chosen term without

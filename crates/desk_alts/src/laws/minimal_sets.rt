@@ -2,12 +2,12 @@
 //! each the contract of a function with an empty body.
 //!
 //! `alternatives` and `cheapest` may report that no memory is left, so their contracts say what a
-//! listing and a cheapest choice are, and not that there are any. The laws here say by the
-//! definitions alone: each tree has one list of its distinct terms (`AreTermsOf`) and one list of
+//! listing and a cheapest choice are, but not that they exist. The laws here say, from the
+//! definitions only: each tree has one list of its distinct terms (`AreTermsOf`) and one list of
 //! its minimal sets (`AreAlternatives`); either it can be listed or it has a fault, never both; and
 //! it has one cheapest set (`IsCheapest`) or none with costs, whatever its terms cost. All of this
-//! is constructive: a function answers each of these questions as the definitions say. The order of
-//! sets is that of their sizes first, and of sets of one cost the first in this order is chosen.
+//! is constructive: a function answers each of these questions as the definitions say. Sets are
+//! ordered by size first, and of sets with the same cost the first in this order is chosen.
 
 ghost use Rattle.std.specs.Prelude.{◌≡◌, ◌⊎◌, ◌<◌, ◌∷◌, ◌++◌, ℕ, List, Option, Contains, length};
 ghost use Rattle.std.specs.declared.cmp.Ordering.TheVariants.{Less};

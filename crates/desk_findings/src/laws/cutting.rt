@@ -1,10 +1,9 @@
-//! The sections of a document (SPDX 2.3, clauses 6 to 10) are one cutting, whichever definition
-//! cuts.
+//! Every definition cuts a document into the same sections (SPDX 2.3, clauses 6 to 10).
 //!
-//! Four definitions say which section a field is in: the faults of a document by the fields before
-//! it, the newest first; its parts by the tags that begin one; the files of a package and the
-//! findings by walks from the first field that count packages. `sections_are_one_cutting` says that
-//! each agrees with `parts` of `specs/Cut.antt`.
+//! Four definitions say which section a field is in. The faults of a document use the fields before
+//! it, the newest first; its parts use the tags that begin a part; the files of a package and the
+//! findings each use a walk from the first field that counts packages. `sections_are_one_cutting`
+//! says that each agrees with `parts` of `specs/Cut.antt`.
 
 ghost use Rattle.std.specs.Prelude.{◌≡◌, List, map, reverse};
 ghost use Rattle.std.specs.List.{filter, flat_map};

@@ -12,13 +12,13 @@ ghost use Rattle.desk_snapshot.specs.Conditions.{AreChoices};
 ghost use Rattle.desk_snapshot.specs.Tables.{snapshot_of};
 ghost use Rattle.desk_history_laws.specs.ChoicePremises.{ReadsChoices};
 
-/// In a recorded history each conclusion of the office is an expression, each adoption goes from a
-/// reference alone to a licence alone, and the releases have the places from 1 to their number.
-/// Each term that is held is of a release that isn't withdrawn, for a package that an attached
-/// document ships, and what is held for the package is a minimal set for its conclusion: a Conclude
-/// of a package for which a choice is held is refused. A frozen release's choices are its frozen
-/// terms. Choices that were checked against the package's own field alone, or against the
-/// conclusion of the time when they were made, would not meet this.
+/// In a recorded history each conclusion of the office is an expression, each adoption maps a plain
+/// reference to a plain licence, and the releases have the places from 1 to their number. Each term
+/// that is held is of a release that isn't withdrawn, for a package that an attached document
+/// ships, and what is held for the package is a minimal set for its conclusion: a Conclude of a
+/// package for which a choice is held is refused. A frozen release's choices are its frozen terms.
+/// Choices that were checked only against the package's own field, or against the conclusion of the
+/// time when they were made, would not meet this.
 pub fn choices_are_minimal_and_kept()
     ensures { (w : Readings) (h : List Command) → ReadsChoices w → IsHistory w h
         → AreChoices w (snapshot_of (tables w h)) }
