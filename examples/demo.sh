@@ -1,6 +1,6 @@
 #!/bin/sh
 # Shows the desk at work on real licences and a first release: examples/demo.sh [PROGRAM]
-# With no program the toolchain compiles the desk and runs it with no proof (`rt try`).
+# Without a program the toolchain compiles the desk and runs it without a proof (`rt try`).
 set -eu
 
 here=$(unset CDPATH; cd -- "$(dirname -- "$0")" && pwd)
@@ -10,7 +10,7 @@ trap 'rm -rf "$room"' EXIT
 trap 'exit 1' HUP INT TERM
 mkdir "$room/cases" "$room/shown" "$room/told"
 
-# Adds a case: its name, its words, and its standard input from where this stands.
+# Adds a case: its name, its words, and its standard input, which is read from here.
 add() {
     name=$1
     shift
@@ -18,7 +18,7 @@ add() {
     cat >"$room/cases/$name"
 }
 
-# Adds a question about an expression and the words behind it.
+# Adds a question about an expression and the words after it.
 ask() {
     name=$1
     shift
@@ -51,7 +51,7 @@ ask_small() {
     add 5-small check --profile 2 "$small" MIT Unicode-3.0 </dev/null
 }
 
-# Each of the following runs the cases: what one is told stands in told/NAME, its status in told/NAME.status.
+# Each of the following runs the cases: told/NAME gets the output of one, told/NAME.status its status.
 
 run_program() {
     for name; do
@@ -76,7 +76,7 @@ run_unproved() {
         name != "" { print >(told name) }' "$room/log"
 }
 
-# Shows what the named cases were asked and told.
+# Shows the input and the output of the named cases.
 show() {
     for name; do
         cat "$room/shown/$name" "$room/told/$name"
@@ -118,16 +118,16 @@ show 1-unicode-ident 2-linux-tls
 echo 'A term too many, and one too few:'
 echo
 show 3-too-many 4-too-few
-echo 'The same licence with its operators in small letters, read by the profile that takes them:'
+echo 'The same licence with its operators in small letters, read by the profile that allows them:'
 echo
 show 5-small
-echo 'A first release: requests (>), each with its reply (<). Then its document is asked for findings, and it for'
-echo 'what ships. At last its duty is reopened, waived up to a day, open again after it, and withdrawn with the release.'
+echo 'A first release: requests (>), each with its reply (<). Then the findings of its document and'
+echo 'what ships. Finally its duty is reopened, waived up to a day, open again after it, and withdrawn with the release.'
 echo
 echo '$ cd examples/first-release; cat script.jsonl duties.jsonl ships.jsonl later.jsonl | desk script'
 show_script 6-release
 echo
-echo "What in a document isn't as the standard has it: the line, the number and the name of each finding. Then a release"
+echo 'Where a document departs from the standard: the line, the number and the name of each finding. Then a release'
 echo 'of it, with the package that ships.'
 echo
 echo '$ desk script < examples/findings/script.jsonl'
@@ -142,7 +142,7 @@ if [ -n "$desk" ]; then
     "$desk" notices --db "$room/office.db" r1
     "$desk" duties --db "$room/office.db" r1
 else
-    echo '(without a proved program no file keeps a desk; these are the texts that the tests compare)'
+    echo '(without a proved program no desk is kept in a file; these are the texts that the tests compare)'
     cat "$here/first-release/NOTICES" "$here/first-release/duties.csv"
 fi
 

@@ -1,4 +1,4 @@
-# Writes the completion for bash: bash.in, where each line @NAME@ is replaced by what the help says. Readline itself completes the names
+# Writes the completion for bash: bash.in, with each line @NAME@ replaced by what the help says. Readline itself completes the names
 # of files and folders.
 
 function word(name, help) {
@@ -35,6 +35,22 @@ function kinds_of_places(    i) {
     for (i = 1; i <= count; i++) if (whats[i] == "argument") kind(i, is_many[i] ? "*" : places[i])
 }
 
+function requests_of(name,    i, out) {
+    for (i = 1; i <= requests; i++) if (request_pages[i] == name) out = out " " request_names[i]
+    return substr(out, 2)
+}
+
+# The words of requests, and the keys of each.
+function all_requests(    i, n) {
+    for (n = 1; n <= commands; n++) {
+        if (!has_requests(names[n])) continue
+        print indent names[n] ":) requests=(" requests_of(names[n]) ") ;;"
+        for (i = 1; i <= requests; i++) {
+            if (request_pages[i] == names[n]) print indent names[n] ":" request_names[i] ") keys=(" request_keys[i] ") ;;"
+        }
+    }
+}
+
 NR == FNR { next }
 
 /^ *@[a-z]+@$/ {
@@ -44,6 +60,7 @@ NR == FNR { next }
     if ($0 ~ /@options@/) for (i = 0; i <= commands; i++) options(i ? names[i] : "-")
     if ($0 ~ /@kinds@/) kinds_of_options()
     if ($0 ~ /@places@/) kinds_of_places()
+    if ($0 ~ /@requests@/) all_requests()
     next
 }
 

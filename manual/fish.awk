@@ -1,4 +1,4 @@
-# Writes the completion for fish: fish.in, where each @NAME@ is replaced by what the help says.
+# Writes the completion for fish: fish.in, with each @NAME@ replaced by what the help says.
 
 function at(page, place) {
     return "complete -c desk -n " fish_quoted("__desk_is_at " (page == "-" ? "\"\"" : page) (place == "" ? "" : " " place))
@@ -23,9 +23,23 @@ function option(i,    out) {
     print out " -d " fish_quoted(helps[i])
 }
 
+# The words of requests, and the keys of each.
+function all_requests(name,    i, keys, n, k) {
+    for (i = 1; i <= requests; i++) {
+        if (request_pages[i] != name) continue
+        print "complete -c desk -n " fish_quoted("__desk_is_request " name) " -a " request_names[i]
+        n = split(request_keys[i], keys, / /)
+        for (k = 1; k <= n; k++) {
+            print "complete -c desk -n " fish_quoted("__desk_is_request " name " " request_names[i] " " keys[k]) " -a " keys[k] "="
+        }
+    }
+    print "complete -c desk -n " fish_quoted("__desk_is_release " name) " -a " fish_quoted("(__desk_releases)")
+}
+
 function argument(i,    place) {
     place = is_many[i] ? "" : places[i]
-    if (kinds[i] == "command") subcommands(pages[i], place)
+    if (kinds[i] == "request") all_requests(pages[i])
+    else if (kinds[i] == "command") subcommands(pages[i], place)
     else if (kinds[i] != "any") print at(pages[i], place) offered(kinds[i])
 }
 

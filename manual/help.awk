@@ -6,10 +6,10 @@
 #   PAGE head TEXT                             the line above commands, arguments or options
 #   PAGE command NAME HELP
 #   PAGE argument VALUE HELP KIND              VALUE as it is printed: <DIR>, <TERM>...
-#   PAGE option SHORT LONG VALUE HELP KIND     without what it lacks; KIND is none where it takes no value
-#   PAGE text LINE                             any other line, as it stands
+#   PAGE option SHORT LONG VALUE HELP KIND     without what it lacks; KIND is none if it takes no value
+#   PAGE text LINE                             any other line, as it is
 #
-# KIND says what can be offered for a value: file, folder, command, or any where nothing can. The words of its help tell that.
+# KIND says what can be offered for a value: file, folder, command, or any if nothing can. The words of its help determine it.
 
 function kind_of(value, help) {
     if (value == "") return "none"

@@ -1,4 +1,4 @@
-# Writes the manual page: man.in, where each line @NAME@ is replaced by what the help says. Below COMMANDS each subcommand has its help in
+# Writes the manual page: man.in, with each line @NAME@ replaced by what the help says. Below COMMANDS each subcommand has its help in
 # the order in which it is printed.
 
 # Words of a command line: the program and its subcommand stand out, and names of values too.
@@ -14,7 +14,7 @@ function call(text,    rest, start, out) {
     return out roff(rest)
 }
 
-# A name, and below it what is said of it.
+# A name, and below it its description.
 function entry(name, text) {
     print ".TP"
     print name
@@ -29,7 +29,7 @@ function option(i,    name) {
 }
 
 # Whether the indented lines from one to another are names with what they mean, two blanks or more between: then each
-# line that is indented further goes on with what stands before it.
+# line that is indented further continues the line before it.
 function are_entries(from, to,    i) {
     for (i = from; i <= to; i++) if (lines[i] !~ /^   / && lines[i] !~ /^  [^ ]+( [^ ]+)*  +[^ ]/) return 0
     return lines[from] !~ /^   /
@@ -66,7 +66,7 @@ function paragraph(from, to,    i) {
 
 function is_text(i, at) { return i <= count && pages[i] == pages[at] && whats[i] == "text" && lines[i] != "" }
 
-# Writes the lines that stand together from one on, and returns the last of them.
+# Writes a block of lines from one on, and returns the last of them.
 function block(from,    to, is_indented) {
     is_indented = lines[from] ~ /^ /
     for (to = from; is_text(to + 1, from) && (lines[to + 1] ~ /^ /) == is_indented; to++);
@@ -76,7 +76,7 @@ function block(from,    to, is_indented) {
     return to
 }
 
-# Writes what the help of a page has, from one line to another.
+# Writes the help of a page, from one line to another.
 function contents(wanted, from, to,    i, name) {
     for (i = from; i <= to; i++) {
         if (pages[i] != wanted) continue

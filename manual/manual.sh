@@ -4,7 +4,7 @@
 #   manual/manual.sh PROGRAM FOLDER
 #
 # FOLDER is laid out as a folder `share`: man/man1/desk.1, bash-completion/completions/desk, zsh/site-functions/_desk and
-# fish/vendor_completions.d/desk.fish. help.awk tells how the help is read.
+# fish/vendor_completions.d/desk.fish. help.awk describes how the help is read.
 set -eu
 
 here=$(unset CDPATH; cd -- "$(dirname -- "$0")" && pwd)
@@ -24,7 +24,7 @@ ask() {
     "$program" "$@" </dev/null || { echo "$program $*: status $?" >&2; exit 1; }
 }
 
-# Reads the help of the page $1, which the words behind it ask for.
+# Reads the help of the page $1, which the words after it ask for.
 read_help() {
     page=$1
     shift
@@ -41,7 +41,7 @@ for name in $names; do
     read_help "$name" help "$name"
 done
 
-# Writes the file $2 below the folder by the text $1.in and what $1.awk fills in there.
+# Writes the file $2 below the folder from the text $1.in, as $1.awk fills it.
 write() {
     mkdir -p "$folder/${2%/*}"
     awk -f "$here/words.awk" -f "$here/$1.awk" "$room/words" "$here/$1.in" >"$folder/$2"

@@ -1,4 +1,4 @@
-# What the writers share: how a text stands in a file of its kind, and the words that help.awk wrote, which are the first file that is
+# What the writers share: how a text is quoted in a file of its kind, and the words that help.awk wrote, which are the first file that is
 # read. The second is the text to fill in.
 
 # The text with each character that the map has replaced.
@@ -31,10 +31,29 @@ function described(text) {
     return mapped(text, in_zsh)
 }
 
-# The name of a value without what says how often it may stand: FILE of <FILE>.
+# The name of a value without the mark that says how often it may appear: FILE of <FILE>.
 function bare(value) {
     gsub(/[][<>.]/, "", value)
     return value
+}
+
+# Keeps the words of a line of help, with the keys of a single one. A key that may be left out is in brackets.
+function add_requests(line,    parts, names, n, i) {
+    split(line, parts, /  +/)
+    n = split(parts[1], names, /, /)
+    gsub(/[][]/, "", parts[2])
+    for (i = 1; i <= n; i++) {
+        requests++
+        request_pages[requests] = page
+        request_names[requests] = names[i]
+        request_keys[requests] = n == 1 ? parts[2] : ""
+    }
+}
+
+# Whether the words of requests are an argument of a page.
+function has_requests(page,    i) {
+    for (i = 1; i <= count; i++) if (pages[i] == page && whats[i] == "argument" && kinds[i] == "request") return 1
+    return 0
 }
 
 BEGIN {
@@ -71,13 +90,19 @@ what == "command" {
     abouts[commands] = helps[count] = $4
 }
 
-what == "usage" { place = 0 }
+# Above its usage, the help of a page whose argument is WORD lists the words of requests, each with its keys.
+what == "text" && !(page in has_usage) && $3 ~ /^  [a-z]/ { add_requests(substr($3, 3)) }
 
-# Places are counted from 0. What may stand more than once has all places from its own on; of subcommands one alone can stand.
+what == "usage" {
+    place = 0
+    has_usage[page] = 1
+}
+
+# Places are counted from 0. What may appear more than once has all places from its own on; only one subcommand can appear.
 what == "argument" {
     values[count] = $3
     helps[count] = $4
-    kinds[count] = $5
+    kinds[count] = bare($3) == "WORD" ? "request" : $5
     places[count] = place++
     is_many[count] = $3 ~ /\.\.\.$/ && $5 != "command"
 }

@@ -1,9 +1,10 @@
-# Writes the completion for zsh: zsh.in, where each line @NAME@ is replaced by what the help says.
+# Writes the completion for zsh: zsh.in, with each line @NAME@ replaced by what the help says.
 
 function action(kind) {
     if (kind == "file") return "_files"
     if (kind == "folder") return "_files -/"
     if (kind == "command") return "_desk_commands"
+    if (kind == "request") return "_desk_requests"
     return " "
 }
 
@@ -41,6 +42,20 @@ function branch(name) {
     print indent "    ;;"
 }
 
+# The words of requests, and the keys of each.
+function all_requests(    i, n, out) {
+    for (n = 1; n <= commands; n++) {
+        if (!has_requests(names[n])) continue
+        out = ""
+        for (i = 1; i <= requests; i++) {
+            if (request_pages[i] != names[n]) continue
+            out = out " " request_names[i]
+            print indent names[n] ":" request_names[i] ") offered=(" request_keys[i] ") ;;"
+        }
+        print indent names[n] ":) offered=(" substr(out, 2) ") ;;"
+    }
+}
+
 NR == FNR { next }
 
 /^ *@[a-z]+@$/ {
@@ -48,6 +63,7 @@ NR == FNR { next }
     sub(/@.*/, "", indent)
     if ($0 ~ /@commands@/) for (i = 1; i <= commands; i++) print indent quoted(names[i] ":" described(abouts[i]))
     if ($0 ~ /@program@/) contents("-")
+    if ($0 ~ /@requests@/) all_requests()
     if ($0 ~ /@options@/) for (i = 1; i <= commands; i++) branch(names[i])
     next
 }

@@ -1,6 +1,6 @@
 #!/bin/sh
 # Makes a Debian package of the program that `make test` proved and tested: build/dist/desk_VERSION-1_amd64.deb. MAINTAINER, 'NAME
-# <ADDRESS>', is who makes it.
+# <ADDRESS>', is the maintainer of the package.
 set -eu
 
 cd "$(dirname -- "$0")/.."
@@ -21,7 +21,7 @@ doc=$room/usr/share/doc/desk
 sed 's,@VERSION@,'"$version"',' packaging/debian/copyright >"$doc/copyright"
 gzip -9n <"$doc/CHANGELOG.md" >"$doc/changelog.gz"
 rm "$doc/CHANGELOG.md"
-printf 'desk (%s-1) unstable; urgency=medium\n\n  * Version %s, as CHANGELOG.md of its source has it.\n\n -- %s  %s\n' "$version" "$version" \
+printf 'desk (%s-1) unstable; urgency=medium\n\n  * Version %s; changelog.gz lists its changes.\n\n -- %s  %s\n' "$version" "$version" \
     "$maintainer" "$(LC_ALL=C date -u -R -d "$date")" | gzip -9n >"$doc/changelog.Debian.gz"
 gzip -9n "$room/usr/share/man/man1/desk.1"
 mkdir "$room/usr/share/zsh/vendor-completions"
@@ -32,7 +32,7 @@ cp packaging/debian/overrides "$room/usr/share/lintian/overrides/desk"
 
 mkdir "$room/DEBIAN"
 (cd "$room" && find usr -type f | LC_ALL=C sort | xargs md5sum) >"$room/DEBIAN/md5sums"
-# the newest symbols of the C library that the program asks for say which one it needs
+# the newest symbols of the C library that the program uses determine which version it needs
 libc=$(LC_ALL=C grep -ao 'GLIBC_2\.[0-9.]*' build/desk | LC_ALL=C sort -Vu | tail -n 1 | sed 's/GLIBC_//')
 needs="libc6 (>= ${libc:-2.17})"
 ! LC_ALL=C grep -aq 'libgcc_s\.so\.1' build/desk || needs="$needs, libgcc-s1"

@@ -2,7 +2,7 @@
 """Prints the licence texts of the toolchain's crates that the program is made from: python3 packaging/licences.py
 
 They are the crates that crates.txt names and the toolchain has, and those that these name in turn, by the paths in their sources. A path
-may name a module instead, so a text more than is needed may be printed, and none is missing."""
+may name a module instead, so it may print a text that isn't needed, but none is missing."""
 import os
 import re
 import subprocess
@@ -60,7 +60,7 @@ def main():
     kit = kit_folder()
     found, without = texts(kit, crates(kit))
     print("The program `desk` is made from the crates of its own source tree, under the Apache License 2.0, and from crates of the")
-    print("Rattle toolchain, most of them after Rust crates of these names. The toolchain has these licence texts beside them.")
+    print("Rattle toolchain, most of them after Rust crates of these names. The toolchain has these licence texts with them.")
     for text, names in found.items():
         print(f"\n{'=' * 80}\n{', '.join(names)}\n{'=' * 80}\n\n{text}")
     print(f"\n{'=' * 80}\nNo text of their own: std, {', '.join(without)}")

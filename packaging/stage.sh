@@ -15,9 +15,9 @@ python3 packaging/licences.py >"$doc/THIRD-PARTY"
 cp build/desk "$folder/bin/desk"
 sh manual/manual.sh build/desk "$folder/share"
 cp README.md CHANGELOG.md SECURITY.md "$doc"
-for page in AUDIT CATALOGUE COUNSEL DATABASE DECISIONS HOSTILE HTTP LINT REFUSALS REPORTS REQUESTS TABLES TRUST; do
+for page in AUDIT CATALOGUE COUNSEL DATABASE DECISIONS FILLS HOSTILE HTTP LINT REFUSALS RELEASE REPORTS REQUESTS TABLES TRUST; do
     cp "docs/$page.md" "$doc/docs"
 done
 cp docs/page.png "$doc/docs"
 cp packaging/desk.service "$doc/examples"
-cp -R examples/catalogue examples/first-release "$doc/examples"
+cp -R examples/catalogue examples/first-release examples/restore "$doc/examples"

@@ -1,9 +1,10 @@
 """Compares the manual page and the completions with the help that they are made from: python3 tests/manual.py PROGRAM
 
-manual/manual.sh makes them from the program, and again from a small one whose help has each character that a file has to quote. Here the
-help is read a second time. Each subcommand and each option stands in the page and in each completion with its words, and no other; what
-the page says of a subcommand is its help, word by word. Where there is a shell, it reads its file; bash and fish also say what they
-offer.
+manual/manual.sh makes them from the program, and again from a small program whose help has each character that a file must quote. Here the
+help is read by a second reader. The page and each completion must have each subcommand and each option with its words, and no others; what the
+page says about a subcommand must be its help, word for word. If a shell is installed, it reads its file; bash and fish also print the
+completions that they offer. After do and ask bash offers each request, the keys that it still lacks, and the
+releases of an existing desk.
 """
 
 import os
@@ -14,6 +15,10 @@ import subprocess
 import sys
 import tempfile
 
+sys.dont_write_bytecode = True
+
+from words import rows_of
+
 HERE = os.path.dirname(os.path.abspath(__file__))
 TREE = os.path.dirname(HERE)
 PAGE, BASH = "man/man1/desk.1", "bash-completion/completions/desk"
@@ -22,6 +27,7 @@ ROFF = {"-": "-", "&": "", "(rs": "\\", "(aq": "'", "(ga": "`", "(ha": "^", "(ti
 ESCAPE = re.compile(r"\\(\(..|f.|.)")
 MACROS = {".TH", ".SH", ".SS", ".TP", ".PP", ".RS", ".RE", ".nf", ".fi", ".br", ".nh", ".ad"}
 OFFERED = ("file", "folder", "command")
+RELEASES = {"kettle-1.0", "r1", "r2"}
 
 # A program that prints, for the words of its command line, the file that they name.
 OTHER = """#!/bin/sh
@@ -43,14 +49,14 @@ failures = []
 
 
 def compare(what, found, wanted):
-    """Tells each entry that only one of two tables has, or that they tell otherwise."""
+    """Prints each entry that only one of two tables has, or on which they differ."""
     for key in sorted(set(found) | set(wanted), key=str):
         if found.get(key) != wanted.get(key):
             failures.append(f"{what}: {key} is {found.get(key)!r} here and {wanted.get(key)!r} in the help")
 
 
 def compare_words(what, found, wanted):
-    """Tells the first words in which two texts differ."""
+    """Prints the first words in which two texts differ."""
     found, wanted = found.split(), wanted.split()
     if found != wanted:
         at = next((n for n, pair in enumerate(zip(found, wanted)) if pair[0] != pair[1]), min(len(found), len(wanted)))
@@ -222,7 +228,7 @@ def check_bash(text, words):
 
 def check_zsh(text, words):
     found = Words()
-    actions = {"_files": "file", "_files -/": "folder", "_desk_commands": "command", " ": "any", "": "none"}
+    actions = {"_files": "file", "_files -/": "folder", "_desk_commands": "command", "_desk_requests": "any", " ": "any", "": "none"}
 
     def undone(part):
         return re.sub(r"\\(.)", r"\1", part)
@@ -250,7 +256,7 @@ def check_zsh(text, words):
 def check_fish(text, words):
     found = Words()
     lists = {}
-    for line in re.findall(r"^complete -c desk -n (.*)$", text, flags=re.M):
+    for line in re.findall(r"^complete -c desk -n ('__desk_is_at .*)$", text, flags=re.M):
         parts = re.findall(r"'(?:\\.|[^'\\])*'|\S+", line)
         parts = [re.sub(r"\\(['\\])", r"\1", part[1:-1]) if part[0] == "'" else part for part in parts]
         at, parts = parts[0].split()[1:], parts[1:]
@@ -281,8 +287,9 @@ compopt() { COMPREPLY=("$2"); }
 for line; do
     IFS=/ read -r -a words <<<"$line/"
     COMP_LINE=${words[*]}
-    # bash cuts words at : too.
-    IFS=/ read -r -a COMP_WORDS <<<"${line//:/\/:\/}/"
+    # bash cuts words at : and = too.
+    line=${line//:/\/:\/}
+    IFS=/ read -r -a COMP_WORDS <<<"${line//=/\/=\/}/"
     COMP_CWORD=$((${#COMP_WORDS[@]} - 1)) COMP_TYPE=9
     _desk
     printf '%s\n' "${COMPREPLY[@]}" .
@@ -291,8 +298,8 @@ done
 
 
 def questions(words):
-    """Beginnings of command lines, their words parted by strokes, each with its subcommand and what is to be offered: some words, or what
-    is of a kind."""
+    """Beginnings of command lines, their words separated by strokes, each with its subcommand and what must be offered: some words, or the
+    values of a kind."""
     options = {command: {form for other, form in words.options if other == command} for command in ["", *words.commands]}
     yield "desk/", "", "command"
     yield "desk/-", "", options[""]
@@ -313,7 +320,7 @@ def questions(words):
 
 
 def answers_to(words, kinds):
-    """What is to be offered for each question, where the shell offers these for what is of a kind."""
+    """What must be offered for each question, if the shell offers these for words of a kind."""
     for line, command, wanted in questions(words):
         if wanted == "none" and wanted not in kinds:
             wanted = {form for other, form in words.options if other == command}
@@ -321,7 +328,7 @@ def answers_to(words, kinds):
 
 
 def compare_answers(shell, told, asked):
-    """Compares what a shell offers for each line, one below the other and a point behind, with what is to be offered."""
+    """Compares what a shell offers for each line (one answer on each line, and a full stop after each list) with what must be offered."""
     answers = [set()]
     for row in told.splitlines():
         if row == ".":
@@ -333,9 +340,42 @@ def compare_answers(shell, told, asked):
 
 def ask_bash(path, words):
     run("bash", "-n", path)
-    # Where there is nothing else to offer, bash offers the options.
+    # If there is nothing else to offer, bash offers the options.
     asked = dict(answers_to(words, {"file": {"default"}, "folder": {"dirnames"}}))
     compare_answers("bash", run("bash", "--norc", "-c", ASK_BASH, "bash", path, *asked), asked)
+
+
+def requests_asked(helps):
+    """Beginnings of requests, as for `questions`, each with what must be offered."""
+    for verb in ("do", "ask"):
+        forms = dict(rows_of(helps[verb]))
+        yield f"desk/{verb}/--db/desk.db/", set(forms)
+        for word, keys in forms.items():
+            keys = [key.strip("[]") for key in keys]
+            before = f"desk/{verb}/--db/desk.db/{word}/"
+            yield before, {f"{key}=" for key in keys}
+            for key in keys:
+                yield f"{before}{key}=x/", {f"{other}=" for other in keys if other != key}
+            yield f"{before}release=", RELEASES if "release" in keys else set()
+            if "release" in keys:
+                yield f"{before}release=r", {name for name in RELEASES if name[0] == "r"}
+                yield f"desk/{verb}/--db=desk.db/{word}/release=", RELEASES
+                yield f"desk/{verb}/--db/none.db/{word}/release=", set()
+
+
+def ask_requests(path, program, helps, room):
+    """What bash offers after do and ask, with a desk of some releases and without a file."""
+    os.symlink(program, os.path.join(room, "desk"))
+    paths = {**os.environ, "PATH": room + os.pathsep + os.environ["PATH"]}
+    catalogue = os.path.join(TREE, "examples/first-release/catalogue.toml")
+    rows = [["catalogue", "--db", "desk.db", catalogue], *(["do", "--db", "desk.db", "open", f"release={name}", "form=binary"] for name in RELEASES)]
+    for row in rows:
+        subprocess.run(["desk", *row], cwd=room, env=paths, stdout=subprocess.DEVNULL, check=True)
+    asked = dict(requests_asked(helps))
+    told = subprocess.run(["bash", "--norc", "-c", ASK_BASH, "bash", path, *asked], cwd=room, env=paths, stdout=subprocess.PIPE, text=True, check=True).stdout
+    compare_answers("bash", told, asked)
+    if os.path.exists(os.path.join(room, "none.db")):
+        failures.append(f"{BASH}: a file was made that was not there")
 
 
 def ask_fish(path, words, room):
@@ -369,6 +409,8 @@ def check(program, room):
         failures.append(f"{PAGE}: mandoc finds an error")
     if shutil.which("bash"):
         ask_bash(os.path.join(share, BASH), words)
+        if "do" in words.commands:
+            ask_requests(os.path.join(share, BASH), program, helps, room)
     if shutil.which("zsh"):
         run("zsh", "-n", os.path.join(share, ZSH))
     if shutil.which("fish"):

@@ -1,9 +1,9 @@
 #!/usr/bin/env python3
-"""Packs a built program as for whoever installs it: python3 tests/packing.py PROGRAM
+"""Packs a built program for installation: python3 tests/packing.py PROGRAM
 
-In a copy of this tree, with a record of a run that never was: the archive and the Debian package have the program byte by byte, what was
-proved, and each page that theirs name; packed twice, they are the same bytes. Without a record, and with other sources or another program
-than those of the record, nothing is packed. The package is left out where there is no dpkg-deb."""
+This is done in a copy of the tree, with an invented record of a run. The archive and the Debian package must contain the program byte for
+byte, what was proved, and each page that their pages name; packed twice, they must be the same bytes. Without a record, or with other
+sources or another program than those of the record, nothing is packed. Without dpkg-deb the package is left out."""
 import hashlib
 import os
 import re
@@ -14,7 +14,7 @@ import tarfile
 import tempfile
 
 TREE = os.path.dirname(os.path.dirname(os.path.abspath(__file__)))
-# What writes the record: an older time than now, so that nothing in a package is as young as the package.
+# Writes the record, with an older time than now, so that nothing in a package is as new as the package.
 WRITE = """
 import time
 time.gmtime = lambda: time.struct_time((2026, 1, 2, 3, 4, 5, 4, 2, 0))
@@ -41,7 +41,7 @@ def read(path):
 
 
 def packed(room, target):
-    """The bytes of what a target packs, which it packs twice."""
+    """What a target packs, twice with the same bytes."""
     found = []
     for _ in range(2):
         status, said = run(room, "make", "-s", target)

@@ -1,15 +1,15 @@
 #!/bin/sh
-# Prints a catalogue, and behind it a [[text]] table for each licence of its rules whose text is found.
+# Prints a catalogue, followed by a [[text]] table for each licence of its rules whose text is found.
 #
 #   with-texts.sh CATALOGUE [FOLDER..]
 #
 # It looks for a file ID.txt in the folders, then in LICENSES at the top of this tree, then in /usr/share/common-licenses, which Debian has.
-# Where a folder isn't there it goes on. It names the ids without a text on standard error. A licence that has a [[text]] keeps it.
+# A folder that doesn't exist is skipped. Standard error lists the ids without a text. A licence that has a [[text]] keeps it.
 #
-# One text serves for the ids of a GNU licence with and without -only and -or-later. The LGPL 3.0 asks for the GPL 3.0 too, whose text is
-# put behind its own. BSD and Artistic of common-licenses aren't taken: the one names a holder, and the other is an older version.
+# One text is used for the ids of a GNU licence with and without -only and -or-later. The LGPL 3.0 needs the GPL 3.0 too, whose text
+# follows its own. BSD and Artistic of common-licenses aren't used: the first names a holder, and the second is an older version.
 #
-# The catalogue has each key on a line of its own.
+# The catalogue must have each key on a separate line.
 set -eu
 LC_ALL=C
 export LC_ALL
@@ -49,7 +49,7 @@ function need(id) {
     }
 }
 
-# The text of a file, as it stands in a string of TOML; nothing for no file.
+# The text of a file, as a string of TOML has it; nothing if there is no file.
 function text_of(file,    line, text, written, at, c) {
     if (file != "" && !(file in texts)) {
         text = ""
