@@ -1,9 +1,9 @@
-"""Asks a desk that `desk serve` keeps in a file: python3 tests/serving.py PROGRAM
+"""Sends requests to a desk that `desk serve` keeps in a file: python3 tests/serving.py PROGRAM
 
-- The dialogues that tests/database.py runs over files, each line a connection of its own, the heads of all replies among what is read.
+- The dialogues that tests/database.py runs over files, each line on its own connection; the heads of all replies are compared too.
 - Each route, byte for byte with status and head, each refusal that it can give, and the examples of docs/HTTP.md.
-- Requests that are cut, too long, of other versions, with fields that don't fit, and broken off at each byte.
-- Peers that send nothing, a byte now and then, or all and are gone, and those that take nothing: the next one is served.
+- Requests that are divided, too long, of other versions, with inconsistent fields, or broken off at each byte.
+- Peers that send nothing, a byte now and then, or everything and then disappear, and those that take nothing: the next one is served.
 - A disk that fails.
 - Ports that can't be listened on.
 
@@ -77,7 +77,7 @@ def read(body, kind=JSON, status=None):
 
 
 class NotServed(Exception):
-    """A program that ended before it listened: its status, and its words on standard error."""
+    """A program that ended before it listened: its status, and what it wrote to standard error."""
 
     def __init__(self, status, words):
         super().__init__(f"status {status}: {words!r}")
@@ -85,7 +85,7 @@ class NotServed(Exception):
 
 
 class Served:
-    """A desk in a file that is served to so many connections."""
+    """A desk in a file that is served to this many connections."""
 
     def __init__(self, program, path, limit, **env):
         words = [program, "serve", "--db", path, "--port", "0", "--limit", str(limit)]
@@ -109,7 +109,7 @@ class Served:
                 if ends:
                     peer.shutdown(socket.SHUT_WR)
             except OSError:
-                pass  # (what is refused early isn't read to its end)
+                pass  # (a request that is refused early isn't read to its end)
             return received(peer)
 
     def ask(self, method, path, body=None, fields=()):
@@ -123,7 +123,7 @@ class Served:
             client.close()
 
     def ended(self):
-        """The status, and what stood on standard error."""
+        """The status, and what was on standard error."""
         _, told = self.process.communicate(timeout=SECONDS)
         return self.process.returncode, told
 
@@ -232,6 +232,7 @@ RELEASE = [
     ("the cheapest", get(b"/documents/1/packages/SPDXRef-p/cheapest/binary"), b'{"rows":[[1,["mit"]]]}'),
     ("an opening", post(b"/commands", b'{"do":"open","release":"r1","form":"binary"}'), b'{"done":true}'),
     ("what is in the way", post(b"/commands", b'{"ask":"wanting","release":"r1"}'), b'{"rows":[{"at":[],"name":"EmptyRelease","refused":20}]}'),
+    ("whether it is ready", post(b"/commands", b'{"ask":"ready","release":"r1"}'), b'{"at":["open"],"name":"ReleaseState","refused":13}'),
     ("notices of an open release", get(b"/releases/r1/notices"), b'{"at":["open"],"name":"ReleaseState","refused":13}'),
     ("a table of no duties", get(b"/releases/r1/duties.csv"), NAMES, CSV),
     ("an attachment", post(b"/commands", b'{"do":"attach","release":"r1","document":1}'), b'{"done":true}'),
@@ -274,7 +275,7 @@ MOVED = [
 
 
 def padded(size):
-    """A request of so many bytes, all of them its head."""
+    """A request of this many bytes, all of them its head."""
     head, end = get(b"/duties/2/changes")[:-2] + b"A: ", b"\r\n\r\n"
     return head + b"b" * (size - len(head) - len(end)) + end
 
@@ -366,7 +367,7 @@ HEADS = [
     ("a length of 19 digits", of_length(b"0" * 18 + b"2"), BAD),
     ("chunks behind 64 fields", with_field(b"\r\n".join([b"Transfer-Encoding: chunked"] + [b"A: b"] * 63)), BAD),
 ]
-# What is refused by a status of its own.
+# What is refused with its own status.
 OTHERS = [
     ("chunks", with_field(b"Transfer-Encoding: chunked"), 501),
     ("chunks of an unknown duty", with_field(b"Transfer-Encoding: chunked", get(b"/duties/1/changes")), 501),
@@ -390,7 +391,7 @@ BODIES = [
     ("half a catalogue", post(b"/catalogue", b"forms = ["), b'{"at":[1],"name":"BadCatalogue","refused":1}'),
     ("a catalogue of 8 MiB", post(b"/catalogue", CATALOGUE + b" " * (LIMIT - len(CATALOGUE))), b'{"at":[8],"name":"BadCatalogue","refused":1}'),
 ]
-# Parts of requests, behind which the peer sends no more.
+# Parts of requests, after which the peer sends no more.
 PARTS = [
     ("a body that is shorter", post(b"/commands", b"{}")[:-1]),
     ("a body that is shorter, of no route", post(b"/nothing", b"body")[:-1]),
@@ -402,7 +403,7 @@ PARTS = [
 
 
 def routes(program, tally, room):
-    """Each route, and what is no request, on one desk. Whoever sends a whole request need not say that no more comes."""
+    """Each route, and what isn't a request, on one desk. A peer that sends a whole request need not say that no more comes."""
     path = os.path.join(room, "routes")
     named = get(b"/duties/9/changes")
     whole = RELEASE + TARGETS + HEADS + BODIES
@@ -526,7 +527,7 @@ def waiting(program, tally, room, name, peer, wanted):
         found = peer(desk)
         behind.join()
         waited = time.monotonic() - start
-        tally.same(f"{name}: what it is told", found, wanted)
+        tally.same(f"{name}: what it gets", found, wanted)
         tally.same(f"{name}: the next one", told, [response(UNKNOWN)])
         tally.note(f"{name}: the wait", None if 8 < waited < 20 else f"{waited:.1f} seconds")
         status, words = desk.ended()
@@ -571,13 +572,15 @@ LARGE_RELEASE = [
 
 
 def full(desk):
-    """What comes of large notices whose beginning isn't taken for eleven seconds: not the whole."""
+    """What arrives of large notices if nothing is read for fifteen seconds after their first byte has come: not all."""
     with socket.socket() as peer:
         peer.setsockopt(socket.SOL_SOCKET, socket.SO_RCVBUF, 65_536)
         peer.settimeout(SECONDS)
         peer.connect(("127.0.0.1", desk.port))
         peer.sendall(get(b"/releases/r1/notices"))
-        time.sleep(11)
+        # (the desk waits from its first write on, which a busy machine may delay)
+        peer.recv(1, socket.MSG_PEEK)
+        time.sleep(15)
         told = received(peer)
         whole = response(LARGE_NOTICES, PLAIN)
         return whole.startswith(told), len(told) < len(whole)
@@ -610,7 +613,7 @@ def slow_peers(program, tally, room):
 
 
 def gone(program, tally, room):
-    """Peers that sent a whole command, and are gone before it is looked at: the next one is served, and each command is done or not."""
+    """Peers that sent a whole command, and disappear before it is read: the next one is served, and each command is carried out or not."""
     count = 20
     desk = Served(program, os.path.join(room, "gone"), count + 3)
     try:
@@ -636,8 +639,8 @@ STORE = b'{"fault":"store"}'
 
 
 def disk(program, tally, room):
-    """Each sync of the disk is failed in turn: a file isn't opened, or a command is replied 500. Then so are all behind it, and the next run
-    finds the command done or not."""
+    """Each sync of the disk is made to fail in turn: a file isn't opened, or a command gets 500. Then so do all later ones, and the next run
+    finds the command carried out or not."""
     library, kept, path, met = (os.path.join(room, name) for name in ("disk.so", "kept", "disk", "met"))
     source = os.path.join(os.path.dirname(os.path.abspath(__file__)), "stops/disk.c")
     subprocess.run(["cc", "-shared", "-fPIC", "-O2", "-o", library, source, "-ldl"], check=True)
