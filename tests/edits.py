@@ -1,25 +1,25 @@
 #!/usr/bin/env python3
-"""Edits that turn a meaning, each of which the prover must refuse: those that the gate tries (`crates/NAME/must-fail`) and the others
+"""Edits that change a meaning, each of which the prover must refuse: those that the gate tries (`crates/NAME/must-fail`) and the others
 (`tests/edits/NAME`).
 
     tests/edits.py [CRATE ..]   tries the edits that no record has as refused yet, of these crates or of all, the lowest first, of as many crates
                                 at a time as RT_JOBS says
-    tests/edits.py --texts      sees that each edit still has its place: each text that it replaces is there just once
-    tests/edits.py --records    sees that each crate has a record of its edits, or is still owed one
+    tests/edits.py --texts      checks that each edit still has its place: each text that it replaces occurs exactly once
+    tests/edits.py --records    checks that each crate has a record of its edits, or is listed as owing one
 
-A record, `tests/edits/NAME/record`, has a sum over the crate's own files, one over those of the crates below it, and a line for each edit: its
-name, a sum over it, and what the prover said. It is written as the edits are tried, so a run that was stopped is taken up where it was. Where
-the crate's own files have another sum, its lines say nothing any more. Where only the crates below changed, the crate is listed: a contract
-there may have become weaker. Its edits are tried again if it is named.
+A record, `tests/edits/NAME/record`, has a sum over the crate's own files, one over those of the crates below it, and a line for each edit:
+its name, a sum over it, and what the prover said. The sums over files leave out comment lines. The record is written as the edits are
+tried, so a run that was stopped continues where it was. If the sum of the crate's own files has changed, its lines no longer count. If only
+the crates below changed, the crate is listed: a contract there may have become weaker. Its edits are tried again if it is named.
 
-`tests/edits/owed` lists the crates that no record has yet as tried whole. It only shrinks: a crate that isn't on it must have a record that is
-whole and of its files as they are, and one on it must not.
+`tests/edits/owed` lists the crates without a complete record. It only shrinks: a crate that isn't on it must have a complete record of its
+current files, and one on it must not.
 
-An edit counts as tried only where the prover refused a goal. One that the types or the borrow checker stopped, that a limit of the prover
-stopped, or that only took away a name which a proof cites, says nothing of a contract, and is told as such.
+An edit counts as tried only if the prover refused a goal. One that was stopped by the types, the borrow checker or a limit of the prover,
+or that only removed a name that a proof cites, says nothing about a contract, and is reported as such.
 
-Edits that each change the body of one function are first tried many in one check (`together.py` says why that comes to the same). What such a
-check doesn't settle is tried alone, by `rt must-fail`."""
+Edits that each change the body of one function are first tried many in one check (`together.py` says why the result is the same). What such
+a check doesn't settle is tried separately, by `rt must-fail`."""
 import hashlib
 import os
 import re
@@ -38,12 +38,12 @@ TOP = os.path.dirname(os.path.dirname(os.path.abspath(__file__)))
 EDITS = os.path.join(TOP, "tests/edits")
 OWED = os.path.join(EDITS, "owed")
 PARTS = ("src", "specs", "proofs")
-# So many edits are tried alone by a run of `rt must-fail`, which tells of them at its end.
+# A run of `rt must-fail`, which reports at its end, tries this many edits one by one.
 BATCH = 12
 SAID = 140
-# So many crates are tried at a time.
+# This many crates are tried at a time.
 JOBS = max(1, int(os.environ.get("RT_JOBS") or 1))
-# What `rt must-fail` takes for refused too, and says nothing of a contract.
+# What `rt must-fail` also counts as refused, although it says nothing about a contract.
 UNTRIED = {
     "refused, as it must be (only because a proof file names": "it only takes away a name that a proof cites",
     "refused, as it must be (only by a limit of the prover": "only a limit of the prover stopped it",
@@ -51,14 +51,14 @@ UNTRIED = {
 
 
 def crates():
-    """What each crate of the repository stands on there."""
+    """What each crate of the repository depends on there."""
     lines = [line.split("#")[0].partition(":") for line in open(os.path.join(TOP, "crates.txt"))]
     named = {name.split()[0]: words.split() for name, colon, words in lines if colon}
     return {name: [word for word in words if word in named] for name, words in named.items()}
 
 
 def below(stands, name):
-    """All crates that a crate stands on."""
+    """All crates that a crate depends on."""
     found, left = set(), [name]
     while left:
         for lower in stands[left.pop()]:
@@ -87,17 +87,23 @@ def files(name, parts=PARTS):
     return sorted(found)
 
 
+def uncommented(path):
+    """A file without its lines that are comments, which say nothing to the prover."""
+    mark = b"--" if path.endswith(".antt") else b"//"
+    with open(path, "rb") as it:
+        return b"".join(line for line in it if not line.lstrip().startswith(mark))
+
+
 def sum_of(paths):
     total = hashlib.sha256()
     for path in paths:
-        with open(path, "rb") as it:
-            text = it.read()
+        text = uncommented(path)
         total.update(f"{os.path.relpath(path, TOP)} {len(text)}\n".encode() + text)
     return total.hexdigest()[:16]
 
 
 def sums(stands, name):
-    """The sum over a crate's own files, and that over what it may know of the crates below."""
+    """The sum over a crate's own files, and that over what it may use of the crates below."""
     lower = sum_of([path for it in below(stands, name) for path in files(it, ("src", "specs"))])
     return sum_of(files(name)), lower
 
@@ -157,7 +163,7 @@ def owed():
 
 
 def pay(name, turn=threading.Lock()):
-    """Takes a crate off the list of those that are owed a record."""
+    """Removes a crate from the list of those without a complete record."""
     with turn:
         with open(OWED) as it:
             lines = it.readlines()
@@ -210,12 +216,12 @@ def see_records():
     lacking = {name: kept[name].lacks() for name in kept}
     whole = [name for name in kept if not lacking[name]]
     bad = [f"{name} {lacking[name]}: make edits CRATES={name}" for name in kept if name not in still and lacking[name]]
-    bad += [f"{name} has its record: take it off tests/edits/owed" for name in still if name in whole]
-    bad += [f"{name} has no edits: take it off tests/edits/owed" for name in still if name not in kept]
+    bad += [f"{name} has its record: remove it from tests/edits/owed" for name in still if name in whole]
+    bad += [f"{name} has no edits: remove it from tests/edits/owed" for name in still if name not in kept]
     print(f"The edits of {len(whole)} crates are recorded as refused, {sum(len(edits(name)) for name in whole)} edits; records of {len(set(still))} are owed.")
     lower = [name for name in whole if kept[name].lower != sums(stands, name)[1]]
     if lower:
-        print(f"What they stand on has changed since for: {' '.join(lower)}")
+        print(f"What they depend on has changed since for: {' '.join(lower)}")
     proved = [f"{name}/{edit}" for name in kept for edit, (_, words) in sorted(kept[name].told.items()) if words == "PROVED"]
     for line in [f"The crate is still proved with {edit}." for edit in proved] + bad:
         print(line)
@@ -223,7 +229,7 @@ def see_records():
 
 
 def judged(words):
-    """What `rt must-fail` tells of an edit, as a record has it."""
+    """What `rt must-fail` says about an edit, in the form of a record."""
     if words.startswith("NOT REFUSED"):
         return "PROVED"
     for start, why in UNTRIED.items():
@@ -242,7 +248,7 @@ def run(room, *words):
 
 
 def copied(stands, name, room):
-    """The crate in a copy of the repository, with those below it. `rt` finds what was proved of them here."""
+    """The crate in a copy of the repository, with those below it."""
     wanted = [*below(stands, name), name]
     shutil.copy(os.path.join(TOP, "HANDLES"), room)
     with open(os.path.join(TOP, "crates.txt")) as listed, open(os.path.join(room, "crates.txt"), "w") as out:
@@ -252,7 +258,25 @@ def copied(stands, name, room):
             at = os.path.join(TOP, "crates", it, part)
             if os.path.isdir(at):
                 shutil.copytree(at, os.path.join(room, "crates", it, part))
+        keep_proved(name, it, room)
     return os.path.join(room, "crates", name)
+
+
+def linked(source, target):
+    """A second name of a file, or a copy where it can't have one."""
+    try:
+        os.link(source, target)
+    except OSError:
+        shutil.copy2(source, target)
+
+
+def keep_proved(name, it, room):
+    """Lets a crate of the copy use what was proved of it here: the work of the one whose edits are tried, and the built libraries below."""
+    part = "out/incremental" if it == name else "out/rlib"
+    at, to = (os.path.join(top, "crates", it, part) for top in (TOP, room))
+    if os.path.isdir(at):
+        # (a built library is only read)
+        shutil.copytree(at, to, copy_function=shutil.copy2 if it == name else linked)
 
 
 def tried(room, name, batch):
@@ -299,7 +323,7 @@ def try_edits(stands, kept, left):
 
 
 def record(stands, name, is_named):
-    """Tries what the record of a crate lacks, and tells whether it is whole then."""
+    """Tries what the record of a crate lacks, and returns whether it is complete then."""
     kept, (own, lower) = Record.of(name), sums(stands, name)
     if kept.own != own or is_named and kept.lower != lower:
         kept = Record(name, own, lower)

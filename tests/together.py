@@ -1,13 +1,14 @@
-"""Which edits of a crate one check can try together, and what it says of each.
+"""Which edits of a crate one check can try together, and what it says about each.
 
-A function is proved from its own body and proof, the types that it names, and the contracts of what it calls; no other function's body is seen. So if
-each edit changes the body of one function, and none of these functions calls another, directly or through others, then each has the same goals as
-with its edit alone, and the prover does the same with them. Much of a check's time goes into reading the crate and its libraries; so it is spent once.
+A function is proved from its own body and proof, the types that it names, and the contracts of what it calls; no other function's body is
+seen. So if each edit changes the body of one function, and none of these functions calls another, directly or through others, then each
+function has the same goals as with its edit on its own, and the prover does the same with them. Much of a check's time goes into reading
+the crate and its libraries; this is then spent only once.
 
-An edit counts as refused here only if the prover says that its own function isn't proved, not because of one that it calls, and refuses a goal that
-is placed in the function's text or in the files of its proof: not at a limit, and not only because a name is gone. All others are tried alone: those
-that change anything but the body of one function, those that weren't refused, and those of which that can't be told. Calls are found by their words;
-if one is missed, the prover names it, and the edit of the caller is tried alone."""
+An edit counts as refused here only if the prover says that its own function isn't proved, not because of one that it calls, and refuses a
+goal that is located in the function's text or in the files of its proof: not at a limit, and not only because a name is missing. All others
+are tried separately: those that change anything but the body of one function, those that weren't refused, and those for which this can't be
+determined. Calls are found by their words; if one is missed, the prover names it, and the edit of the caller is tried separately."""
 import functools
 import os
 import re
@@ -18,13 +19,13 @@ from typing import NamedTuple
 # The most edits of one check.
 MOST = 16
 HEAD = re.compile(r"( *)(?:pub(?:\([a-z ]+\))? )?(const )?(?:unsafe )?fn (\w+)")
-# An impl whose functions are named after the type alone.
+# An impl with functions named only after the type.
 OWNER = re.compile(r"impl(?:<[^>]*>)? (\w+)(?:<'[^>]*>)? \{$")
 # How a plain function is called or passed on, and how a method is.
 CALL = re.compile(r"(?<![.\w])(\w+)(?:::<[^>]*>)?\(|::(\w+)|[(,=] *(\w+)(?=[,);])")
 METHOD_CALL = re.compile(r"\.(\w+)(?:::<[^>]*>)?\(|::(\w+)")
 TOLD = re.compile(r"(?:note: )?(?:\./)?((?:src|proofs)/\S+?):(\d+):\d+: ")
-# What says nothing of a contract: an edit took away a name that a proof cites, or what stands on such a proof; a limit of the prover.
+# What says nothing about a contract: an edit removed a name that a proof cites, or what depends on such a proof; a limit of the prover.
 GONE = r"(note: )?(\./)?proofs/.*(has no field|is not in scope|has no `|was not admitted)"
 IDLE = re.compile(GONE + r"|.*(antt ran out of|outgrew the memory limit|stopped at the step limit)")
 
@@ -45,7 +46,7 @@ class Function(NamedTuple):
         return [] if path in ("lib", "main") else path.split("/")
 
     def path(self):
-        """What to give to --only: the function, or else its module."""
+        """What to give to --only: the function, or otherwise its module."""
         named = self.owner is not None
         return "::".join(self.module() + ([*filter(None, [self.owner]), self.name] if named else []))
 
@@ -88,7 +89,7 @@ def functions(file, text):
 
 
 def changed_function(texts, were, every):
-    """The function whose body alone these texts change, if there is one."""
+    """The function whose body is all that these texts change, if there is one."""
     found = set()
     for file, text in texts.items():
         new, old = text.split("\n"), were(file).split("\n")
@@ -100,7 +101,7 @@ def changed_function(texts, were, every):
 
 
 def reached(every, new):
-    """What each function may call, by way of others too, as far as its words tell; `new` has what edits make of them."""
+    """What each function may call, directly or through others, as far as its words show; `new` has what edits make of them."""
     called = lambda pattern, text: {word for it in pattern.finditer(text) for word in it.groups() if word}
     calls = {}
     for it in every:
@@ -119,7 +120,7 @@ def reached(every, new):
 
 
 def batches(changed, reach):
-    """Groups of edits whose functions call none of another edit."""
+    """Groups of edits such that the function of an edit calls no function of another edit."""
     groups = []
     for edit in sorted(changed, key=lambda it: (-len(reach[changed[it]]), it)):
         one = changed[edit]
@@ -187,7 +188,7 @@ def merged(were, texts):
 
 
 def tried(room, crate, batch, changed, texts, were):
-    """By which line the prover refuses each of these edits, for those of which it can be told."""
+    """The line by which the prover refuses each of these edits, for those for which it can be determined."""
     if not batch:
         return {}
     whole = merged(were, [texts[it] for it in batch])
@@ -210,7 +211,7 @@ def tried(room, crate, batch, changed, texts, were):
 
 
 def tried_in_halves(room, crate, batch, *rest):
-    """The same, where something that can't be told apart stopped a check of all."""
+    """The same, if something that can't be attributed stopped a check of all."""
     if len(batch) < 2:
         return {}
     half = len(batch) // 2
@@ -218,8 +219,8 @@ def tried_in_halves(room, crate, batch, *rest):
 
 
 def together(room, crate, texts):
-    """Tries these edits of a crate in the folder `room`, which is proved: each with the files as it changes them. Gives for each batch its edits, each
-    with the line by which the prover refuses it, or None where it has to be tried alone."""
+    """Tries these edits of a crate in the folder `room`, which is proved: each with the files as it changes them. Yields for each batch its
+    edits, each with the line by which the prover refuses it, or None if it has to be tried separately."""
 
     @functools.cache
     def were(file):
