@@ -1,4 +1,4 @@
-/* A server that does no more than to accept, read, write and close, and a client for any server on loopback: cc -O2 accept.c
+/* A server that only accepts, reads, writes and closes, and a client for any server on loopback: cc -O2 accept.c
 
      accept serve N REPLY                               prints where it listens, and serves N connections one after the other: one read,
                                                         and the bytes of the file REPLY
@@ -73,7 +73,7 @@ static void serve(long count, const struct text *reply)
     }
 }
 
-/* One connection: its reply has to be the one that is wanted. */
+/* One connection: its reply must be the expected one. */
 static void ask(int port, const struct text *request, const struct text *reply)
 {
     static char told[BYTES];
@@ -102,7 +102,7 @@ static double now(void)
     return (double)time.tv_sec + (double)time.tv_nsec / 1e9;
 }
 
-/* The texts are requests and replies by turns. */
+/* The texts are requests and replies, alternately. */
 static double asked(int port, int clients, long count, const struct text *texts, int pairs)
 {
     double begun = now();

@@ -1,7 +1,7 @@
-"""Times `desk alternatives` at the limits of a listing beside bench/listing.py: python3 bench/alternatives.py PROGRAM
+"""Times `desk alternatives` at the limits of a listing, compared with bench/listing.py: python3 bench/alternatives.py PROGRAM
 
 Each time is the best of several runs of the whole process, its start included. The first row is a small expression, so it is mostly
-the start: the last two columns have it taken off. Both programs have to write the same lines.
+the start: the last two columns are without it. Both programs must write the same lines.
 """
 
 import os
@@ -25,7 +25,7 @@ def factors(first, count):
 
 
 def driven_out(count, name):
-    """So many sets, of which the last is a part of each union with a set of the other list."""
+    """This many sets, of which the last is a part of each union with a set of the other list."""
     mine, other = ("x", "y") if name == "a" else ("y", "x")
     return joined("OR", [f"{mine} AND {name}{k}" for k in range(count - 1)] + [f"{mine} AND {other}"])
 

@@ -1,9 +1,9 @@
-"""Times `desk audit` beside SQLite's own check of a file: python3 bench/audit.py PROGRAM
+"""Times `desk audit`, compared with SQLite's own check of a file: python3 bench/audit.py PROGRAM
 
-A file of 4,096 documents of 4 KiB and 100,000 duties, each of which was raised, waived up to a day, and opened again when that was past;
-and one with a tenth of all that. `PRAGMA integrity_check` by Python's library looks at the same files, which it compares in another way:
-pages and indexes, and not what rows say. Each time is the least of some runs, on a file in shared memory, and the peak of memory is that
-of the process. A process that asks for totals has the time that each other subcommand takes to open the file, which it audits too.
+A file of 4,096 documents of 4 KiB and 100,000 duties, each of which was raised, waived up to a day, and opened again after it; and one
+with a tenth of all that. `PRAGMA integrity_check` of Python's library checks the same files in another way: pages and indexes, and not
+what rows say. Each time is the least of several runs, on a file in shared memory, and the peak of memory is that of the process. The
+time of a process that asks for totals is what each other subcommand takes to open the file, which it audits too.
 """
 
 import os
@@ -62,7 +62,7 @@ def made(program, path, documents, duties):
     desk.end()
 
 
-# A process of its own, since the peak of a process is never below that of the one that starts it: some 10 MiB here.
+# A separate process, since the peak of a process is never below that of the one that starts it: some 10 MiB here.
 MEASURE = """import resource, subprocess, sys, time
 begun = time.perf_counter()
 done = subprocess.run(sys.argv[1:], stdout=subprocess.PIPE)
@@ -98,7 +98,7 @@ def counted(path):
 
 
 def timed(program, documents, duties):
-    """The least seconds and the peak in KiB of each way to look at a file, and what the file has."""
+    """The least seconds and the peak in KiB of each way to check a file, and what the file has."""
     found = {}
 
     def note(name, seconds, peak):

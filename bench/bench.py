@@ -1,9 +1,9 @@
-"""Times `desk check` at the limits of an expression beside bench/check.py: python3 bench/bench.py PROGRAM
+"""Times `desk check` at the limits of an expression, compared with bench/check.py: python3 bench/bench.py PROGRAM
 
 Each time is the best of several runs of the whole process, its start included. The first row is a
-small expression, so it is mostly the start: the last three columns have it taken off. The second of
+small expression, so it is mostly the start: the last three columns are without it. The second of
 the desk's columns is for the same expression with its operators in small letters, read by the profile
-that takes them. All have to give the same answer.
+that allows them. All must give the same answer.
 """
 
 import os

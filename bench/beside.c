@@ -107,7 +107,7 @@ static int by_bytes(const void *one, const void *other)
     return strcmp(*(char *const *)one, *(char *const *)other);
 }
 
-/* The ids of so many packages, in the order in which the desk has them. */
+/* The ids of this many packages, in the desk's order. */
 static char **packages(long count)
 {
     char **ids = malloc((count + 1) * sizeof *ids);

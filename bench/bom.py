@@ -1,5 +1,5 @@
 #!/usr/bin/env python3
-"""Makes documents in a folder and times what is asked of them, beside their reading.
+"""Makes documents in a folder and times the questions about them, compared with their reading.
 
 `python3 bench/bom.py PROGRAM FOLDER`: PROGRAM is what bench/programs/build.sh makes of bench/programs/bom. Each time
 is the least of nine."""

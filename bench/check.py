@@ -1,4 +1,4 @@
-"""An independent reading of licence expressions (SPDX 2.3, Annex D), for the bench alone.
+"""An independent reading of licence expressions (SPDX 2.3, Annex D), for the benchmarks only.
 
 Written by recursive descent over regular expressions, with sets and tuples: python3 bench/check.py EXPR TERM..
 """

@@ -1,8 +1,9 @@
 """Times documents in JSON: python3 bench/convert.py PROGRAM FOLDER
 
-Three documents: 9,900 packages; 10,000 files with 40,000 relationships; and one of which nearly all is left out. Of each the whole process of
-`desk convert`, with its peak in times of the document's bytes, beside Python's json on the same text; and `desk import` into a new file in
-shared memory, beside an import of the tag-value document that it converts to. Each time is the least of some runs, which take turns.
+Three documents: 9,900 packages; 10,000 files with 40,000 relationships; and one that is left out almost entirely. For each, the whole process
+of `desk convert`, with its peak as a multiple of the document's bytes, compared with Python's json on the same text; and `desk import` into a
+new file in shared memory, compared with an import of the tag-value document that it converts to. Each time is the least of several runs, which
+alternate.
 """
 
 import json

@@ -1,9 +1,9 @@
 #!/usr/bin/env python3
-"""Makes documents of 1, 2 and 4 MiB and longer-winded ones in a folder, and times their reading beside `sha1sum`.
+"""Makes documents of 1, 2 and 4 MiB and more costly ones in a folder, and times their reading, compared with `sha1sum`.
 
 `python3 bench/documents.py PROGRAM FOLDER`: PROGRAM is what bench/programs/build.sh makes of bench/programs/documents.
-The peak is that of the whole process behind one reading, the document itself included, as a multiple of the document's bytes; what the
-process takes with an empty document is left out."""
+The peak is that of the whole process after one reading, the document itself included, as a multiple of the document's bytes, less what the
+process takes with an empty document."""
 import itertools
 import os
 import string
@@ -33,7 +33,7 @@ def many():
 
 
 def short_packages():
-    """Packages of as few bytes as there may be, which take the most memory for their bytes."""
+    """Packages of the fewest bytes possible, which take the most memory for their bytes."""
     digits = string.ascii_letters + string.digits + "-."
     short = ["".join(word) for length in (1, 2, 3) for word in itertools.product(digits, repeat=length)]
     for name in short[:9999]:
@@ -44,7 +44,7 @@ LIMIT = 4 << 20
 
 
 def full(line):
-    """A document of 4 MiB, or a few bytes less, of one line over and over behind the head."""
+    """A document of 4 MiB, or a few bytes less: the head, then one line over and over."""
     return [line * ((LIMIT - len(HEAD)) // len(line))]
 
 

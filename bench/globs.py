@@ -18,7 +18,7 @@ def cases():
     yield "`**/*.c` on a path of 86 bytes", "**/*.c", deep
     yield "`src/**/test/*` on a path of 86 bytes", "src/**/test/*", deep
     yield "`*` on a name of 4,096 bytes", "*", "a" * PATH
-    yield "1,000 bytes that stand for themselves", "a" * PATTERN, "a" * PATTERN
+    yield "1,000 bytes that match themselves", "a" * PATTERN, "a" * PATTERN
     yield "`*a` 500 times on a name", "*a" * (PATTERN // 2), "a" * PATH
     yield "`*a` 499 times and `*b` on a name", "*a" * (PATTERN // 2 - 1) + "*b", "a" * PATH
     yield "`*` before 999 bytes on a name", "*" + tail(PATTERN - 1), "a" * PATH

@@ -1,8 +1,8 @@
-"""Times an import beside the reading of its own document: python3 bench/import.py PROGRAM READER FOLDER
+"""Times an import, compared with the reading of its document: python3 bench/import.py PROGRAM READER FOLDER
 
-PROGRAM is the desk and READER what bench/programs/build.sh makes of bench/programs/documents. The two run in turn, 25 times each. The
+PROGRAM is the desk and READER what bench/programs/build.sh makes of bench/programs/documents. The two alternate, 25 times each. The
 import's time is that of the whole process of `desk script`, its start included; the reading's is the least of the three that one run of
-READER tells, which reads the document once before.
+READER prints, after it has read the document once.
 """
 
 import os

@@ -1,6 +1,6 @@
-"""A plain listing of minimal sets, for the bench alone: python3 bench/listing.py EXPR
+"""A plain listing of minimal sets, for the benchmarks only: python3 bench/listing.py EXPR
 
-Sets of terms are frozen sets in a list. Each union is compared with every set that is kept.
+Sets of terms are frozen sets in a list. Each union is compared with every set kept so far.
 """
 
 import sys

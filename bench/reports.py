@@ -1,10 +1,10 @@
-"""Times the texts that a desk hands out: python3 bench/reports.py PROGRAM
+"""Times the texts that a desk writes: python3 bench/reports.py PROGRAM
 
 The notices of a release of 10,000 packages in 64 documents, whose catalogue has 4 MiB of licence texts, and which has extracted texts too;
-and those of a release with a tenth of all that. Then the table of 100,000 duties, beside Python's csv writer on the same rows. Each is
-had from a process of its own over a file in shared memory; that less the time of a process that asks the same file for hardly anything,
-which is what opening takes; and over HTTP from a desk that is open already. Of the same duties the lists of duties, of releases and of documents, and
-the page of the release, each from a process of its own. Each time is that on a processor, the least of some runs.
+and those of a release with a tenth of all that. Then the table of 100,000 duties, compared with Python's csv writer on the same rows. Each is
+timed in a separate process over a file in shared memory; that less the time of a process that asks the same file for hardly anything,
+which is what opening takes; and over HTTP from a desk that is already open. Of the same duties also the lists of duties, of releases and
+of documents, and the page of the release, each in a separate process. Each time is processor time, the least of several runs.
 """
 
 import csv
@@ -32,12 +32,12 @@ LICENCES = 399
 TEXT_BYTES = 10_300
 EXTRACTED_BYTES = 4_000
 DUTIES = 100_000
-# Every so many packages the conclusion is a reference of the document.
+# At this interval the conclusion of a package is a reference of the document.
 REFERRING = 10
 
 
 def body(name, size):
-    """A text of about so many bytes, in lines."""
+    """A text of about this many bytes, in lines."""
     line = f"{name} is granted to whoever ships this text with each copy of the work.\n"
     return line * (size // len(line))
 
@@ -152,7 +152,7 @@ def by_csv(table):
 
 
 def least(text, *measures):
-    """The least seconds of each measure, and each has to give this text, unless it is none."""
+    """The least seconds of each measure, each of which must give this text, unless that is None."""
     found = [[] for _ in measures]
     for _ in range(RUNS):
         for seconds, (measure, is_whole) in zip(found, measures):
@@ -168,7 +168,7 @@ def row(name, size, seconds):
 
 
 def measured(program, path, word, text, route, *others):
-    """Prints how fast a text is had, and gives the seconds over HTTP, and the least of each of the others, measured in turn with it."""
+    """Prints how fast a text is written, and returns the seconds over HTTP and the least of each of the others, measured alternately."""
     server = serving.desk(program, path + ".open", RUNS)
     whole, opening, over_http, *rest = least(
         text,
@@ -186,7 +186,7 @@ def measured(program, path, word, text, route, *others):
 
 
 def copied(path):
-    """Has a copy of the file beside it: one program at a time uses a file."""
+    """Makes a copy of the file, since only one program at a time can use a file."""
     with open(path, "rb") as kept, open(path + ".open", "wb") as other:
         other.write(kept.read())
 

@@ -96,7 +96,7 @@ def duties(count):
 
 
 def choices(count):
-    """One release with this many choices, some of which are dropped and made again, in no order."""
+    """One release with this many choices, some of which are dropped and made again, in random order."""
     documents = range(1, count // PACKAGES_OF_A_DOCUMENT + 1)
     each = [(number, package) for number in documents for package in range(PACKAGES_OF_A_DOCUMENT)]
     some = random.Random(count).sample(each, DROPPED)
@@ -112,7 +112,7 @@ def choices(count):
 
 
 def sent(process, name, requests):
-    """The seconds until the last reply to requests that are sent together: none may be refused, or each by the choice that is held."""
+    """The seconds until the last reply to requests that are sent together: none may be refused, or each because of a held choice."""
     wanted = b'"name":"Chosen"' if name == UNDER_A_CHOICE else b""
     text = "".join(requests).encode()
 

@@ -1,12 +1,12 @@
 """Times a desk over HTTP: python3 bench/serving.py PROGRAM
 
-- Questions for totals, each on a connection of its own, beside a loop in C that accepts, reads, writes the same bytes and closes
+- Questions for totals, each on a separate connection, compared with a loop in C that accepts, reads, writes the same bytes and closes
   (bench/accept.c). The client is the same for both, and asks alone or four at a time. It needs a C compiler.
-- An import of about 4 MiB beside the same import by `desk script --db`, each into a new file: from the first byte sent to the reply.
-- A request that comes in pieces of a byte, the next one sent when the desk waits for it: the desk's time on a processor.
-- What the process holds after 10,000 connections and after 100,000.
+- An import of about 4 MiB, compared with the same import by `desk script --db`, each into a new file: from the first byte sent to the reply.
+- A request that comes in pieces of a byte, the next one sent when the desk waits for it: the desk's processor time.
+- The memory of the process after 10,000 connections and after 100,000.
 
-The files are in shared memory. Each time is the least of some runs, which take turns with those beside them.
+The files are in shared memory. Each time is the least of several runs, which alternate with those they are compared with.
 """
 
 import os
@@ -162,7 +162,7 @@ def on_processor(process):
 
 
 def padded(size, fields):
-    """A request of so many bytes, all of them its head, whose fields are filled up."""
+    """A request of this many bytes, all of them in the fields of its head."""
     head, end = b"GET /duties/1/changes HTTP/1.1\r\n", b"\r\n"
     left = size - len(head) - len(end)
     lengths = [left // fields + (place < left % fields) for place in range(fields)]
@@ -170,7 +170,7 @@ def padded(size, fields):
 
 
 def crumbs(server, request):
-    """The desk's seconds on a processor for a request that comes byte by byte."""
+    """The desk's processor seconds for a request that comes byte by byte."""
     with socket.create_connection(("127.0.0.1", server.port)) as peer:
         peer.setsockopt(socket.IPPROTO_TCP, socket.TCP_NODELAY, 1)
         time.sleep(0.05)
@@ -218,7 +218,7 @@ def leaks(program, accept, room):
     ]
     texts = [written(room, f"{name}-{place}", text) for place, pair in enumerate(pairs) for name, text in zip(("request", "reply"), pair)]
     server = desk(program, path, MORE + 1)
-    print("connections one after the other, by turns with an answer, a refusal, what is no command and what is no request")
+    print("connections one after the other, in turn with an answer, a refusal, a line that is no command and bytes that are no request")
     for count, more in ((FEWER, FEWER), (MORE, MORE - FEWER)):
         asked(accept, server.port, 1, more, texts)
         memory, descriptors = held(server.process)

@@ -1,4 +1,4 @@
-"""Times a desk in a file beside SQLite's own library: python3 bench/store.py PROGRAM ALONE
+"""Times a desk in a file, compared with SQLite's own library: python3 bench/store.py PROGRAM ALONE
 
 The library writes and reads the same rows (bench/beside.c), by the same tables, with a log as the journal and each commit flushed; so does
 ALONE (bench/programs/sqlite), by the toolchain's sqlite with no desk, which is the least that a desk can take. Each time is the least of three runs, on a file in shared memory and on a file on the disk. Commands on the disk are timed in pairs too, a desk's
@@ -27,12 +27,12 @@ COMMANDS = 1_000
 QUESTIONS = 10_000
 # How many references of one document are adopted
 ADOPTIONS = (1_000, 10_000)
-# How many releases there are beside a conclusion
+# How many releases there are at a conclusion
 RELEASES = (409, 4_096)
 
 
 class Desk:
-    """The program over a file, sent requests in turn. Its replies go into a file, since a reader that each of them wakes costs it time."""
+    """The program over a file, sent requests in turn. Its replies go into a file, since a reader that each reply wakes costs it time."""
 
     def __init__(self, program, path):
         self.replies = open(path + ".replies", "w+b")
@@ -40,11 +40,11 @@ class Desk:
         self.read = 0
 
     def come(self):
-        """The replies that came since the last ones, and what came of the next."""
+        """The replies that came since the last ones, and the begun part of the next."""
         return os.pread(self.replies.fileno(), 1 << 26, self.read)
 
     def step(self, name, requests):
-        """The seconds until the last reply to requests that are sent together: none may be refused, or each by the choice that is held."""
+        """The seconds until the last reply to requests that are sent together: none may be refused, or each because of a held choice."""
         wanted = b'"name":"Chosen"' if name == rows.UNDER_A_CHOICE else b""
         sender = threading.Thread(target=self.send, args=("".join(requests).encode(),))
         begun = time.perf_counter()
@@ -75,7 +75,7 @@ class Desk:
 
 
 def prepared(program, path, duties):
-    """A file whose desk has a release that is ready to be frozen with so many duties."""
+    """A file whose desk has a release that is ready to be frozen with this many duties."""
     desk = Desk(program, path)
     for name, requests in rows.duties(duties):
         if name == "freeze":
@@ -127,7 +127,7 @@ def adopted(program, beside, alone, room, count):
 
 
 def concluded(program, room, count):
-    """The least seconds of a conclusion beside so many releases: where none holds a choice for its package, and where one does."""
+    """The least seconds of a conclusion with this many releases: if none holds a choice for its package, and if one does."""
     found = []
     for turn in range(RUNS):
         desk = Desk(program, os.path.join(room, f"desk{turn}.db"))
@@ -183,13 +183,13 @@ def timed(program, beside, alone, room, duties):
 
 
 def compared(desk, other, alone):
-    """What the three take, the times of the library behind it."""
+    """What the three take, each as a multiple of the library."""
     words = f"{1000 * desk:10.1f} ms, library {1000 * other:10.1f} ms, times {desk / other:.2f}"
     return words if alone is None else f"{words}; the toolchain's sqlite alone {1000 * alone:10.1f} ms, times {alone / other:.2f}"
 
 
 def flush(path, times):
-    """The seconds of so many flushes behind a write of four pages, on a file that doesn't grow."""
+    """The seconds of this many flushes, each after a write of four pages, on a file that doesn't grow."""
     pages = b"x" * 4 * 4096
     with open(path, "wb") as file:
         file.write(b"\0" * len(pages) * 100)

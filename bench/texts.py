@@ -1,7 +1,7 @@
-"""Times texts by themselves, without the desk that they are of: python3 bench/texts.py PROGRAM FOLDER
+"""Times texts alone, without the desk that they are from: python3 bench/texts.py PROGRAM FOLDER
 
-PROGRAM is what bench/programs/build.sh makes of bench/programs/texts. The table of duties is written beside Python's csv writer on the same
-rows, in one run, and both have to write the same bytes. Each time is the least of some turns.
+PROGRAM is what bench/programs/build.sh makes of bench/programs/texts. The table of duties is compared with Python's csv writer on the same
+rows, in one run, and both must write the same bytes. Each time is the least of several runs.
 """
 
 import csv

@@ -1,7 +1,7 @@
-"""Times `desk gather` and `desk lint` on trees that it makes, beside `sha1sum` of all their files: python3 bench/trees.py PROGRAM
+"""Times `desk gather` and `desk lint` on trees that it makes, compared with `sha1sum` of all their files: python3 bench/trees.py PROGRAM
 
 Both read each file whole, with the files in the system's cache. Each time is the least of five runs of the whole process. The peak is
-that of the process, beside the bytes of the tree. Where `reuse` is installed, `reuse lint` is timed once.
+that of the process, as a multiple of the bytes of the tree. If `reuse` is installed, `reuse lint` is timed once.
 """
 
 import os
@@ -55,7 +55,7 @@ def nested(root):
 
 
 def annotated_by_many(root):
-    """1,000 files under 1,000 annotations of one REUSE.toml, each of a path of its own."""
+    """1,000 files under 1,000 annotations of one REUSE.toml, each for another path."""
     sources(root, 999, 200, "")
     write(root, "REUSE.toml", "version = 1\n" + "".join(ANNOTATION[12:].replace("**", f"src/{n // 100}/file{n}.c") for n in range(1_000)))
 

@@ -1,9 +1,9 @@
-"""Has a browser try to reach a served desk from pages of elsewhere: python3 tests/browser.py PROGRAM
+"""Has a browser try to reach a served desk from pages from elsewhere: python3 tests/browser.py PROGRAM
 
 Headless Chromium (Debian's package `chromium`) opens a page at 127.0.0.2 that tries to withdraw a release and to read it: by `fetch` with
-and without `no-cors`, with a `Content-Type` that asks for leave first, by a form that is sent as text, an image, a script, a style, an
-iframe and a beacon. Then it opens the desk by a name that is bound to its address. Each time the desk is as before, and nothing of it is
-in a page. A page of the desk's own address can do both. Without Chromium it says so and does nothing.
+and without `no-cors`, with a `Content-Type` that needs a preflight request, by a form that is sent as text, an image, a script, a style, an
+iframe and a beacon. Then it opens the desk by a name that is bound to its address. Each time the desk must be unchanged, and nothing of it
+may be in a page. A page from the desk's own address can do both. Without Chromium it says so and does nothing.
 
 Ends with the line 'N passed, M failed'."""
 
@@ -72,7 +72,7 @@ class Page(http.server.BaseHTTPRequestHandler):
 
 
 class Browser:
-    """Chromium, told what to do over a pipe (the DevTools protocol)."""
+    """Chromium, controlled over a pipe (the DevTools protocol)."""
 
     def __init__(self, room, *words):
         to_browser, self.asks = os.pipe()
@@ -139,7 +139,7 @@ def attempt(what, port):
 
 
 def tables(path):
-    """The rows of a desk's tables, read beside it."""
+    """The rows of a desk's tables, read directly from its file."""
     with tempfile.TemporaryDirectory() as room:
         for name in (path, path + "-wal"):
             if os.path.exists(name):
@@ -175,7 +175,7 @@ def bound(browser, desk, tally):
 
 
 def own(browser, desk, path, tally):
-    """What a page of the desk's own address can do: all."""
+    """What a page of the desk's own address can do: everything."""
     before = tables(path)
     for name in ("127.0.0.1", "localhost"):
         browser.open(f"http://{name}:{desk.port}/releases/r1")

@@ -1,8 +1,8 @@
 """Changes a tree while `desk gather` and `desk lint` read it: python3 tests/changing.py PROGRAM [SECONDS]
 
-Each run must end within a minute with status 0 or 1 and well-formed output, a document that `desk import` accepts or a report, or with
-status 3 and one line that names a path of the tree. In the tree itself nothing may be written. Some things are put in a file's place for
-good: a pipe, which nobody writes, must not be waited for, and a file that grows for ever must be read to an end.
+Each run must end within a minute: with status 0 or 1 and well-formed output (a document that `desk import` accepts, or a report), or with
+status 3 and one line that names a path of the tree. Nothing may be written to the tree itself. Some things replace a file permanently: a
+pipe that nobody writes to must not be waited for, and a file that never stops growing must be read to an end.
 """
 
 import json
@@ -55,7 +55,7 @@ def to_link(path):
 
 
 def to_nothing(path):
-    """Whatever stands there is taken away."""
+    """Deletes whatever is there."""
     if os.path.isdir(path) and not os.path.islink(path):
         for name in os.listdir(path):
             os.remove(os.path.join(path, name))
@@ -65,7 +65,7 @@ def to_nothing(path):
 
 
 class Beside(threading.Thread):
-    """Does something beside the runs, until it is told to stop."""
+    """Does something during the runs, until it is stopped."""
 
     def __init__(self):
         super().__init__(daemon=True)
@@ -95,12 +95,12 @@ class Writer(Beside):
             else:
                 to_nothing(path)
                 write(path, TAGS + LINE * random.randrange(200))
-            # Some runs are to meet many changes, and some none that stops them.
+            # Some runs should meet many changes, and some none that stops them.
             self.stop.wait(random.choice([0, 0, 0, 0.2]))
 
 
 class Grower(Beside):
-    """Adds to one file as fast as it can, and begins anew where it has grown large."""
+    """Adds to one file as fast as it can, and starts again when it is large."""
 
     def __init__(self, path):
         super().__init__()
@@ -130,7 +130,7 @@ def judge(program, root, scratch, command, done):
         if out or err.count("\n") != 1 or root not in err or not err.startswith("error: cannot read "):
             return f"status 3 with {out[:200]!r} and {err[:400]!r}"
         return None
-    # (gather says a fault there too, and else what the document lacks)
+    # (gather reports a fault there too, otherwise what the document lacks)
     told = {("gather", 0): "(files without a licence: [0-9]+, without a notice: [0-9]+; the document says NOASSERTION of them\n)?",
             ("gather", 1): re.escape(out)}
     if done.returncode not in (0, 1) or not re.fullmatch(told.get((command, done.returncode), ""), err):
@@ -158,12 +158,12 @@ def commands(program, root):
 
 
 def are_all(ended):
-    """Whether each command answered, and told of a change."""
+    """Whether each command gave an answer, and reported a change."""
     return all((name, 3) in ended and ((name, 0) in ended or (name, 1) in ended) for name in ("gather", "lint"))
 
 
 def change_all(program, root, scratch, seconds):
-    """Runs both commands while files change, and counts how they ended: each has to answer once at least, and to meet a change once."""
+    """Runs both commands while files change, and counts how they ended: each must answer at least once, and meet a change once."""
     for folder in range(4):
         for n in range(FILES):
             write(os.path.join(root, f"src/{folder}/file{n}.c"), TAGS + LINE * 100)
@@ -198,7 +198,7 @@ def grow_one(program, root, scratch):
 
 
 def open_pipe(path):
-    """Opens a pipe for a moment, so that who waits for a writer goes on."""
+    """Opens a pipe for a moment, so that anyone who waits for a writer continues."""
     os.close(os.open(path, os.O_RDWR | os.O_NONBLOCK))
 
 
@@ -207,7 +207,7 @@ def names_below(root):
 
 
 def put_a_pipe(program, root, scratch):
-    """Puts a pipe in the last file's place while it runs, so that some runs find the one where they listed the other."""
+    """Puts a pipe in the last file's place during the runs, so that some runs find a pipe where they listed a file."""
     path, pipe = os.path.join(root, "turn"), os.path.join(scratch, "pipe")
     for n in range(300):
         write(os.path.join(root, f"src/file{n}.c"), TAGS)
@@ -218,7 +218,7 @@ def put_a_pipe(program, root, scratch):
             os.mkfifo(pipe)
             timer = threading.Timer(0.001 * turn, os.rename, (pipe, path))
             timer.start()
-            # A pipe that comes in the moment before the file is opened would be waited for.
+            # The program would wait for a pipe that appears just before it opens the file.
             waker = threading.Timer(LIMIT / 2, open_pipe, (path,))
             waker.start()
             done = run(command)

@@ -1,9 +1,9 @@
-"""Runs the acceptance cases of `script` on a desk that a file keeps: python3 tests/database.py PROGRAM
+"""Runs the acceptance cases of `script` on a desk in a file: python3 tests/database.py PROGRAM
 
-The requests of each case go to `script --db FILE`, once in one run, and once cut into three runs on one file, one after the other. Both
-ways the replies have to be those of the case, and each run's status the one that its replies ask for. The cases are the dialogues of the
-acceptance cases, of tests/dialogues and of the pages of docs/, and the folders whose words are `script` alone. Ends with the line
-'N passed, M failed'.
+The requests of each case go to `script --db FILE`, once in one run, and once divided into three runs on one file, one after the other. Both
+times the replies must be those of the case, and the status of each run must follow from its replies. The cases are the dialogues of the
+acceptance cases, of tests/dialogues and of the pages of docs/, and the folders whose only word is `script`. Ends with the line 'N passed, M
+failed'.
 """
 
 import glob
@@ -23,7 +23,7 @@ import dialogue
 
 RUNS = 3
 SECONDS = 120
-# A file system in memory, where there is one: each change of a desk is synced.
+# A file system in memory, if there is one: each change of a desk is synced.
 ROOM = "/dev/shm" if os.path.isdir("/dev/shm") else None
 
 
@@ -57,7 +57,7 @@ def is_blank(line):
 
 
 def status_of(replies):
-    """The status of a script with these replies: 3 after a fault, else 1 after a refusal or what is no request."""
+    """The status of a script with these replies: 3 after a fault, otherwise 1 after a refusal or a line that isn't a request."""
     told = [json.loads(reply) for reply in replies]
     if any(reply.get("fault") in ("memory", "store") for reply in told):
         return 3
@@ -85,7 +85,7 @@ def run(program, database, requests):
 
 
 def wrong(told, replies, status):
-    """What is wrong with what a run told, if anything."""
+    """What is wrong with the output of a run, if anything."""
     stdout, returned, stderr = told
     if returned != status:
         return f"status {returned}, and not {status}: {stderr[:200]!r}"

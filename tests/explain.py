@@ -1,7 +1,7 @@
 """Compares what `desk explain` prints with the tables of the pages: python3 tests/explain.py PROGRAM
 
-Each row of a table is told in its words, those of one name in the order of the pages; and each name that the program's tables have is one
-of a page.
+Each row of a table must be printed in its words, the rows of one name in the order of the pages; and each name in the program's tables must
+be on a page.
 """
 
 import glob
@@ -36,7 +36,7 @@ def rows(text, head):
 
 
 def block(name, kind, lines, page):
-    """What is told of a row: the name and its kind, and a line for each cell that isn't empty."""
+    """What is printed for a row: the name and its kind, and a line for each cell that isn't empty."""
     told = [(label, words) for label, words in lines if words] + [("Page", page)]
     return name, f"{name}: {kind}\n" + "".join(f"  {label}: {words}\n" for label, words in told)
 
@@ -80,7 +80,7 @@ def problems():
 
 
 def wanted():
-    """What is to be told of each name, in the order of the pages."""
+    """What has to be printed for each name, in the order of the pages."""
     plain = "| Number | Name | What is wrong |"
     told = {}
     for name, text in (

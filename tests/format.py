@@ -1,6 +1,6 @@
 #!/usr/bin/env python3
-"""Sees that the sources of all crates are laid out as `rt fmt` lays them out, and that few of their lines have more than 100 columns:
-imports, names of goals, and texts."""
+"""Checks that the sources of all crates are laid out as by `rt fmt`, and that few of their lines have more than 100 columns: imports, names of
+goals, and texts."""
 import os
 import shutil
 import subprocess

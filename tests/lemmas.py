@@ -1,7 +1,7 @@
 #!/usr/bin/env python3
-"""Looks for lemmas that stand twice: python3 tests/lemmas.py
+"""Looks for lemmas that are stated twice: python3 tests/lemmas.py
 
-Two lemmas are the same if their statements are, but for the names of what they bind and for what is in braces. One of them would do if
+Two lemmas are the same if their statements are, apart from the names of what they bind and from what is in braces. One of them is enough if
 both are in one crate, or if the crate of one names that of the other in `crates.txt`; then both are printed, and the status is 1. Lemmas
 inside modules with parameters and inside `where` aren't compared."""
 
@@ -16,7 +16,7 @@ HEAD = re.compile(r"(?:pub )?([^\s:(){}]+) : (.*)$")
 USE = re.compile(r"^(?:pub )?use ([\w.]+)\.\{([^}]*)\}$", re.M)
 DEFINED = re.compile(r"^(?:(?:pub|abbrev|unfoldable|opaque|record|data) )*([^\s:(){}]+) (?::|\()", re.M)
 KEYWORDS = {"use", "mod", "module", "record", "data", "abbrev", "pub"}
-# A statement of fewer tokens says too little to be looked for.
+# A statement of fewer tokens is too general to be compared.
 SHORTEST = 8
 
 
@@ -35,7 +35,7 @@ def is_name(token):
 
 
 def closing(tokens, at):
-    """The place behind the bracket that closes the one at a place."""
+    """The place after the bracket that closes the one at a place."""
     opens, closes = tokens[at], {"(": ")", "{": "}"}[tokens[at]]
     depth = 0
     for place in range(at, len(tokens)):
@@ -46,7 +46,7 @@ def closing(tokens, at):
 
 
 def binder(tokens, at):
-    """The names that a bracket at a place binds, and the place of the colon behind them."""
+    """The names that a bracket at a place binds, and the place of the colon after them."""
     place = at + 1
     while place < len(tokens) and is_name(tokens[place]):
         place += 1
@@ -55,7 +55,7 @@ def binder(tokens, at):
 
 
 def behind(tokens, end):
-    """The place behind a binder and the arrow that may follow it."""
+    """The place after a binder and the arrow that may follow it."""
     return end + (end < len(tokens) and tokens[end] == "→")
 
 
@@ -104,7 +104,7 @@ def lemmas(text):
 
 
 def homes(module, text):
-    """The modules of our own in which the names stand that a file may use."""
+    """Our modules that define the names that a file may use."""
     stand = {}
     for source, names in USE.findall(text):
         if source.startswith("Rattle.desk_"):
@@ -139,7 +139,7 @@ def main():
                 if crate == other or crate in stands[other] or other in stands[crate]:
                     print(f"{place}: `{name}` says what `{known}` says in {there}")
                     twice += 1
-    print(f"Lemmas that stand twice: {twice}.")
+    print(f"Lemmas that are stated twice: {twice}.")
     return 1 if twice else 0
 
 

@@ -1,11 +1,11 @@
 #!/bin/sh
-# Has a built program tell what is wrong in a checkout of this tree by the desk's rules: nothing is. Then its document is written and
-# imported, and has no findings.
+# Checks with a built program that nothing is wrong in a checkout of this tree by the desk's rules. Then its document is written and
+# imported, and must have no findings.
 #
 #   tests/lint.sh PROGRAM
 #
-# The files are those that git knows, in a folder of their own, so that what was built or kept doesn't count. Where there is no git,
-# as in an unpacked archive, the tree is taken as it is, without what is built.
+# The files are those that git tracks, copied to another folder, so that built and ignored files don't count. If there is no git,
+# as in an unpacked archive, the tree is used as it is, without built files.
 set -eu
 
 here=$(unset CDPATH; cd -- "$(dirname -- "$0")/.." && pwd)
@@ -26,7 +26,11 @@ else
 fi
 mkdir "$scratch/tree"
 tar -c --null -T "$scratch/names" -f - | tar -x -C "$scratch/tree" -f -
-"$program" lint "$scratch/tree"
+# As a hook of pre-commit runs it.
+hook=$(sed -n 's/^  entry: //p' .pre-commit-hooks.yaml)
+mkdir "$scratch/bin"
+ln -s "$program" "$scratch/bin/desk"
+(cd "$scratch/tree" && PATH="$scratch/bin:$PATH" sh -c "${hook:?no entry of the hook}")
 "$program" gather "$scratch/tree" --name desk --namespace https://example.org/desk --created 2026-01-01T00:00:00Z >"$scratch/document"
 "$program" import --db "$scratch/office.db" "$scratch/document" >"$scratch/replies"
 printf '{"ask":"findings","document":1}\n' | "$program" script --db "$scratch/office.db" >>"$scratch/replies"

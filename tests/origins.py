@@ -1,10 +1,10 @@
-"""Asks a desk that `desk serve` keeps in a file as browsers do, for pages of its own and of elsewhere:
-python3 tests/origins.py PROGRAM
+"""Sends a desk that `desk serve` keeps in a file the requests that browsers send, for its own pages and for pages from elsewhere: python3
+tests/origins.py PROGRAM
 
-- Requests with `Origin`, `Sec-Fetch-` and `Host` fields: each that a browser sends for a page of elsewhere is replied 403 and changes
-  nothing, whatever it asks for; each of a page of the desk's own address, and each that no browser sent, is answered as ever.
-- The place of that test among those of a head: behind 400 for what is no head, before 501, 400 and 413 for its fields.
-- The dialogues that tests/database.py runs over files, with the fields that a browser sends for a page of the desk's own.
+- Requests with `Origin`, `Sec-Fetch-` and `Host` fields: each one that a browser sends for a page from elsewhere gets 403 and changes
+  nothing, whatever it asks for; each one for a page from the desk's own address, and each one that no browser sent, is answered as usual.
+- The order of the tests of a head: this one comes after 400 for what isn't a head, and before 501, 400 and 413 for its fields.
+- The dialogues that tests/database.py runs over files, with the fields that a browser sends for a page from the desk's own address.
 
 Ends with the line 'N passed, M failed'."""
 
@@ -35,7 +35,7 @@ CROSS = b"Sec-Fetch-Site: cross-site"
 
 
 def foreign(port):
-    """The fields of requests of elsewhere, `Host` among them."""
+    """The fields of requests from elsewhere, including `Host`."""
     own, host = b"http://127.0.0.1:%d" % port, b"Host: 127.0.0.1:%d" % port
     other = port + 1 if port < 65_535 else port - 1
     origins = [
@@ -89,7 +89,7 @@ def foreign(port):
 
 
 def own(port):
-    """The fields of requests that are none of elsewhere."""
+    """The fields of requests that aren't from elsewhere."""
     fields = [[b"Host: %s:%d" % (name, port), b"Origin: http://%s:%d" % (name, port)] for name in (b"127.0.0.1", b"localhost", b"[::1]", b"LocalHost")]
     host = b"Host: 127.0.0.1:%d" % port
     return fields + [
@@ -114,7 +114,7 @@ def with_fields(request, fields):
 
 
 def heads(port):
-    """Heads of elsewhere that have something else wrong, and what is replied."""
+    """Heads from elsewhere that have something else wrong, and what is replied."""
     null = [b"Host: localhost", b"Origin: null"]
     post = serving.post(b"/commands", WITHDRAW)
     return [
@@ -133,7 +133,7 @@ def heads(port):
 
 
 def state(desk):
-    """What the desk tells of its one release."""
+    """What the desk says about its one release."""
     return [desk.ask("GET", path) for path in ("/releases/r1", "/releases/r1/totals", "/duties/1/changes")]
 
 
@@ -168,7 +168,7 @@ def origins(program, tally, room):
 
 
 def browser_fields(port):
-    """What Chromium sends for a page of the desk's own."""
+    """What Chromium sends for a page of the desk's own address."""
     return {
         "Origin": f"http://127.0.0.1:{port}",
         "Referer": f"http://127.0.0.1:{port}/",

@@ -1,7 +1,7 @@
-"""What the pages name is there: paths, crates, calls, definitions, clauses, targets of make, and command lines of the desk.
+"""Checks that what the pages name exists: paths, crates, calls, definitions, clauses, targets of make, and command lines of the desk.
 
-tests/pages.py asks for `failures`. Blocks between fences count only as command lines; a word in backquotes that is none of these has to
-be a word of the sources, of the tests or of the Makefile, so that no page keeps a name that was given up.
+tests/pages.py calls `failures`. Fenced blocks count only as command lines; any other word in backquotes must be a word of the sources, of
+the tests or of the Makefile, so that no page keeps a name that was dropped.
 """
 
 import glob
@@ -14,8 +14,8 @@ TOP = ("bench", "build", "crates", "docs", "examples", "manual", "packaging", "t
 SOURCES = ("crates/*/src", "crates/*/specs", "crates/*/proofs", "tests", "bench")
 ENDS = (".rt", ".antt", ".py", ".sh", ".c", ".dialogue")
 DECLARED = r"\b(?:fn|struct|enum|trait|type|mod|const)\s+(\w+)"
-# What is no name of ours: a command of the system, a word of SQL, a type of relationship that is misspelled.
-FOREIGN = {"sha1sum", "ATTACH", "dependsOn"}
+# Names that aren't ours: a command of the system, words of SQL and of npm, a misspelled type of relationship.
+FOREIGN = {"sha1sum", "ATTACH", "UNLICENSED", "dependsOn"}
 
 
 def text_at(path):
@@ -170,7 +170,7 @@ def usages():
 
 
 def is_called(usage, words):
-    """Whether the words behind a subcommand are such as its help has them."""
+    """Whether the help of a subcommand allows the words after it."""
     options, needed, count, is_open = usage
     given, plain, words = [], 0, list(words)
     while words:
@@ -189,7 +189,7 @@ def is_called(usage, words):
 
 
 def command_lines(page):
-    """The words of each command line of the desk that a page shows, and whether it stands in a sentence."""
+    """The words of each command line of the desk that a page shows, and whether it is in a sentence."""
     text = text_at(page)
     blocks = [block for language, block in re.findall(r"^```(\w*)\n(.*?)^```$", text, flags=re.M | re.S) if language in ("", "sh")]
     blocks += re.findall(r"^    (desk .*)$", text, flags=re.M)
@@ -208,7 +208,7 @@ def command_lines(page):
 
 
 def command_failures(page, known):
-    """Each command line that the help doesn't allow. A sentence may name a subcommand alone."""
+    """Each command line that the help doesn't allow. A sentence may name just a subcommand."""
     for words, is_span in command_lines(page):
         if words in (["--help"], ["--version"], []) or len(words) == 1 and is_span and words[0] in known:
             continue

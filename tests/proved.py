@@ -1,12 +1,12 @@
 #!/usr/bin/env python3
-"""What the merge gate proved and tested, and of which files: build/proved.
+"""What the merge gate proved and tested, and for which files: build/proved.
 
     tests/proved.py           prints a sum over the files of each crate, and at the end one over all sources
-    tests/proved.py --check   says whether build/proved is of these sources and of build/desk
-    tests/proved.py --text    prints what it says for whoever installs the program: the text PROOF of a package
+    tests/proved.py --check   says whether build/proved is for these sources and for build/desk
+    tests/proved.py --text    prints it for those who install the program: the text PROOF of a package
 
-A sum is the SHA-256 of the lines that `sha256sum` prints of the files, in the order of the bytes of their names. So a shell gives it too,
-at the top of the repository, of a crate and of all sources:
+A sum is the SHA-256 of the lines that `sha256sum` prints for the files, in the byte order of their names. So a shell can compute it too, at
+the top of the repository, for a crate and for all sources:
 
     find crates/NAME -type f ! -path '*/out/*' | LC_ALL=C sort | xargs sha256sum | sha256sum
     find HANDLES crates crates.txt -type f ! -path '*/out/*' | LC_ALL=C sort | xargs sha256sum | sha256sum
@@ -56,7 +56,7 @@ def sources():
 
 
 def write(fields, steps):
-    """Writes the record of a run that passed: these fields, and what each step said at its end."""
+    """Writes the record of a run that passed: these fields, and the last line of each step."""
     fields |= {"date": time.strftime("%Y-%m-%dT%H:%M:%SZ", time.gmtime()), "program": sum_of(DESK), "sources": sources()}
     with open(RECORD, "w", encoding="utf-8") as out:
         out.writelines(f"{field} {fields[field]}\n" for field in FIELDS)
@@ -110,7 +110,7 @@ def text(record):
     yield "  2. Compare the sources: `python3 tests/proved.py` prints the sums below, the last one over all sources."
     yield "  3. Run `make test`. It takes an hour or two, says which step failed, if one does, and ends with the words"
     yield f"     'All {len(record.steps)} steps passed'; `python3 tests/proved.py --text` then prints such a page of that run.\n"
-    yield "What each step said last\n"
+    yield "The last line of each step\n"
     yield from (f"  {step}" for step in record.steps)
     yield "\nThe crates\n"
     yield "A sum is the SHA-256 of the lines that `sha256sum` prints of a crate's files, sorted by their names' bytes:"

@@ -3,9 +3,9 @@
 
     python3 tests/slowest.py CRATE [COUNT]
 
-The crate is proved from nothing in a copy, one function after another, over the libraries that `rt lib` built in this checkout.
-What is printed are processor seconds, the largest first (40 of them): a line's seconds are all that passed since the function
-before it was done, with what both need and nobody had made yet. The last line has the seconds of the whole crate.
+The crate is proved from nothing in a copy, one function after another, over the libraries that `rt lib` built in this checkout. It prints
+processor seconds, the largest first (40 of them): a line's seconds are all that passed since the function before it was done, including
+what both need and nothing had computed yet. The last line has the seconds of the whole crate.
 """
 import os
 import shutil
@@ -14,12 +14,12 @@ import sys
 import tempfile
 
 TICKS = os.sysconf("SC_CLK_TCK")
-# `rt check` itself would begin with the work that another checkout kept of the crate.
+# `rt check` itself would start from what another checkout kept of the crate.
 CHECK = [sys.executable, f"{os.path.dirname(os.path.realpath(shutil.which('rt')))}/rtlib.py", "check", "--progress", "--jobs", "1"]
 
 
 def crates_below(lines, name):
-    """The lines of crates.txt of a crate and of all that it stands on."""
+    """The lines of crates.txt for a crate and for all that it depends on."""
     wanted, left = {}, [name]
     while left:
         crate = left.pop()
@@ -54,7 +54,7 @@ def seconds_of(root):
 
 
 def timed(folder):
-    """The seconds of each function, and of all, as the check of the crate in a folder goes on."""
+    """The seconds of each function, and of all, during the check of the crate in a folder."""
     times, last = [], 0.0
     check = subprocess.Popen(CHECK, cwd=folder, stdout=subprocess.PIPE, stderr=subprocess.STDOUT, text=True, bufsize=1)
     said = []

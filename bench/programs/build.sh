@@ -1,8 +1,8 @@
 #!/bin/sh
-# Proves and builds the programs that only the benches run: bench/programs/build.sh NAME ...
+# Proves and builds the programs that only the benchmarks run: bench/programs/build.sh NAME ...
 #
-# Each stands here as a text, `NAME/main.rt.in`, beside the `libraries` that it uses, so that the merge gate doesn't prove it. It is
-# built as a crate in a copy of the repository, and left as build/bench/NAME.
+# Each is kept here as a text, `NAME/main.rt.in`, with the `libraries` that it uses, so that the merge gate doesn't prove it. It is
+# built as a crate in a copy of the repository, and copied to build/bench/NAME.
 set -eu
 
 cd "$(dirname -- "$0")/../.."
@@ -16,7 +16,7 @@ cp crates.txt "$room/crates.txt"
 for crate in crates/*/; do
     name=$(basename "$crate")
     mkdir -p "$room/crates/$name"
-    # (what was proved of the crate already serves here too)
+    # (what was already proved of the crate is used here too)
     for part in src specs proofs out; do
         [ ! -d "$crate$part" ] || cp -a "$crate$part" "$room/crates/$name"
     done

@@ -1,8 +1,8 @@
 """Refuses each allocation of a crate's tests in turn: python3 tests/allocations/cases.py PROGRAM...
 
-Each PROGRAM is a crate's tests as `rt test` builds them; `tests/units/run.sh proved` leaves build/unit_tests. Of these the tests run
-whose names say that they tell want of memory: for each N once with the Nth allocation refused, until a run makes fewer. Such a test
-passes where it is told of want of memory, or is given the right answer.
+Each PROGRAM is a crate's tests as `rt test` builds them; `tests/units/run.sh proved` leaves build/unit_tests. Of these it runs the tests
+whose names say that they report lack of memory: for each N once with the Nth allocation refused, until a run makes fewer. Such a test
+passes if lack of memory is reported to it, or if it gets the right answer.
 """
 
 import os
@@ -22,7 +22,7 @@ def library(room):
 
 
 def tests_of(program):
-    """The names of the tests that tell want of memory."""
+    """The names of the tests that report lack of memory."""
     listed = subprocess.run([program, "--list"], capture_output=True, text=True, check=True).stdout
     names = [line.split(":  ")[0].rsplit(": test", 1)[0] for line in listed.splitlines() if line.endswith(": test")]
     return [name for name in names if TELLS in name]
@@ -57,7 +57,7 @@ def main():
                 else:
                     print(f"{test}: {number} allocations refused")
     if not swept:
-        print("no test tells want of memory")
+        print("no test reports lack of memory")
     return 1 if failed or not swept else 0
 
 

@@ -48,7 +48,7 @@ static void fail(const char *what)
     _exit(125);
 }
 
-/* Copies what a file holds to the end of another, and gives how much that is. */
+/* Appends the contents of a file to another, and returns how many bytes that is. */
 static off_t copy(int from, int to)
 {
     off_t at = 0;
@@ -62,7 +62,7 @@ static off_t copy(int from, int to)
     return at;
 }
 
-/* Has a copy of the process write to a file of its own, behind what was written before. */
+/* Makes a copy of the process write to a separate file, after what was written before. */
 static void write_apart(int file, const char *path)
 {
     int own = open(path, O_RDWR | O_CREAT | O_TRUNC, 0600);
@@ -74,7 +74,7 @@ static void write_apart(int file, const char *path)
     close(own);
 }
 
-/* Has a copy of the process read on from the same place, but not for the process. */
+/* Makes a copy of the process read on from the same place, without moving that of the process. */
 static void read_apart(int file)
 {
     char path[64];
@@ -91,7 +91,7 @@ static void read_apart(int file)
     close(own);
 }
 
-/* Tells how a copy ended, and what it wrote. */
+/* Reports how a copy ended, and what it wrote. */
 static void tell(int status)
 {
     char line[128];

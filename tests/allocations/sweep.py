@@ -1,26 +1,28 @@
 """Refuses each allocation of the program in turn: python3 tests/allocations/sweep.py PROGRAM
 
 The scripts, the checks, the listings and the trees are those of the acceptance cases of at most 16 KiB or 100 files, and the documents in
-JSON those of tests/convert. Each allocation of a run is refused once: the program forks there (`refuse.c`), and a copy of it goes on without
-that memory. A run over a file isn't forked; it is made anew for each N with its Nth allocation refused, until it makes fewer. Then
+JSON those of tests/convert. Each allocation of a run is refused once: the program forks there (`refuse.c`), and a copy of it continues
+without that memory. A run over a file isn't forked; it is repeated for each N with its Nth allocation refused, until it makes fewer. Then
 
-- a check or a listing tells its answer with its status, or nothing with status 3 and its words;
-- a text of a desk in a file (notices, the table of duties, totals, changes, a page, a list, what is wanting, choices, proposals) is written
-  whole, or not at all with status 3 and its words; or the reply is {"fault":"memory"};
-- an import of a document in JSON replies that the document is new, or in those ways; and the same again finds it there where that was
-  replied, and else there or new;
-- an audit and a migration of a file, behind its opening and once in the midst of that, tell their answer, or nothing but their words; the
-  file is as it was, or, migrated, has the rows of a migration whole;
-- a script over a file does so too, and may fail to open or to close it, with its words;
-- so do the proposals for a document, what a document in JSON is converted to, and the document and the problems of a tree; the words may also
-  be those of a folder, a file or an output that found no memory;
-- a desk that is served, from its first connection on, replies to each as it would, but for one: that is replied 503 with "memory", and the
-  others as without its request; or, if it isn't GET, with "reply", and the others as with it. It may fail to close its file, with its words;
-- a script tells its replies with its status; or one reply is {"fault":"memory"}, the status is 3 with its words, and the other replies
-  are those of the script without that request, so what was accepted stands and the script went on; or it stopped with status 3 and its
-  words, and what is there are whole replies, those of the script. Before the first reply it may also say that it could not begin.
+- a check or a listing prints its answer with its status, or nothing with status 3 and its message;
+- a text from a desk in a file (notices, the table of duties, totals, changes, a page, a list, what is wanting, what keeps a release from
+  being ready, choices, proposals) is written fully, or not at all with status 3 and its message; or the reply is {"fault":"memory"};
+- an import of a document in JSON replies that the document is new, or in one of those ways; and repeating it replies that the document had
+  been imported if the first reply was so, and otherwise that or new;
+- an audit and a migration of a file, after its opening and once during it, print their answer, or nothing but their message; the file is
+  unchanged or, migrated, has all rows of a migration;
+- a script over a file does so too, and may fail to open or to close it, with its message;
+- so do the proposals for a document, what a document in JSON is converted to, and the document and the problems of a tree; the message may
+  also be that of a folder, a file or an output for which no memory was left;
+- a desk that is served, from its first connection on, replies to all requests as usual except one: that one gets 503 with "memory", and the
+  others are answered as if it hadn't been sent; or, if it isn't GET, it gets "reply", and the others are answered as after it. The desk may
+  fail to close its file, with its message;
+- a script prints its replies with its status; or one reply is {"fault":"memory"}, the status is 3 with its message, and the other replies
+  are those of the script without that request, so what was accepted remains and the script continued; or it stopped with status 3 and its
+  message, after whole replies that are those of the script. Before the first reply it may also say that it could not begin.
 
-Each request of a script or a connection is told want of memory so at least once, but a line that is no UTF-8, which takes none.
+Each request of a script or a connection gets a reply about lack of memory at least once, except a line that isn't UTF-8, which needs no
+memory.
 """
 
 import os
@@ -42,12 +44,12 @@ import serving
 
 BYTES = 16_384
 SHARED = "/dev/shm"
-# Scripts that run over a file too: the first one from its first allocation on, others from the first one behind those that open the file.
+# Scripts that also run over a file: the first one from its first allocation on, others from the first one after those that open the file.
 OVER_A_FILE = ("script-first-release.dialogue", "script-waived-and-withdrawn.dialogue")
 IMPORTED = "github.json"
 FILES = 100
 MANY = 1_000_000
-# (of the allocations that open a file, one in their midst)
+# (one of the allocations that open a file, in the middle)
 OPENING = 1_000
 # The first release in a file of version 1, and how many allocations before the end of a migration that is refused at once its work begins,
 # at most
@@ -73,7 +75,7 @@ class Program:
         os.mkdir(self.folder)
 
     def stand_in(self, data, script):
-        """Has the program run in a folder that holds these files, if any, and those that a script makes: the words that it ends with."""
+        """Prepares a run of the program in a folder with these files, if any, and those that a script makes, with the words that it ends with."""
         shutil.rmtree(self.folder)
         if data:
             shutil.copytree(data, self.folder)
@@ -101,7 +103,7 @@ class Program:
 
     def refusals(self, words, text):
         """Standard output and the status of a run; and of each allocation in it the number, with standard output, the status and standard
-        error of the copy that went on without it."""
+        error of the copy that continued without it."""
         self.clear()
         with open(self.streams[0], "wb") as file:
             file.write(text)
@@ -112,7 +114,7 @@ class Program:
             return (out.read(), done.returncode), self.copies()
 
     def copies(self):
-        """What each copy of the last run came to."""
+        """The result of each copy of the last run."""
         with open(self.told, "rb") as file:
             while head := file.readline():
                 number, status, out, err = map(int, head.split())
@@ -120,7 +122,7 @@ class Program:
                 yield number, stdout, os.waitstatus_to_exitcode(status), stderr
 
     def serve(self, requests, refused=0):
-        """The same of a desk that is served, with its replies in the place of standard output, if it comes to listen."""
+        """The same of a desk that is served, with its replies in place of standard output, if it gets to listen."""
         self.clear()
         try:
             desk = serving.Served(self.path, os.path.join(self.folder, "desk.db"), len(requests), **self.env(refused))
@@ -160,7 +162,7 @@ def is_blank(line):
 
 
 class Check:
-    """A run of `check`, and what may be told where memory is wanting."""
+    """A run of `check`, and what it may print if memory is lacking."""
 
     def __init__(self, program, words, text):
         self.whole = program.run(words, text)[:2]
@@ -173,7 +175,7 @@ class Check:
 
 
 class Tree(Check):
-    """A run of `propose`, `gather` or `lint`, and what may be told where memory is wanting."""
+    """A run of `propose`, `gather` or `lint`, and what it may print if memory is lacking."""
 
     def is_right(self, stdout, status, stderr):
         if super().is_right(stdout, status, stderr):
@@ -182,7 +184,7 @@ class Tree(Check):
 
 
 class Shown(Check):
-    """A run that writes a text of a desk in a file, and what may be told where memory is wanting."""
+    """A run that writes a text from a desk in a file, and what it may print if memory is lacking."""
 
     def is_right(self, stdout, status, stderr):
         if super().is_right(stdout, status, stderr):
@@ -193,7 +195,7 @@ class Shown(Check):
 
 
 class Import(Shown):
-    """A run that imports a document, and what may be told where memory is wanting. The file is asked behind each."""
+    """A run that imports a document, and what it may print if memory is lacking. The file is asked after each run."""
 
     def __init__(self, program, words, text):
         super().__init__(program, words, text)
@@ -203,12 +205,12 @@ class Import(Shown):
         again = self.program.again(self.words)
         known = self.whole[0].replace(b"true", b"false")
         is_kept = again == (known, 0) or stdout != self.whole[0] and again == self.whole
-        # (what of the JSON is left out is told besides the reply)
+        # (what is left out of the JSON is reported besides the reply)
         return super().is_right(stdout, status, LEFT_OUT.sub(b"", stderr)) and is_kept
 
 
 class Script:
-    """A run of `script`, and what may be told where memory is wanting."""
+    """A run of `script`, and what it may print if memory is lacking."""
 
     def __init__(self, program, words, text):
         self.program, self.words = program, words
@@ -218,7 +220,7 @@ class Script:
         self.told, self.rests = set(), {}
 
     def rest(self, place):
-        """The replies to the script without the request whose reply stands at this place."""
+        """The replies to the script without the request that has the reply at this place."""
         if place not in self.rests:
             left = b"".join(line for n, line in enumerate(self.requests) if n != self.replied[place])
             self.rests[place] = self.program.run(self.words, left)[0]
@@ -243,12 +245,12 @@ class Script:
         return "--db" in self.words and status == 3 and stdout in (b"", self.whole[0]) and UNUSED.fullmatch(stderr)
 
     def untold(self):
-        """The requests that were never told want of memory."""
+        """The requests that never got a reply about lack of memory."""
         return [n for n, line in enumerate(self.replied) if n not in self.told and is_text(self.requests[line])]
 
 
 class Serve:
-    """A desk that is served to connections, and what may be told where memory is wanting."""
+    """A desk that is served to connections, and what it may print if memory is lacking."""
 
     def __init__(self, program, requests, first):
         self.program, self.requests, self.first = program, requests, first
@@ -256,7 +258,7 @@ class Serve:
         self.told, self.rests = set(), {}
 
     def rest(self, place):
-        """The replies to the others, where the connection at this place isn't there."""
+        """The replies to the others if the connection at this place is left out."""
         if place not in self.rests:
             self.rests[place] = self.program.serve(self.requests[:place] + self.requests[place + 1 :])[0]
         return self.rests[place]
@@ -276,12 +278,12 @@ class Serve:
         return is_closed and is_reply and not is_get and others == self.whole[:place] + self.whole[place + 1 :]
 
     def untold(self):
-        """The connections from the first one on that were never told want of memory."""
+        """The connections from the first one on that never got a reply about lack of memory."""
         return [place for place in range(self.first, len(self.requests)) if place not in self.told]
 
 
 KINDS = {"script": Script, "check": Check, "alternatives": Check, "propose": Tree, "gather": Tree, "lint": Tree, "convert": Tree}
-# What is shown of the desk in a file, and of what in it; and of one with a waiver that ends.
+# What is shown of the desk in a file, and about what in it; also of one with a waiver that ends.
 TEXTS = [
     ("notices", "r1"),
     ("duties", "r1"),
@@ -289,6 +291,7 @@ TEXTS = [
     ("changes", "1"),
     ("page", "r1"),
     ("wanting", "r1"),
+    ("ready", "r1"),
     ("choices", "r1"),
     ("propose", "1"),
     ("list", "releases"),
@@ -304,7 +307,7 @@ OF_WAIVERS = [
 
 
 def kind_of(words):
-    """What a run with these words may tell."""
+    """What a run with these words may print."""
     if words[0] == "import":
         return Import
     return Shown if "--db" in words and words[0] != "script" else KINDS[words[0]]
@@ -321,7 +324,7 @@ def sweep(program, name, words, text):
         if not run.is_right(stdout, status, stderr):
             sys.exit(f"{name}: allocation {number}: status {status}, {stdout[-200:]!r}, {stderr[:200]!r}")
     if run.untold():
-        sys.exit(f"{name}: no want of memory was told for the requests {run.untold()}")
+        sys.exit(f"{name}: the requests {run.untold()} never got a reply about lack of memory")
     return number
 
 
@@ -337,7 +340,7 @@ def sweep_on_file(program, name, words, text, first=1):
             sys.exit(f"{name}: allocation {refused}: status {status}, {stdout[-200:]!r}, {stderr[:200]!r}")
         refused += 1
     if run.untold():
-        sys.exit(f"{name}: no want of memory was told for the requests {run.untold()}")
+        sys.exit(f"{name}: the requests {run.untold()} never got a reply about lack of memory")
     return refused - first
 
 
@@ -349,7 +352,7 @@ def sweep_case(program, name, words, text):
 
 
 def first_behind(least, is_met):
-    """The first number that doesn't meet this, behind those from the least one on that do."""
+    """The first number that doesn't meet this, after those from the least one on that do."""
     most = MANY
     while least < most:
         middle = (least + most) // 2
@@ -358,12 +361,12 @@ def first_behind(least, is_met):
 
 
 def is_opening(program, words, number):
-    """Whether the file isn't opened where this allocation is refused."""
+    """Whether the file isn't opened if this allocation is refused."""
     return UNUSED.fullmatch(program.run(words, b"", number)[2]) is not None
 
 
 def first_of_texts(program, words):
-    """The first allocation behind those that open the desk's file. Scripts over a file make the same ones."""
+    """The first allocation after those that open the desk's file. Scripts over a file make the same ones."""
     first = first_behind(OPENING, lambda number: is_opening(program, words, number))
     if first == OPENING:
         sys.exit(f"{words[0]}: the file is opened by fewer allocations than {OPENING}")
@@ -371,7 +374,7 @@ def first_of_texts(program, words):
 
 
 def sweep_import(program, words):
-    """How many allocations of an import were refused, but for all but one of those that open the file."""
+    """How many allocations of an import were refused; of those that open the file only one is."""
     run, number, count = kind_of(words)(program, words, b""), 0, 0
     while True:
         number += 1
@@ -386,13 +389,13 @@ def sweep_import(program, words):
 
 
 def is_begun(program, requests, number):
-    """Whether a desk makes this allocation until it listens or, if there are requests, until it ends behind them."""
+    """Whether a desk makes this allocation before it listens or, if there are requests, before it ends after them."""
     replies, _, _, was_refused = program.serve(requests, number)
     return was_refused if requests else replies is None
 
 
 def sweep_connections(program, name, before, rows):
-    """How many allocations of a desk that is served were refused, from the first connection behind those before it on."""
+    """How many allocations of a served desk were refused, from the first one for the connections on."""
     begun, requests = ([request for _, request, *_ in some] for some in (before, before + rows))
     run = Serve(program, requests, len(before))
     wanted = [serving.response(*reply) for _, _, *reply in before + rows]
@@ -408,12 +411,12 @@ def sweep_connections(program, name, before, rows):
             sys.exit(f"{name}: allocation {refused}: status {status}, {replies!r:.400}, {stderr[:200]!r}")
         refused += 1
     if run.untold():
-        sys.exit(f"{name}: no want of memory was told for the requests {run.untold()}")
+        sys.exit(f"{name}: the requests {run.untold()} never got a reply about lack of memory")
     return refused - first
 
 
 class OnFile:
-    """A run over a file that is audited or migrated, and what may be told and left where memory is wanting."""
+    """A run over a file that is audited or migrated, and what it may print and leave if memory is lacking."""
 
     def __init__(self, program, word, data):
         self.program, self.words, self.data = program, [word, "--db", "file"], data
@@ -474,7 +477,7 @@ def executed(program, data, text):
 
 
 def sweep_file(program, word, data, answer):
-    """How many allocations of an audit or a migration were refused, behind those that open the file, and one of these."""
+    """How many allocations of an audit or a migration were refused, after those that open the file, and one of these."""
     run = OnFile(program, word, data)
     if run.whole != (answer, 0):
         sys.exit(f"{word} of a file: {run.whole}, with memory")
@@ -524,7 +527,7 @@ def words_of(path):
 
 
 def is_of_tree(path):
-    """Whether a script ends with one run of `gather` or `lint`, and runs the program nowhere else."""
+    """Whether a script ends with one run of `gather` or `lint`, and doesn't run the program anywhere else."""
     with open(path, encoding="utf-8") as file:
         text = file.read()
     return text.count("$1") == 1 and re.search(r'^exec "\$1" (gather|lint) [^|<>;&]*\n\Z', text, re.M) is not None

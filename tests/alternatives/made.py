@@ -2,10 +2,10 @@
 
     python3 tests/alternatives/made.py >tests/dialogues/lists-what-a-search-over-all-sets-finds.dialogue
 
-The expressions are made at random from a fixed seed. What is expected of each is found by going over all sets of its terms, with
-nothing of the desk: a set is minimal where it satisfies the expression and no proper subset of it does; the cheapest set is the one
-of least cost among all that satisfy it, minimal or not, whose terms all have a cost, and of these the first in the order of sets. A
-term without a plus costs one less than its id has letters, and one with a plus has no cost, since it has no rule.
+The expressions are random, from a fixed seed. What is expected for each is found by going over all sets of its terms, using nothing of the
+desk: a set is minimal if it satisfies the expression and no proper subset of it does; the cheapest set is the one with the least cost among
+all that satisfy it, minimal or not, and whose terms all have a cost, and of these the first in the order of sets. A term without a plus
+costs one less than its id has letters, and one with a plus has no cost, since it has no rule.
 """
 
 import itertools
@@ -72,7 +72,7 @@ def cheapest(node):
 
 
 def catalogue():
-    """A catalogue whose rules owe as many duties as a term costs."""
+    """A catalogue with rules that owe as many duties as a term costs."""
     codes = ["one", "two"]
     text = 'forms = ["binary"]\n'
     for code in codes:

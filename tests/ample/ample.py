@@ -1,8 +1,8 @@
-"""Inputs that need memory, where there is enough of it: python3 tests/ample/ample.py PROGRAM
+"""Inputs that need memory, with enough memory: python3 tests/ample/ample.py PROGRAM
 
-No contract says that a call gives up only where memory is wanting, so a program that gave up past some size would be proved all the
-same. Here are inputs past 64 bytes, 64 KiB and 4 MiB, many lines, words and duties, and each fault of each reader, with the exact
-replies. These are worked out from the rules of docs/REQUESTS.md, docs/CATALOGUE.md and SPDX 2.3, never from what the program prints.
+No contract says that a call fails only if no memory is left, so a program that failed beyond some size would be proved all the same. Here
+are inputs beyond 64 bytes, 64 KiB and 4 MiB, many lines, words and duties, and each fault of each reader, with the exact replies. These are
+worked out from the rules of docs/REQUESTS.md, docs/CATALOGUE.md and SPDX 2.3, never from what the program prints.
 """
 
 import json
@@ -87,11 +87,11 @@ def findings(rows):
 
 
 def padded(text, size, filling="#"):
-    """The text with a comment behind it that makes it so many bytes."""
+    """The text, followed by a comment that makes it this many bytes long."""
     return text + filling * (size - len(text.encode()))
 
 
-# Each of the following gives names of scripts with their requests and replies.
+# Each of the following yields names of scripts with their requests and replies.
 
 
 def sizes_of_values():
@@ -297,7 +297,7 @@ def many_findings():
 
 
 def faults_of_documents():
-    """Each fault that a text can have; that bytes are no text is no request."""
+    """Each fault that a text can have; bytes that aren't text aren't a request."""
     start = "SPDXVersion: SPDX-2.3\n"
     missing = [
         ("SPDXVersion", HEAD.replace(start, "")),
@@ -334,7 +334,7 @@ def faults_of_documents():
 
 
 def faults_of_expressions():
-    """A conclusion that is no expression, by each fault, or one of the two words that stand for none."""
+    """A conclusion that isn't an expression, by each fault, or one of the two words that mean none."""
     values = ["", "MIT AND", "+", "MIT +", "(MIT", "WITH x", "(" * 65 + "MIT" + ")" * 65, "NONE", "NOASSERTION"]
     text = HEAD + "".join(package(f"SPDXRef-{n}", value) for n, value in enumerate(values))
     steps = [load(catalogue()), take(text), opened(), attached()]
@@ -396,7 +396,7 @@ def full(limit):
 
 
 def numbered(number):
-    """A document with a namespace of its own, and its import."""
+    """A document with its own namespace, and its import."""
     text = HEAD.replace("org/d", f"org/d{number}")
     return take(text, line(document=number, new=True))
 
@@ -432,7 +432,7 @@ def a_hundred_thousand_duties():
 
 
 def opened_again():
-    """50 packages of a thousand duties each in a file, and what it tells once it is opened again."""
+    """50 packages of a thousand duties each in a file, and what the desk replies after it is opened again."""
     codes = sorted(f"duty-{n:03}" for n in range(1_000))
     ids = sorted(f"SPDXRef-{n:02}" for n in range(50))
     steps = [load(catalogue(codes=codes)), take(HEAD + "".join(map(package, ids))), opened(), attached()]
@@ -476,7 +476,7 @@ SCRIPTS = (
 
 
 def checks():
-    """Words of `check`, with the line that is told."""
+    """Words of `check`, with the line that is printed."""
     yield ["MIT"] + ["mit"] * 5_000, "minimal"
     yield ["MIT"] + ["mit"] * 4_999 + ["Zlib"], "superfluous: Zlib"
     yield ["MIT AND Zlib"] + ["MIT"] * 5_000, "not enough"

@@ -1,7 +1,8 @@
 """Checks the catalogue of the examples without the desk: python3 tests/catalogues/check.py
 
-It keeps docs/CATALOGUE.md; each licence has a rule in each form, with a comment above that names a clause or a sentence; each duty is owed
-by some rule; an old id owes what its newer one owes. What with-texts.sh prints is that catalogue with texts, each as its file has it.
+The catalogue follows docs/CATALOGUE.md; each licence has a rule in each form, with a comment above it that names a clause or a sentence;
+each duty is owed by some rule; an old id owes what its newer one owes. What with-texts.sh prints is that catalogue with texts, each as its
+file has it.
 """
 
 import os
@@ -21,7 +22,7 @@ NAME = re.compile(r"[A-Za-z0-9.-]{1,64}")
 TERM = re.compile(r"[A-Za-z0-9.-]+\+?( WITH [A-Za-z0-9.-]+)?")
 # What a comment on a rule begins with: the licence, and a clause of its text or a sentence of it.
 CLAUSE = re.compile(r"(?P<licence>[A-Za-z0-9.-]+) (clauses? \d|sentence ')")
-# Ids that were given up where it isn't the end alone that differs.
+# Deprecated ids that differ from their newer ones in more than the end.
 OLDER = {
     "GPL-2.0-with-classpath-exception": "GPL-2.0-only WITH Classpath-exception-2.0",
     "GPL-3.0-with-GCC-exception": "GPL-3.0-or-later WITH GCC-exception-3.1",
@@ -101,7 +102,7 @@ def check_whole(catalogue):
 
 
 def check_comments(text, catalogue):
-    """Above each rule stands where its duties come from. If the comment names duties, they are those of the rule."""
+    """The comment above each rule says where its duties come from. If it names duties, they are those of the rule."""
     blocks = re.findall(r"((?:^#.*\n)*)^\[\[rule\]\]$", text, flags=re.M)
     if len(blocks) != len(catalogue["rule"]):
         failures.append(f"{len(blocks)} tables of rules are found, and {len(catalogue['rule'])} rules")
@@ -127,7 +128,7 @@ def with_texts(*words):
 
 
 def check_texts(text, catalogue):
-    """What with-texts.sh prints, alone, with a folder of texts, and of what it printed itself."""
+    """What with-texts.sh prints alone, with a folder of texts, and from its own output."""
     ids = ids_of(catalogue["rule"])
     with tempfile.TemporaryDirectory() as room:
         for name in ("MIT", "AGPL-3.0-or-later", "Classpath-exception-2.0", "No-such-licence"):
@@ -162,7 +163,7 @@ def check_texts(text, catalogue):
 
 
 def check_system(texts):
-    """Texts of the tree and of the system are as their files have them, where these are."""
+    """Texts of the tree and of the system are as their files have them, if these exist."""
     common = "/usr/share/common-licenses/"
     files = {name: [common + name] for name in ("MPL-2.0", "CC0-1.0")}
     files["Apache-2.0"] = [os.path.join(TREE, "LICENSES", "Apache-2.0.txt")]

@@ -1,9 +1,9 @@
 #!/usr/bin/env python3
-"""Imports each front of a document, or the document with one byte changed to each other byte, and prints how often each answer comes:
+"""Imports each prefix of a document, or the document with one byte replaced by each other byte, and prints how often each answer occurs:
 `changes.py PROGRAM prefixes FILE`, `changes.py PROGRAM changes FILE`.
 
-The answers are written as `oracle.py` writes them, so both print the same. A document that is read is new, or its namespace stands
-already. Bytes that are no text are told as such, by fault 1, where the program tells that they make no request."""
+The answers are written as `oracle.py` writes them, so both print the same. A document that can be read is new, or its namespace was
+imported before. Bytes that aren't text are reported as such, by fault 1, when the program reports that they make no request."""
 import json
 import subprocess
 import sys

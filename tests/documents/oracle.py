@@ -1,9 +1,9 @@
 #!/usr/bin/env python3
-"""A second reader of tag-value documents, written apart from the desk's, for expected values of tests.
+"""A second reader of tag-value documents, written independently of the desk's, for expected values of tests.
 
-It answers a document with `document`, and a fault with its number, its line and its tag or `-`.
-`oracle.py prefixes FILE` prints the answers to all prefixes of a file, and `oracle.py changes FILE` how often each
-answer comes where one byte of the file is changed to each other byte."""
+It answers a document with `document`, and a fault with its number, its line and its tag or `-`. `oracle.py prefixes FILE` prints the
+answers to all prefixes of a file, and `oracle.py changes FILE` how often each answer occurs if one byte of the file is replaced by each
+other byte."""
 import re
 import sys
 from collections import Counter

@@ -1,10 +1,10 @@
 #!/usr/bin/env python3
-"""Inputs that would take gigabytes, under a bound of memory: python3 tests/hostile/bounded.py PROGRAM
+"""Inputs that would take gigabytes, with bounded memory: python3 tests/hostile/bounded.py PROGRAM
 
-The kit's TOML reader takes up to 580 times the bytes of a text (docs/HOSTILE.md). Whoever reads files of strangers bounds what a process
-may take, as by `ulimit -v`. Here that bound is 400 MB: each such input is answered that no memory is left, what was there before is still
-there, and the next request is answered. A report on a tree that is larger than the bound, since a long path is in each of its lines, is
-written whole."""
+The kit's TOML reader takes up to 580 times the bytes of a text (docs/HOSTILE.md). Those who read files from strangers limit what a process
+may take, for example by `ulimit -v`. Here that limit is 400 MB: for each such input the answer is that no memory is left, what existed
+before is unchanged, and the next request is answered. A report on a tree that is larger than the limit, since a long path is in each of its
+lines, is written fully."""
 
 import http.client
 import os
@@ -38,7 +38,7 @@ def length_of(stream):
 
 
 class Bounded:
-    """The program under that bound, in a room of its own."""
+    """The program under that bound, in its own folder."""
 
     def __init__(self, program, room):
         self.program, self.room = os.path.abspath(program), room
@@ -53,7 +53,7 @@ class Bounded:
         return length_of(process.stdout), process.wait(timeout=SECONDS)
 
     def is_whole(self, bound, words, whole):
-        """Whether it writes this text where it may take so much."""
+        """Whether it writes this text if it may take this much memory."""
         limit = lambda: resource.setrlimit(resource.RLIMIT_AS, (bound, bound))
         done = subprocess.run([self.program, *words], cwd=self.room, capture_output=True, preexec_fn=limit, timeout=SECONDS, check=False)
         return (done.stdout, done.returncode) == (whole, 0)
@@ -67,7 +67,7 @@ class Bounded:
         return most
 
     def fails_at_once(self, words, out):
-        """Whether it ends with status 3 where its output can't be written, and soon."""
+        """Whether it ends with status 3 if its output can't be written, and soon."""
         try:
             done = subprocess.run([self.program, *words], cwd=self.room, stdout=out, stderr=subprocess.PIPE, timeout=AT_ONCE, check=False)
         except subprocess.TimeoutExpired:
@@ -91,7 +91,7 @@ class Bounded:
 
 
 def scripts(desk):
-    """A script goes on behind the fault, in memory and in a file."""
+    """A script continues after the fault, in memory and in a file."""
     requests = "".join(line(do="catalogue", text=text) for text in (SMALL, nested_headers(), SMALL + "# once more\n"))
     wanted = f'{{"revision":1}}\n{NO_MEMORY}\n{{"revision":2}}\n'
     for words in (["script"], ["script", "--db", "script.db"]):
@@ -146,7 +146,7 @@ def reports(desk):
 
 
 def many_packages(count):
-    """A release of so many packages, each with a text of its own; and its notices."""
+    """A release of this many packages, each with its own text; and its notices."""
     text = "".join(f"A text of {place}.\n" for place in range(250))
     document = HEAD + "".join(
         f"PackageName: p{n}\nSPDXID: SPDXRef-{n:03}\nPackageLicenseConcluded: LicenseRef-{n}\nPackageCopyrightText: <text>(c) {n}</text>\n"

@@ -1,7 +1,7 @@
 """The first fault of a catalogue: a second reader of docs/CATALOGUE.md, over Python's tomllib.
 
-tomllib reads TOML 1.0 and the desk TOML 1.1, and both leave numbers and times past their ranges to the reader; `is_sure` says of a text
-whether the two may not differ."""
+tomllib reads TOML 1.0 and the desk TOML 1.1, and both standards leave numbers and times beyond their ranges to the reader; `is_sure` says
+whether the two must agree on a text."""
 
 import functools
 import re
@@ -112,7 +112,7 @@ def read_texts(found):
 
 
 def fault_of(text):
-    """What stands in `at` of BadCatalogue, or None for a catalogue."""
+    """What `at` of BadCatalogue contains, or None for a catalogue."""
     if len(text.encode()) > second_judge.CATALOGUE_BYTES:
         return [TOO_LARGE]
     found = toml_of(text)

@@ -1,4 +1,4 @@
-"""Catalogues by grammar and by change: each is loaded, and what its rules owe is asked by the cheapest choices of a package."""
+"""Catalogues from a grammar and by mutation: each is loaded, and the cheapest choices of a package show what its rules owe."""
 
 import json
 import os
@@ -12,7 +12,7 @@ import running
 import second_desk
 
 NAME, SIZE = "catalogues", 400
-# Every so many inputs `desk catalogue` has the file too, bytes that are no text among them.
+# After this many inputs `desk catalogue` gets the file too, including bytes that aren't text.
 ASKED = 100
 TERMS = ["MIT", "mit", "Zlib", "Apache-2.0+", "GPL-2.0 WITH x", "LicenseRef-1", "MIT OR Zlib", "a b", "", " MIT ", "a" * 70]
 FORMS = ["binary", "source", "a-b.c", "Binary", "with blank", "", "f" * 64, "f" * 65]
@@ -23,7 +23,7 @@ EXPRESSION = "MIT OR Zlib AND Apache-2.0+ OR GPL-2.0 WITH x OR LicenseRef-1"
 
 
 def mostly(turn, values):
-    """One of the first few values nine times of ten, else any."""
+    """One of the first few values nine times out of ten, otherwise any."""
     return turn.choice(values[:3] if turn.random() < 0.9 else values)
 
 
@@ -43,7 +43,7 @@ def string(turn, text):
 
 
 def value(turn, text):
-    """Mostly a string, else another kind of value."""
+    """Mostly a string, otherwise another kind of value."""
     if turn.random() < 0.97:
         return string(turn, text)
     return turn.choice(["1", "true", "[]", "[1, 2]", "1.5", "{a = 1}", "2025-01-01", "0x1F", "inf", "+1", "1_0"])
@@ -55,7 +55,7 @@ def listed(turn, texts):
 
 
 def table(turn, part, rows):
-    """A table of a part, of which a key may be wanting or stand twice."""
+    """A table of a part, in which a key may be missing or appear twice."""
     rows = list(rows)
     turn.shuffle(rows)
     if turn.random() < 0.04:
@@ -110,7 +110,7 @@ def first_requests():
 
 
 def of_any_catalogue(revision):
-    """A judge of replies where the two readers of TOML may differ: a revision, or a refusal. Later revisions have other numbers then."""
+    """A judge of replies if the two readers of TOML may differ: a revision, or a refusal. Later revisions then have other numbers."""
     def judge(reply):
         told = json.loads(reply)
         if told == {"revision": revision}:
@@ -144,7 +144,7 @@ def asked(batch):
 
 
 def unsure(program, batch):
-    """Those that TOML 1.0 and 1.1 may read differently: each is a revision or a refusal, and no more is said of it."""
+    """Those that TOML 1.0 and 1.1 may read differently: each is a revision or a refusal, and nothing else is checked."""
     places = [place for place, data in enumerate(batch) if not catalogue_faults.is_sure(text_of(data))]
     text = b"".join(line_of({"do": "catalogue", "text": text_of(batch[place])}) for place in places)
     done, revision = program.run("script", text=text), 1
@@ -158,7 +158,7 @@ def unsure(program, batch):
 
 
 def from_a_file(program, data):
-    """What `desk catalogue` says of a file, and that its desk is sound behind it."""
+    """What `desk catalogue` says about a file, and that its desk is sound afterwards."""
     try:
         wanted = second_desk.SecondDesk().answer({"do": "catalogue", "text": data.decode()}) + b"\n"
     except UnicodeDecodeError:

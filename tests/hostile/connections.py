@@ -1,4 +1,5 @@
-"""Connections to `desk serve`: requests by grammar and by change, whole, cut short, or in pieces, a session of them on one desk in a file."""
+"""Connections to `desk serve`: requests from a grammar and by mutation, whole, cut short, or in pieces, a session of them on one desk in a
+file."""
 
 import os
 import random
@@ -23,7 +24,7 @@ FIELDS = ["Host: localhost", "Host: localhost", "Accept: */*", "User-Agent: x", 
           "Content-Type: application/json"]
 ODD_FIELDS = ["Transfer-Encoding: chunked", "Content-Length: 1", "Content-Length: +2", "Content-Length: 2, 2", "Content-Length: ", "Content-Length: 8388609",
               "Content-Length: 99999999999999999999", "Content-Length : 2", "no colon", ": x", " folded: x", "A: \x00", "A: \x80", "content-length: 0"]
-# What browsers send, for pages of the desk's own and of elsewhere. (The port isn't known yet.)
+# What browsers send, for the desk's own pages and for pages from elsewhere. (The port isn't known yet.)
 PORT = "{PORT}"
 ORIGINS = ["Origin: null", f"Origin: http://127.0.0.1:{PORT}", f"ORIGIN: http://LOCALHOST:{PORT}", "Origin: http://localhost", "Origin: http://evil.example",
            f"Origin: http://[::1]:{PORT}", f"Origin: http://127.0.0.1:{PORT}0", f"Origin: https://127.0.0.1:{PORT}", "Sec-Fetch-Site: cross-site",
@@ -153,7 +154,7 @@ def wrong(desk, port, pieces, told):
 
 
 def begun(program, path):
-    """A desk in a file with an office, beside the second desk with the same."""
+    """A desk in a file with an office, and the second desk with the same."""
     desk, first = second_desk.SecondDesk(), lines.office()
     for line in first:
         desk.reply(line)
@@ -171,7 +172,7 @@ def differences(program, batch):
                 pieces = [piece.replace(PORT.encode(), b"%d" % served.port) for piece in pieces]
                 found = wrong(desk, served.port, pieces, sent(served.port, pieces))
                 if found:
-                    yield place, f"{b''.join(pieces)!r:.2000} is told {found}"
+                    yield place, f"{b''.join(pieces)!r:.2000} gets the reply {found}"
             if served.ended() != (0, b""):
                 yield 0, f"serve ended by {served.process.returncode}"
         except OSError as error:

@@ -1,9 +1,9 @@
 #!/usr/bin/env python3
 """Measures what the slowest known inputs within the limits cost in time and memory: python3 tests/hostile/cost.py PROGRAM [--only WORD]
 
-Prints a row for each: its bytes, the seconds and the peak of the process's memory. Wanted are at most 5 seconds, and at most ten times its
-bytes and 32 MB. Each input is made by a process of its own, so that the measuring one stays small: a child's peak isn't told below that of
-the process that started it. Ends with status 1 if a row is over."""
+Prints a row for each: its bytes, the seconds and the peak of the process's memory. The aim is at most 5 seconds, and at most ten times its
+bytes plus 32 MB. Each input is made by a separate process, so that the measuring one stays small: a child's peak is never reported as less
+than that of the process that started it. Ends with status 1 if a row exceeds the aim."""
 
 import argparse
 import json
@@ -22,7 +22,7 @@ LONGEST = 120
 
 
 def made(room, name):
-    """Makes an input, and prints what is run: this is the process of its own."""
+    """Makes an input, and prints what is run: this is the separate process."""
     import slow_inputs
 
     print(json.dumps(slow_inputs.SLOW[name](room)))
@@ -99,7 +99,7 @@ def measured(program, name):
 
 
 def row(name, size, status, seconds, peak):
-    """Prints a row, and answers whether it is over what is wanted."""
+    """Prints a row, and returns whether it exceeds the aim."""
     # 3 is the status of a file that can't be used
     is_over = status not in (0, 1, 3) or seconds > SECONDS or peak > TIMES * size + MORE
     mark = " OVER" if is_over else ""

@@ -1,7 +1,7 @@
 """Database files that were changed: their rows by SQL, their bytes, and the bytes of the log that a killed desk left.
 
-`desk audit` has to say what tests/second_judge.py says where SQLite reads the file and finds it whole, and else some documented answer; the
-file has to stay as it was. A changed log may only lose its last commits."""
+If SQLite reads the file and finds it intact, `desk audit` must say what tests/second_judge.py says, otherwise give some documented answer;
+the file must stay unchanged. A changed log may only lose its last commits."""
 
 import os
 import random
@@ -50,8 +50,11 @@ def put(path, data, log=b""):
 
 def answer(done):
     """`sound`, the name of a condition, `error`, or what no answer may be."""
-    if running.unlike(done, {0, 1, 3}):
-        return running.unlike(done, {0, 1, 3})
+    # (rows that are sound may be in tables that aren't a desk's)
+    is_told = done.out == b"sound\n" and re.fullmatch(auditing.UNOPENED + auditing.DIFFERENCE, done.err)
+    wrong = running.unlike(done, {0, 1, 3}, beside=done.err if is_told else b"")
+    if wrong:
+        return wrong
     told = {(0, b"sound\n"): "sound", **{(1, f"{name}\n".encode()): name for name in auditing.NAMES}}
     return "error" if done.status == 3 and not done.out else told.get((done.status, done.out), repr(done))
 
@@ -78,7 +81,7 @@ def changed_bytes(turn, data):
 
 
 def judged(path):
-    """What the second judge says, or None where SQLite doesn't read the file or finds it broken."""
+    """What the second judge says, or None if SQLite doesn't read the file or finds it broken."""
     try:
         connection = sqlite3.connect(f"file:{path}?mode=ro", uri=True)
         try:
@@ -104,7 +107,7 @@ def asked_too(program, path):
     done = program.run("script", "--db", path, text=offices.later_requests().encode(), size=os.path.getsize(path))
     is_refused = done.status == 1 and re.fullmatch(rb"fault: \w+\n", done.out) or done.status == 3 and not done.out
     is_served = re.fullmatch(rb"(\{.*\}\n)*", done.out) and done.out.count(b"\n") == offices.later_requests().count("\n")
-    is_told = done.out == b"fault: NotADesk\n" and re.fullmatch(rb'"[^\n]+": (it has|one of its tables) [^\n]+\n', done.err)
+    is_told = done.out == b"fault: NotADesk\n" and re.fullmatch(auditing.DIFFERENCE, done.err)
     wrong = running.unlike(done, beside=done.err if is_told else b"")
     return None if not wrong and (is_refused or is_served) else f"requests: {done!r}"
 
@@ -125,7 +128,7 @@ def of_a_file(program, path, kind, turn, data):
 
 
 def killed(program, path):
-    """The bytes of a file and its log, as a desk left them that was killed after so many releases."""
+    """The bytes of a file and its log, as left by a desk that was killed after this many releases."""
     put(path, b"")
     words = [program.path, "script", "--db", path]
     requests = [f'{{"do":"open","release":"r{number}","form":"binary"}}\n'.encode() for number in range(IN_THE_LOG)]

@@ -1,4 +1,4 @@
-"""Documents by grammar and by change: each is imported, and asked what it ships and what its findings are."""
+"""Documents from a grammar and by mutation: each is imported, and asked what it ships and what its findings are."""
 
 import collections
 import hashlib
@@ -16,9 +16,9 @@ import second_judge
 import second_lists
 
 NAME, SIZE = "documents", 200
-# The kinds of findings, which so many documents have to have, and how often they had them.
+# The kinds of findings that must occur among this many documents, and how often they did.
 MEETS, MET = set(second_lists.NAMES.values()), collections.Counter()
-# Every so many inputs `desk import` has the file too, bytes that are no text among them.
+# After this many inputs `desk import` gets the file too, including bytes that aren't text.
 ASKED = 50
 HERE = os.path.join(running.TESTS, "documents")
 CONCLUSIONS = ["MIT", "MIT OR Zlib", "mit or Zlib", "LicenseRef-1", "LicenseRef-2 AND MIT", "NONE", "NOASSERTION", "MIT AND", "(MIT)", "DocumentRef-d:LicenseRef-1", " ", "a WITH b"]
@@ -30,7 +30,7 @@ VALUES = ["true", "false", "no", "1.0", "SHA1: " + "0a" * 20, "SHA1: 12", "SHA25
           "<text>one\ntwo</text>", "<text></text>", "<text>x", "<text>x</text> y", "MIT", "https://example.org/", ""]
 
 
-# Codes of no file and of one, another one, and what is none; and whether files were analysed.
+# Codes of no file and of one, a wrong one, and texts that aren't codes; and whether files were analysed.
 CODE_OF_ONE = hashlib.sha1(b"0a" * 20).hexdigest()
 CODES = ["da39a3ee5e6b4b0d3255bfef95601890afd80709", CODE_OF_ONE, CODE_OF_ONE.upper(), CODE_OF_ONE[:-1] + "x", CODE_OF_ONE[:-1], CODE_OF_ONE + "(",
          "SHA1: " + CODE_OF_ONE, *(f"{CODE_OF_ONE}{names}" for names in (" (excludes: ./f0, f1)", "(f2)", "()", "\t(excludes:f0)", " f0", " (f0) "))]
@@ -72,7 +72,7 @@ def part(turn, number):
 
 
 def grown(turn, number):
-    """A document by grammar, most of the time with all that it must have."""
+    """A document from the grammar, mostly with everything that it must have."""
     lines = [f"SPDXVersion: SPDX-2.{turn.choice('1233334')}", "DataLicense: CC0-1.0", "SPDXID: SPDXRef-DOCUMENT", "DocumentName: d",
              f"DocumentNamespace: https://example.org/{number}", "Creator: Tool: x", "Created: 2025-01-01T00:00:00Z"]
     if turn.random() < 0.2:
@@ -115,7 +115,7 @@ def line_of(request):
 
 
 def raw_import(data):
-    """The import of bytes that are no text, which is no request."""
+    """The import of bytes that aren't text, which isn't a request."""
     escaped = data.replace(b"\\", b"\\\\").replace(b'"', b'\\"')
     return b'{"do":"import","text":"%b"}\n' % bytes(byte for byte in escaped if byte >= 32)
 
@@ -125,7 +125,7 @@ def first_requests():
 
 
 def behind(desk, place, told):
-    """What is asked behind an import that took in a document."""
+    """The questions after an import of a document."""
     found = json.loads(told).get("document")
     if found is None:
         return []
@@ -159,7 +159,7 @@ def is_licence(text, profile):
 
 
 def told_beside(document, profile):
-    """What `desk import` says on standard error of a document that it took in."""
+    """What `desk import` writes to standard error about a document that it imported."""
     packages = [fields for kind, _, fields in second_lists.Sections(document.data, profile).parts if kind == "package"]
     count, without, declared = 0, 0, 0
     for fields in packages:
@@ -177,7 +177,7 @@ def told_beside(document, profile):
 
 
 def from_a_file(program, data, profile):
-    """What `desk import` says of a file, and that its desk is sound behind it."""
+    """What `desk import` says about a file, and that its desk is sound afterwards."""
     desk = second_desk.SecondDesk()
     text, beside = json_read.taken(data)
     wanted = desk.answer({"do": "import", "text": text, "profile": profile}) + b"\n"

@@ -1,6 +1,6 @@
-"""Where a text is no licence expression, and why: a second reader of the faults of docs/REFUSALS.md, from the left.
+"""Where and why a text isn't a licence expression: a second reader of the faults of docs/REFUSALS.md, from the left.
 
-It goes over the words of a text with what is wanted next and the parentheses that are open. `tests/second_judge.py` has the trees."""
+It goes over the words of a text, keeping what is expected next and the parentheses that are open. `tests/second_judge.py` has the trees."""
 
 import re
 
@@ -25,7 +25,7 @@ def is_exception(token):
 
 
 class Scan:
-    """What stands left of a place."""
+    """What is to the left of a place."""
 
     def __init__(self, operators):
         self.operators = operators
@@ -84,7 +84,7 @@ def fault_of(text, profile=second_judge.CAPITALS):
 
 
 def fault_of_conclusion(text):
-    """The same of an office's conclusion, where NONE and NOASSERTION alone are no expression."""
+    """The same for an office's conclusion, for which NONE or NOASSERTION alone isn't an expression."""
     if len(text) <= second_judge.EXPRESSION_BYTES and text.strip(b" \t") in (b"NONE", b"NOASSERTION"):
         return UNEXPECTED, len(text) - len(text.lstrip(b" \t"))
     return fault_of(text)

@@ -1,4 +1,4 @@
-"""Licence expressions by grammar and by change: conclusions of a package, its alternatives, choices for it, and `desk check`."""
+"""Licence expressions from a grammar and by mutation: conclusions of a package, its alternatives, choices for it, and `desk check`."""
 
 import json
 import random
@@ -13,7 +13,7 @@ import second_judge
 import second_lists
 
 NAME, SIZE = "expressions", 500
-# Every so many inputs the command line is asked too, a process for each.
+# After this many inputs the command line is tried too, with a process for each.
 ASKED = 100
 IDS = ["MIT", "mit", "Zlib", "Apache-2.0", "GPL-2.0", "a", "b", "c", "x-1", "NONE", "NOASSERTION", "And", "oR", "and", "or", "with", "LicenseRef", "0"]
 REFERENCES = ["LicenseRef-own", "LicenseRef-1", "DocumentRef-d:LicenseRef-1", "DocumentRef-LicenseRef-a:LicenseRef-b"]
@@ -39,7 +39,7 @@ def term(turn):
 
 
 def grown(turn, leaves):
-    """An expression of so many terms."""
+    """An expression of this many terms."""
     if leaves == 1:
         return term(turn) if turn.random() < 0.9 else f"({term(turn)})"
     first = turn.randint(1, leaves - 1)
@@ -81,14 +81,14 @@ def text_of(turn):
 
 
 def inputs(seed, start):
-    """So many expressions, each with terms that may be chosen for it."""
+    """This many expressions, each with terms that may be chosen for it."""
     for number in range(start, start + SIZE):
         turn = random.Random(f"{seed} {NAME} {number}")
         yield text_of(turn), [term(turn) for _ in range(turn.randint(0, 3))]
 
 
 def chosen(text, terms):
-    """A minimal set of the expression where there is one, half of the time, else these terms."""
+    """A minimal set of the expression, if there is one, half of the time, otherwise these terms."""
     tree = second_judge.tree_of(text.encode(), second_judge.CAPITALS)
     if tree is None or len(terms) % 2 or len(second_lists.terms_of(tree)) > 12:
         return terms
@@ -115,7 +115,7 @@ def requests(text, terms):
 
 
 def checked(text, terms, profile):
-    """What `desk check` tells."""
+    """What `desk check` prints."""
     fault = expression_faults.fault_of(text.encode(), profile)
     if fault:
         return expression_faults.as_told(fault), 1
@@ -132,7 +132,7 @@ def checked(text, terms, profile):
 
 
 def listed(text, profile):
-    """What `desk alternatives` tells."""
+    """What `desk alternatives` prints."""
     fault = expression_faults.fault_of(text.encode(), profile)
     if fault:
         return expression_faults.as_told(fault), 1

@@ -1,6 +1,6 @@
-"""Folders with a REUSE.toml by grammar and by change, patterns of paths, and files with tags: many folders in one tree.
+"""Folders with a REUSE.toml from a grammar and by mutation, patterns of paths, and files with tags: many folders in one tree.
 
-Each folder is one input. `desk lint` tells what is wrong in any of them, `desk gather` what is stated in those without a fault."""
+Each folder is one input. `desk lint` reports what is wrong in any of them, `desk gather` what is stated in those without a fault."""
 
 import json
 import os
@@ -128,14 +128,14 @@ def flawed(out):
 
 
 def cannot_stand(files):
-    """A licence of a REUSE.toml alone, with blanks at its ends, can't stand in its field: then `gather` ends with status 2."""
+    """The only licence in a REUSE.toml, with blanks at its ends, can't be in its field: then `gather` ends with status 2."""
     tree = tree_read.Tree(files)
     licences = (tree.information(path)[1] for path in tree.covered())
     return any(len(each) == 1 and (each[0] != each[0].strip(" \t") or "\n" in each[0]) for each in licences)
 
 
 def told_beside(gather):
-    """What standard error says beside what `gather` wrote: the fault again, or what the document lacks."""
+    """What standard error says besides the output of `gather`: the fault again, or what the document lacks."""
     rows = gather.out.split(b"\n")
     licences, notices = (rows.count(tag + b": NOASSERTION") for tag in (b"LicenseConcluded", b"FileCopyrightText"))
     words = b"files without a licence: %d, without a notice: %d; the document says NOASSERTION of them\n" % (licences, notices)
@@ -166,7 +166,7 @@ def differing(told, wanted):
         return {0: f"{told!r:.300}, and not {wanted!r:.300}"}
     rows = [row for row in (*told, *wanted) if (row in told) != (row in wanted)]
     paths = {row: row if isinstance(row, str) else row[1] for row in rows}
-    found = {int(path.partition("/")[0]): f"{row!r} is {'told' if row in told else 'not told'}" for row, path in paths.items()}
+    found = {int(path.partition("/")[0]): f"{row!r} is {'reported' if row in told else 'not reported'}" for row, path in paths.items()}
     return found if found or told == wanted else {0: f"another order: {told!r:.300}, and not {wanted!r:.300}"}
 
 

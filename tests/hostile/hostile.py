@@ -4,9 +4,10 @@
     python3 tests/hostile/hostile.py PROGRAM [--minutes M] [--seed S] [--kinds KIND,..] [--count N] [--checked]
     python3 tests/hostile/hostile.py PROGRAM --seed S --show KIND NUMBER
 
-Inputs are made by grammar and by change from a seed, the kind and a number, so that each can be made again: `--show` makes one, prints it,
-and tries it with those of its batch. `--count` tries so many of each kind in place of some minutes. `--checked` is for a program that was
-compiled with checks of memory: it has no limit of memory, and more time. Ends with status 1 if something differs."""
+Inputs are generated from a grammar and by mutation, from a seed, the kind and a number, so that each can be generated again: `--show`
+generates one, prints it, and tries it with the others of its batch. `--count` tries this many of each kind instead of running for some
+minutes. `--checked` is for a program that was compiled with memory checks: it has no memory limit, and more time. Ends with status 1 if
+something differs."""
 
 import argparse
 import os
@@ -24,27 +25,28 @@ import connections
 import database_files
 import documents
 import expressions
+import fills
 import folders
 import json_documents
 import lines
 import reports
 import trees_made
 
-KINDS = {kind.NAME: kind for kind in (expressions, documents, json_documents, catalogues, lines, reports, connections, folders, trees_made,
-                                      database_files)}
+KINDS = {kind.NAME: kind for kind in (expressions, documents, json_documents, catalogues, lines, reports, fills, connections, folders,
+                                      trees_made, database_files)}
 SHOWN = 10
-# So many inputs of a kind meet what each run of them has to meet.
+# This many inputs of a kind meet what each run of them must meet.
 ENOUGH = 600
 
 
 def batch_of(kind, seed, number):
-    """The batch that an input is in, and where it begins."""
+    """The batch that contains an input, and where it begins."""
     start = number // kind.SIZE * kind.SIZE
     return list(kind.inputs(seed, start)), start
 
 
 def tried(program, kind, seed, start):
-    """Tries a batch, tells what differs, and answers how many inputs there were and how many differ."""
+    """Tries a batch, prints what differs, and returns how many inputs there were and how many differ."""
     batch, start = batch_of(kind, seed, start)
     differing = {}
     for place, words in kind.differences(program, batch):
@@ -55,12 +57,12 @@ def tried(program, kind, seed, start):
 
 
 def unmet_of(kind):
-    """What the inputs of a kind have to meet, and didn't."""
+    """What the inputs of a kind must meet, and didn't."""
     return sorted(getattr(kind, "MEETS", set()) - set(getattr(kind, "MET", ())))
 
 
 def slice_of(program, kind, seed, is_over):
-    """Tries batches until it is over, and prints what was tried."""
+    """Tries batches until the time is over, and prints what was tried."""
     begun, count, differing = time.monotonic(), 0, 0
     program.longest = program.runs = 0
     while not is_over(begun, count):

@@ -1,7 +1,7 @@
-"""What the bytes of a connection ask: a second reader of docs/HTTP.md and RFC 9112.
+"""What the bytes of a connection ask for: a second reader of docs/HTTP.md and RFC 9112.
 
-It takes a request apart leniently and notes what strict readers refuse. Where the standard leaves a byte to the reader, two answers are
-right: 400, and that of the request as it was taken apart."""
+It parses a request leniently and notes what strict readers refuse. If the standard leaves a byte to the reader, two answers are right: 400,
+and that for the request as it was parsed."""
 
 import re
 
@@ -17,7 +17,7 @@ OWN = rb"(?i:127\.0\.0\.1|localhost|\[::1\])"
 
 
 class Asked:
-    """A status alone, or a method, a target and a body. `is_sure` says whether the request may not be refused."""
+    """Only a status, or a method, a target and a body. `is_sure` says whether the request may not be refused."""
 
     def __init__(self, status=None, method=None, target=None, body=b"", is_sure=True):
         self.status, self.method, self.target, self.body, self.is_sure = status, method, target, body, is_sure
@@ -34,7 +34,7 @@ def head_of(data):
 
 
 def is_line(line):
-    """A line's CR stands at its end alone."""
+    """A line has a CR only at its end."""
     return b"\r" not in line.removesuffix(b"\r") and b"\0" not in line
 
 
@@ -47,7 +47,7 @@ def field_of(line):
 
 
 def length_of(fields):
-    """The length of the body, or None where the fields don't fit."""
+    """The length of the body, or None if the fields are inconsistent."""
     lengths = {value for name, value, _ in fields if name == b"content-length"}
     if any(not re.fullmatch(rb"[0-9]{1,18}", value) for value in lengths) or len({int(value) for value in lengths}) > 1:
         return None
@@ -71,7 +71,7 @@ def is_address(text, port):
 
 
 def is_foreign(fields, port):
-    """A browser sent these fields for a page of elsewhere ('Who can reach it' of the page)."""
+    """A browser sent these fields for a page from elsewhere ('Who can reach it' of the page)."""
     hosts = [value for name, value, _ in fields if name == b"host"]
     for name, value, _ in fields:
         if name == b"origin" and not (value[:7].lower() == b"http://" and is_address(value[7:], port)):
@@ -84,8 +84,8 @@ def is_foreign(fields, port):
 
 
 def asked(data, port=None):
-    """What all bytes of a connection ask, behind which the peer sends no more. None if it sent nothing. Pages of elsewhere count at a
-    port."""
+    """What all bytes of a connection ask for, after which the peer sends no more. None if it sent nothing. With a port, pages from
+    elsewhere are refused."""
     if not data:
         return None
     found = head_of(data)
@@ -135,7 +135,7 @@ def question_of(path):
 
 
 def request_of(asked):
-    """The request of a method, a target and a body: an object, the name of a fault, or bytes that are no catalogue."""
+    """The request of a method, a target and a body: an object, the name of a fault, or bytes that aren't a catalogue."""
     path = asked.target.partition(b"?")[0]
     if asked.method == b"GET":
         return question_of(path) or "route"

@@ -1,5 +1,5 @@
-"""Documents in JSON by grammar and by change: each is converted, and some are imported by `desk import`, beside the second reader of
-`json_read.py`. Changes are made to members and items, to texts as they are written, and to bytes."""
+"""Documents in JSON from a grammar and by mutation: each is converted, and some are imported by `desk import`, and compared with the second
+reader in `json_read.py`. Changes are made to members and items, to texts as they are written, and to bytes."""
 
 import collections
 import glob
@@ -13,9 +13,9 @@ import mutations
 import running
 
 NAME, SIZE = "conversions", 100
-# What comes of a document, each of which so many have to meet, and how often they met it.
+# The outcomes that must occur among this many documents, and how often they did.
 MEETS, MET = {"converted", "NotJson", "Missing", "BadType", "BadValue"}, collections.Counter()
-# Every so many inputs `desk import` has the file too.
+# After this many inputs `desk import` gets the file too.
 ASKED = 10
 TOOLS = sorted(glob.glob(os.path.join(running.TESTS, "convert/*.json")))
 # What can't be in a line, or can only just, or isn't what its member has.
@@ -24,7 +24,7 @@ TEXTS = ["", " ", " a", "a\t", "a\nb", "a\r", "\r\n", "\0", "\x1f", "\x7f", "\u2
 CODES = ["d6a770ba38583ed4bb4525bd96e50461655d2758", "D6A7", "da39a3ee5e6b4b0d3255bfef95601890afd80709"]
 LICENCES = [value for value in documents.CONCLUSIONS if value.strip()]
 ANNOTATION = [("annotationDate", "2010-01-29T18:30:22Z"), ("annotationType", "OTHER"), ("annotator", "Person: J"), ("comment", "c")]
-# Values of other types, among them numbers at the ends of what can be read, and what is no JSON.
+# Values of other types, including numbers at the limits of what can be read, and what isn't JSON.
 NUMBERS = ["0", "-0", "1", "1.5", "1e3", "-9223372036854775808", "18446744073709551616", "1" * 400, "1e308", "1.7976931348623158e308", "1e309", "-1e999", "1e-999"]
 WORDS = ["01", "1.", ".5", "+1", "1e", "NaN", "-Infinity", "True", "nul", "'a'", "undefined", "", ",", "0x1", '"\t"', '"\\x"', '"\\u12"', '"\\ud800"', '"\\udc00\\ud800"',
          '"\\ud800x"', '"a', "//", "/**/1"]
@@ -40,7 +40,7 @@ class Raw(str):
 
 
 class Within:
-    """A value with brackets before it and behind it."""
+    """A value with brackets before it and after it."""
 
     def __init__(self, value, brackets):
         self.value, self.before, self.behind = value, "".join(a for a, _ in brackets), "".join(b for _, b in reversed(brackets))
@@ -197,7 +197,7 @@ def damaged(turn, value):
     if kind < 0.2:
         del holder[at]
     elif kind < 0.35:
-        # (a member again, with the same value or another one, before it or behind it)
+        # (a member again, with the same value or another one, before or after it)
         again = holder[at]
         holder.insert(turn.randint(0, len(holder)), again)
         if turn.random() < 0.6:
@@ -213,7 +213,7 @@ def damaged(turn, value):
 
 
 def json_copy(value):
-    """A value of its own, so that none is within itself."""
+    """A copy of a value, so that none is within itself."""
     if isinstance(value, Members):
         return Members((key, json_copy(one)) for key, one in value)
     return [json_copy(one) for one in value] if isinstance(value, list) else value

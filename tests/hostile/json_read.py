@@ -1,7 +1,7 @@
 """A second reader of documents in JSON: what they are converted to, or why not, and what is left out.
 
-It is written from the JSON schema of SPDX 2.3, clauses 6 to 11, for the fields that say the same in a tag-value document, and from
-docs/DATABASE.md and docs/REFUSALS.md. Whether a value can be in its field is what the reader of tests/documents finds there."""
+It is written from the JSON schema of SPDX 2.3, clauses 6 to 11, for the fields that mean the same in a tag-value document, and from
+docs/DATABASE.md and docs/REFUSALS.md. The reader of tests/documents decides whether a value can be in its field."""
 
 import json
 import math
@@ -50,7 +50,7 @@ EXCLUDED = "packageVerificationCodeExcludedFiles"
 
 
 class Fault(Exception):
-    """What `desk convert` prints behind `fault: `."""
+    """What `desk convert` prints after `fault: `."""
 
 
 # ---- JSON
@@ -78,7 +78,7 @@ def has_half(value):
 
 
 def object_with(pairs):
-    """An object: of two values of one key the later one counts. The earlier one has to be readable too."""
+    """An object: of two values of one key the later one counts. The earlier one must be readable too."""
     if any(has_half(key) or has_half(value) for key, value in pairs):
         raise ValueError
     return dict(pairs)
@@ -162,7 +162,7 @@ class Conversion:
         return "".join(self.parts).encode()
 
     def left_out(self):
-        """What is said on standard error of what was left out."""
+        """What standard error says about what was left out."""
         names = ("annotations", "external references", "references to documents", "other fields")
         return "left out: {}\n".format(", ".join(f"{count} {name}" for count, name in zip(self.left, names))).encode()
 
@@ -258,7 +258,7 @@ class Conversion:
         self.parts_of(at, value, "hasFiles", lambda place, item: self.tie(place, text_in(value, "SPDXID"), "CONTAINS", item))
 
     def tie(self, at, left, kind, right):
-        """A relationship that is no item of `relationships`."""
+        """A relationship that isn't an item of `relationships`."""
         if not is_word(self.text_at(at, right)):
             raise Fault(f"BadValue at {at}")
         self.put(at, "Relationship", f"{left} {kind} {right}")
@@ -289,7 +289,7 @@ class Conversion:
 
 
 def converted(data):
-    """What `desk convert` writes, its status, and what it says on standard error."""
+    """What `desk convert` writes, its status, and its standard error."""
     try:
         conversion = Conversion(data)
     except Fault as fault:
@@ -298,7 +298,7 @@ def converted(data):
 
 
 def taken(data):
-    """The bytes that `desk import` takes of a file, and what it says of them first on standard error."""
+    """The bytes that `desk import` imports of a file, and what it first writes about them to standard error."""
     if oracle.answer(data) == "document":
         return data, b""
     try:

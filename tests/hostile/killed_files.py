@@ -1,4 +1,5 @@
-"""Kills of `desk import`, `desk catalogue` and `desk migrate`, a process for each file: what it replied stands, and what stands is whole."""
+"""Kills of `desk import`, `desk catalogue` and `desk migrate`, a process for each file: what it replied is in the file, and what is in the
+file is complete."""
 
 import json
 import os
@@ -13,12 +14,12 @@ import offices
 import running
 
 PACKAGES = 300
-# Every so many kills the desk is a new one.
+# After this many kills the desk is a new one.
 NEW = 100
 
 
 class Differs(Exception):
-    """What was replied doesn't stand, or something else does."""
+    """What was replied isn't in the file, or something else is."""
 
 
 def line(**request):
@@ -26,7 +27,7 @@ def line(**request):
 
 
 def beside(word, err):
-    """What a subcommand may say on standard error beside its reply: an import what it took in."""
+    """What a subcommand may write to standard error besides its reply: an import writes what it imported."""
     told = re.fullmatch(rb"read by profile 1: packages: [^\n]+\nfindings: [^\n]+\n", err)
     return err if word == "import" and told else b""
 
@@ -71,14 +72,14 @@ def write(path, text):
 
 
 def replied(out, whole, what):
-    """Whether a process told its reply, which is this one."""
+    """Whether a process printed its reply, which is this one."""
     if out and not whole.startswith(out):
         raise Differs(f"{what} is replied {out!r}, and not {whole!r}")
     return out == whole
 
 
 def imports(program, room, turn, times):
-    """Each document is imported and killed, and then imported again: that tells whether it stands."""
+    """Each document is imported and killed, and then imported again, which shows whether it is in the file."""
     file, count, told, stood = os.path.join(room, "document"), 0, 0, 0
     write(file, document("first"))
     longest = taken(program, "import", "--db", os.path.join(room, "first.db"), file)
@@ -94,7 +95,7 @@ def imports(program, room, turn, times):
         if found.get("document") != count + 1 or is_told and found["new"]:
             raise Differs(f"import {number}: {out!r}, and then {again!r}")
         count, told, stood = count + 1, told + is_told, stood + (not found["new"])
-    return f"{told:,} imports were replied and stand, {stood - told} stand that weren't"
+    return f"{told:,} imports were replied and are in the file, and {stood - told} that weren't replied"
 
 
 def catalogues(program, room, turn, times):
@@ -116,7 +117,7 @@ def catalogues(program, room, turn, times):
         if not stands and (is_told or asked.out != b'{"at":[],"name":"UnknownForm","refused":11}\n'):
             raise Differs(f"catalogue {number}: {out!r}, and then {asked!r}")
         revision, told, stood = revision + stands, told + is_told, stood + stands
-    return f"{told:,} catalogues were replied and stand, {stood - told} stand that weren't"
+    return f"{told:,} catalogues were replied and are in the file, and {stood - told} that weren't replied"
 
 
 def older(program, path, version):
@@ -136,7 +137,7 @@ def older(program, path, version):
 
 
 def migrations(program, room, turn, times):
-    """An older file is migrated and killed: it is of the older version still, or of the new one and sound."""
+    """An older file is migrated and killed: it still has the older version, or the new one and is sound."""
     if program.run("migrate", "--help").status != 0:
         return "this program has no migrate"
     told, stood, path = 0, 0, os.path.join(room, "desk.db")
@@ -159,7 +160,7 @@ def migrations(program, room, turn, times):
             raise Differs(f"migration {number}: {out!r}, and then {again!r}")
         sound(program, path)
         told, stood = told + is_told, stood + stands
-    return f"{told:,} migrations were told and stand, {stood - told} stand that weren't"
+    return f"{told:,} migrations were replied and are in the file, and {stood - told} that weren't replied"
 
 
 KINDS = {"import": imports, "catalogue": catalogues, "migrate": migrations}

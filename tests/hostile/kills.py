@@ -1,10 +1,10 @@
 #!/usr/bin/env python3
-"""Kills the program by SIGKILL at random moments while it writes a desk's file, and looks what stands:
+"""Kills the program by SIGKILL at random moments while it writes a desk's file, and checks what is left:
 
     python3 tests/hostile/kills.py PROGRAM [--times N] [--seed S] [--kinds script,serve,import,catalogue,migrate] [--checked]
 
-After each kill `desk audit` has to say `sound`, and the desk has to answer as a second desk does (second_desk.py) after all that was replied,
-or after some of the requests more that were sent and not replied. Ends with status 1 if something differs."""
+After each kill `desk audit` must say `sound`, and the desk must answer as a second desk (second_desk.py) does after all requests that were
+replied to, or after some more of those that were sent but not replied to. Ends with status 1 if something differs."""
 
 import argparse
 import http.client
@@ -104,7 +104,7 @@ def ended(process):
 
 
 def over_http(port, request):
-    """The reply to a request, or None where the connection broke."""
+    """The reply to a request, or None if the connection broke."""
     client = http.client.HTTPConnection("127.0.0.1", port, timeout=running.SECONDS)
     try:
         client.request("POST", "/commands", line(request))
@@ -150,7 +150,8 @@ def answers(program, path, questions):
 
 
 def looked_at(program, path, desk, sent, told, numbers):
-    """The second desk after what was done: after all that was replied, and perhaps some of what was sent behind it. Answers how much more."""
+    """The second desk after what was done: after all that was replied, and perhaps some of what was sent after that. Returns how much
+    more."""
     for request, reply in zip(sent, told):
         wanted = desk.answer(request)
         if reply != wanted:
@@ -163,11 +164,11 @@ def looked_at(program, path, desk, sent, told, numbers):
             return more
         if more < len(rest):
             desk.answer(rest[more])
-    raise Differs(f"after {len(told)} replies and {len(rest)} requests more the desk answers otherwise: {found!r:.600}")
+    raise Differs(f"after {len(told)} replies and {len(rest)} more requests the desk answers otherwise: {found!r:.600}")
 
 
 def of_requests(kill):
-    """Kills a desk again and again while it serves requests, which go on from where the second desk is."""
+    """Kills a desk again and again while it serves requests, which continue from where the second desk is."""
     def kills(program, room, turn, times):
         more, replies, path, desk = 0, 0, None, None
         for time_ in range(times):
@@ -182,7 +183,7 @@ def of_requests(kill):
             opened = sum(request["do"] == "open" for request in sent)
             behind = looked_at(program, path, desk, sent, told, range(first, first + opened + 1)[-LOOKED_AT:])
             more, replies = more + behind, replies + len(told)
-        return f"{replies:,} replies stand, {more} requests more were done than replied"
+        return f"{replies:,} replies are in the file, and {more} more requests that weren't replied"
     return kills
 
 

@@ -1,7 +1,7 @@
-"""Requests in JSON by grammar and by change, a session of them on one desk, in memory and in a file.
+"""Requests in JSON from a grammar and by mutation, a session of them on one desk, in memory and in a file.
 
-An input is a line. The lines of a session follow one another on a desk, so they are made together; a session in a file is audited at its
-end, by the program and by tests/second_judge.py."""
+An input is a line. The lines of a session follow one another on a desk, so they are generated together; a session in a file is audited at
+its end, by the program and by tests/second_judge.py."""
 
 import json
 import os
@@ -19,7 +19,7 @@ import second_desk
 import second_judge
 
 NAME, SIZE = "requests", 1_000
-# Every so many sessions the desk is in a file.
+# Once in this many sessions the desk is in a file.
 IN_A_FILE = 4
 RELEASES = ["r1", "r2", "r3", "r-4", "R1", "bad name", "", "é", "r" * 64, "r" * 65]
 FORMS = ["binary", "source", "service", "tape", ""]
@@ -33,7 +33,7 @@ DOCUMENTS = [offices.DOCUMENT, offices.SMALL_DOCUMENT, offices.PLAIN_DOCUMENT]
 CATALOGUES = [offices.CATALOGUE, offices.LATER_CATALOGUE]
 CHOICES = [("SPDXRef-a", ["MIT"]), ("SPDXRef-a", ["Zlib"]), ("SPDXRef-b", ["LicenseRef-own"]), ("SPDXRef-b", ["Zlib"]), ("SPDXRef-d", [TERMS[6]]),
            ("SPDXRef-c", ["MIT"]), ("SPDXRef-p", ["MIT", "zlib"]), ("SPDXRef-q", ["Zlib"]), ("SPDXRef-q", [TERMS[5]]), ("SPDXRef-m", ["MIT"])]
-# What is no JSON, or none of a request.
+# What isn't JSON, or isn't JSON of a request.
 OTHERS = [b"", b" ", b"\t\r", b"{}", b"[]", b"null", b"1", b'"x"', b"{", b"[" * 200, b"[" * 20_000, b'{"a":' * 3_000, b"\xff", b'{"do":"open"}',
           b'{"ask":"totals","release":"r1"}{}', b'{"ask":"totals","release":"r1",}', b'{"ask":"totals","release":NaN}', b'{"ask":"changes","duty":-0}',
           b'{"ask":"changes","duty":1.0}', b'{"ask":"changes","duty":1e0}', b'{"ask":"changes","duty":01}', b'{"ask":"changes","duty":18446744073709551617}',
@@ -77,13 +77,13 @@ RARE = {"catalogue": 0.1, "import": 0.2, "withdraw": 0.15, "close": 0.4, "open":
 
 
 def grown(turn):
-    """A request as an object, one of its keys wanting or too many now and then."""
+    """A request as an object, sometimes with a key that is missing or superfluous."""
     first = "do" if turn.random() < 0.65 else "ask"
     kind = turn.choice(KINDS if first == "do" else list(requests_read.QUESTIONS))
     if turn.random() > RARE.get(kind, 1) and first == "do":
         kind = turn.choice(["choose", "meet", "waive", "reopen"])
     keys = (requests_read.KEYS if first == "do" else requests_read.QUESTIONS)[kind].split()
-    if kind in requests_read.MAY_BE_LEFT_OUT and first == "do" and turn.random() < 0.4:
+    if kind in requests_read.MAY_BE_LEFT_OUT and turn.random() < 0.4:
         keys = [*keys, requests_read.MAY_BE_LEFT_OUT[kind]]
     of_key = values(turn)
     request = {first: kind, **{key: text_for(turn, kind) if key == "text" else of_key[key]() for key in keys}}
@@ -103,7 +103,7 @@ def line_of(turn, request):
 
 
 def is_sure(request):
-    """A catalogue that two readers of TOML may take differently isn't, and would leave the second desk behind."""
+    """A catalogue that two readers of TOML may read differently isn't sure: the second desk would no longer agree."""
     is_catalogue = isinstance(request, dict) and request.get("do") == "catalogue"
     return not is_catalogue or catalogue_faults.is_sure(request["text"])
 
@@ -135,12 +135,12 @@ def inputs(seed, start):
 
 
 def session_of(batch):
-    """A session is in a file by what its lines are, so that it is so again."""
+    """Whether a session is in a file depends on its lines, so that it can be repeated."""
     return sum(map(len, batch)) % IN_A_FILE == 0
 
 
 def is_deep(line):
-    """Objects in one another, of which the two readers of JSON may take another number."""
+    """Nested objects, of which the two readers of JSON may accept different depths."""
     depth = deepest = 0
     for byte in re.sub(rb'"([^"\\]|\\.)*"', b"", line):
         depth += (byte in b"[{") - (byte in b"]}")
@@ -164,7 +164,7 @@ def told(done, batch, wanted, places):
 
 
 def of_a_file(program, batch, wanted, places):
-    """The same over a file, whose tables have to be sound behind it by two judges."""
+    """The same over a file, whose tables two judges must find sound afterwards."""
     with tempfile.TemporaryDirectory(dir=running.ROOM) as room:
         path = os.path.join(room, "desk.db")
         yield from told(program.run("script", "--db", path, text=b"".join(batch)), batch, wanted, places)

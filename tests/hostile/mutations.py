@@ -1,4 +1,4 @@
-"""Changes of bytes at random: what is done to texts that were well formed."""
+"""Random changes of bytes, applied to texts that were well formed."""
 
 # Bytes and words that readers of these formats stop at.
 TOKENS = [

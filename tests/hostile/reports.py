@@ -1,5 +1,5 @@
-"""Notices, pages, tables and lists of files that generated sessions made, each beside what the second desk writes (`second_views.py`):
-comma-separated values, and columns on a terminal. Names, titles and texts have markup, formulas, and letters that a terminal obeys."""
+"""Notices, pages, tables and lists of files that generated sessions made, each compared with what the second desk writes (`second_views.py`):
+comma-separated values, and columns on a terminal. Names, titles and texts contain markup, formulas, and letters that a terminal obeys."""
 
 import json
 import os
@@ -162,7 +162,7 @@ def rows_of(desk, of, kept):
 
 
 def report(desk, asked):
-    """What a report has to be."""
+    """What a report must be."""
     kind, of, kept, is_shown = asked
     if kind == "list":
         rows = list(rows_of(desk, of, kept))
@@ -212,7 +212,7 @@ def differences(program, batch):
         wanted = [told for told in map(desk.reply, made) if told is not None]
         told = running.lines(program.run("script", "--db", path, text=b"".join(made)).out)
         if told != wanted:
-            yield 0, f"the session {b''.join(made)!r:.3000} is replied {list(running.compared(made, told, wanted))[:1]}"
+            yield 0, f"the session {b''.join(made)!r:.3000} gets the replies {list(running.compared(made, told, wanted))[:1]}"
             return
         size = os.path.getsize(path)
         for place, (_, _, question_asked) in enumerate(batch):

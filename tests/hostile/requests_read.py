@@ -11,9 +11,9 @@ KEYS = {
 QUESTIONS = {
     "duties": "release", "totals": "release", "changes": "duty", "findings": "document", "release": "release",
     "alternatives": "document package", "cheapest": "document form package", "releases": "", "documents": "", "open": "",
-    "wanting": "release",
+    "wanting": "release", "ready": "release",
 }
-MAY_BE_LEFT_OUT = {"import": "profile", "waive": "until"}
+MAY_BE_LEFT_OUT = {"import": "profile", "waive": "until", "ready": "day"}
 NUMBERS = {"document", "duty", "profile"}
 LINE_BYTES = 8 << 20
 LARGEST = (1 << 63) - 1
@@ -48,7 +48,7 @@ def is_text(value):
 
 
 def value_of(key, value):
-    """The value of a key, or None where it is of another kind."""
+    """The value of a key, or None if it is of another kind."""
     if key in NUMBERS:
         is_number = isinstance(value, Number) and not value.startswith("-") and len(value) < 20 and int(value) <= LARGEST
         return int(value) if is_number else None
@@ -62,7 +62,7 @@ def keys_of(request):
     for first, kinds in (("do", KEYS), ("ask", QUESTIONS)):
         kind = request.get(first)
         if is_text(kind) and kind in kinds:
-            return {first, *kinds[kind].split()}, {MAY_BE_LEFT_OUT.get(kind, first)} if first == "do" else set()
+            return {first, *kinds[kind].split()}, {MAY_BE_LEFT_OUT.get(kind, first)}
     return None, None
 
 
@@ -74,7 +74,7 @@ def has_half(value):
 
 
 def object_with(pairs):
-    """An object. Of two values of one key the later one counts, but the earlier one has to be readable too."""
+    """An object. Of two values of one key the later one counts, but the earlier one must be readable too."""
     if any(has_half(key) or has_half(value) for key, value in pairs):
         raise ValueError
     return dict(pairs)

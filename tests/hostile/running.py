@@ -1,4 +1,4 @@
-"""Runs the program that is tried, with a limit of time and of memory, and judges what any answer must be like."""
+"""Runs the program under test, with a limit of time and of memory, and checks what every answer must satisfy."""
 
 import os
 import re
@@ -12,17 +12,17 @@ TESTS = os.path.dirname(HERE)
 sys.path[:0] = [TESTS, *(os.path.join(TESTS, name) for name in ("acceptance", "alternatives", "audits", "documents"))]
 sys.dont_write_bytecode = True
 
-# A small input is answered within these seconds, also where other work slows the machine down.
+# A small input is answered within these seconds, even if other work slows the machine down.
 SECONDS = 10
-# What a process may take beside ten times its input. A program that is compiled with checks of memory has no such limit.
+# What a process may take besides ten times its input. A program that is compiled with checks of memory has no such limit.
 MEMORY = 256 << 20
-# A file system in memory, where there is one.
+# A file system in memory, if there is one.
 ROOM = "/dev/shm" if os.path.isdir("/dev/shm") else None
 STATUSES = {0, 1, 2, 3}
 
 
 class Done:
-    """What came of a run. The status is None where nothing came in time."""
+    """The result of a run. The status is None if nothing came in time."""
 
     def __init__(self, status, out, err, seconds):
         self.status, self.out, self.err, self.seconds = status, out, err, seconds
@@ -64,7 +64,7 @@ class Program:
 
 
 def unlike(done, statuses=STATUSES, beside=b""):
-    """What no answer may be: late, a crash, a status or words that no page has. None if it is an answer, with these words beside it."""
+    """What no answer may be: late, a crash, a status or words that no page has. None if it is an answer, with these words besides it."""
     if done.status is None:
         return f"nothing within {done.seconds:.0f} seconds"
     if done.status not in statuses:

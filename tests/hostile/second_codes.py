@@ -1,4 +1,4 @@
-"""Package verification codes (SPDX 2.3, clause 7.9): their form, and whether one is that of the package's files."""
+"""Package verification codes (SPDX 2.3, clause 7.9): their form, and whether one is the code of the package's files."""
 
 import hashlib
 import re

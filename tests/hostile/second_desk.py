@@ -68,6 +68,13 @@ class Duty:
         self.number, self.release, self.row = number, release, row
         self.state, self.changes = "open", [[1, day, "raised", ""]]
 
+    def is_over(self, day):
+        """Whether it is waived up to an earlier day than this one."""
+        return self.state == "waived" and len(self.changes[-1]) == 5 and self.changes[-1][4] < day
+
+    def told(self):
+        return [self.number, *self.row, self.state, self.changes[-1][1]]
+
     def move(self, day, word, text, state, *until):
         self.changes.append([len(self.changes) + 1, day, word, text, *until])
         self.state = state
@@ -79,7 +86,7 @@ class SecondDesk:
         self.namespaces = {}
 
     def reply(self, line):
-        """The reply to a line, None where it has none."""
+        """The reply to a line, None if it has none."""
         if requests_read.is_blank(line):
             return None
         request = requests_read.request_of(line)
@@ -256,7 +263,7 @@ class SecondDesk:
 
     def do_close(self, request):
         refuse_if(not second_judge.is_day(request["day"].encode()), 26)
-        ended = [duty for duty in self.duties if duty.state == "waived" and len(duty.changes[-1]) == 5 and duty.changes[-1][4] < request["day"]]
+        ended = [duty for duty in self.duties if duty.is_over(request["day"])]
         for duty in ended:
             duty.move(request["day"], "ended", "", "open")
         return {"closed": len(ended)}
@@ -275,8 +282,7 @@ class SecondDesk:
     # ---- questions
 
     def ask_duties(self, request):
-        rows = self.release(request).duties
-        return {"rows": [[duty.number, *duty.row, duty.state, duty.changes[-1][1]] for duty in rows]}
+        return {"rows": [duty.told() for duty in self.release(request).duties]}
 
     def ask_totals(self, request):
         states = [duty.state for duty in self.release(request).duties]
@@ -356,3 +362,9 @@ class SecondDesk:
         refuse_if(release.state != "open", 13, release.state)
         found = [refusal for number, name in self.shipped(release) for refusal in self.stands_against(release, number, name)]
         return {"rows": [Refused(*refusal).told for refusal in (dict.fromkeys(found) if release.documents else [(20,)])]}
+
+    def ask_ready(self, request):
+        refuse_if("day" in request and not second_judge.is_day(request["day"].encode()), 26)
+        release = self.release(request)
+        refuse_if(release.state != "frozen", 13, release.state)
+        return {"rows": [duty.told() for duty in release.duties if duty.state == "open" or "day" in request and duty.is_over(request["day"])]}

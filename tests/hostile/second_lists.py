@@ -49,7 +49,7 @@ def least(sets):
 
 
 def front(tree):
-    """The minimal sets of a tree, or None where some part, or the first few of its parts, have too many."""
+    """The minimal sets of a tree, or None if some part, or the first few of its parts, have too many."""
     if isinstance(tree, bytes):
         return [frozenset([tree])]
     joined = None

@@ -1,8 +1,8 @@
-"""The slowest inputs within the limits that are known, of each kind: each function writes the files of one, and gives the words of a command,
-the name of its standard input and how many bytes a stranger wrote.
+"""The slowest known inputs within the limits, of each kind: each function writes the files of one, and returns the words of a command, the
+name of its standard input and how many bytes a stranger wrote.
 
-The limits are those of docs/REQUESTS.md, docs/CATALOGUE.md and docs/HTTP.md: an expression has 16,384 bytes and 1,024 terms, a document and a
-catalogue 4 MiB, a line 8 MiB, a tree 10,000 files."""
+The limits are those of docs/REQUESTS.md, docs/CATALOGUE.md and docs/HTTP.md: an expression has 16,384 bytes and 1,024 terms, a document and
+a catalogue 4 MiB, a line 8 MiB, a tree 10,000 files."""
 
 import json
 import os
@@ -30,7 +30,7 @@ def write(room, name, text):
 
 
 def full(begin, piece, size=4 * MIB):
-    """A text of so many bytes, or a few less: one piece over and over."""
+    """A text of this many bytes, or a few less: one piece over and over."""
     return begin + piece * ((size - len(begin.encode())) // len(piece.encode()))
 
 
@@ -202,7 +202,7 @@ def pattern(text, files, paths=long_path, each=3_750):
 
 
 def runs_that_fail(room):
-    """A pattern whose bytes nearly stand at each place of many long names."""
+    """A pattern that nearly matches at each place of many long names."""
     size = write(room, "tree/REUSE.toml", f'version = 1\n[[annotations]]\npath = "*{"a" * 120}b*"\n{LICENCE} = "MIT"\n')
     for n in range(MOST - 1):
         name = f"{n:04}" + "a" * 246
@@ -218,7 +218,7 @@ def many_annotations(room):
 
 
 def patterns_that_fail(room):
-    """Patterns that nearly match each of many long names: each is held against each path."""
+    """Patterns that nearly match each of many long names: each is compared with each path."""
     patterns = ", ".join(f'"*a*b{n}"' for n in range(1_000))
     size = write(room, "tree/REUSE.toml", f'version = 1\n[[annotations]]\npath = [{patterns}]\n{LICENCE} = "MIT"\n')
     for n in range(MOST - 1):
@@ -233,7 +233,8 @@ def many_files(room):
 
 
 def nested_files(depth, each):
-    """Nested folders of so many files each, with a REUSE.toml that counts for all below it. A file's path is written by a stranger, too."""
+    """Nested folders with this many files each, and a REUSE.toml that counts for all below it. A file's path is written by a stranger,
+    too."""
     toml = f'version = 1\n[[annotations]]\npath = "**"\nprecedence = "aggregate"\n{LICENCE} = "l{{}}"\n{NOTICE} = "n{{}}"\n'
 
     def made(room):
@@ -253,12 +254,12 @@ def nested_files(depth, each):
 
 
 def licensing(path, licences):
-    """An annotation that counts beside what files state: a path, and so many licences."""
+    """An annotation that counts in addition to what files state: a path, and this many licences."""
     return f'[[annotations]]\npath = "{path}"\nprecedence = "aggregate"\n{LICENCE} = [' + ", ".join(f'"{n}"' for n in licences) + "]\n"
 
 
 def many_licences(each):
-    """A REUSE.toml of so many licences, over files that have a tag each."""
+    """A REUSE.toml of this many licences, over files that have a tag each."""
     def made(room):
         size = write(room, "tree/REUSE.toml", "version = 1\n" + licensing("**", (f"l{n}" for n in range(each))))
         size += sum(write(room, f"tree/f{n}", f"{LICENCE}: m{n}\n") + len(f"f{n}") for n in range(MOST - 1))
@@ -279,13 +280,13 @@ DEEP = "/".join(["d" * 240] * 14)
 
 
 def licences_of_a_deep_file(room):
-    """A million licences over a file in a deep folder, whose path each line names."""
+    """A million licences over a file in a deep folder, with its path on each line."""
     size = write(room, "tree/REUSE.toml", "version = 1\n" + licensing("**", (f"l{n}" for n in range(1_000_000))))
     return ["lint", "tree"], None, size + write(room, f"tree/{DEEP}/f", "x") + len(f"{DEEP}/f")
 
 
 def bad_tags(folder):
-    """A file of 400,000 tags that are no licence expression."""
+    """A file of 400,000 tags that aren't licence expressions."""
     def made(room):
         return ["lint", "tree"], None, write(room, f"tree/{folder}/f", f"{LICENCE}: (\n" * 400_000) + len(f"{folder}/f")
     return made
@@ -349,7 +350,7 @@ def many_terms_chosen(room):
 
 
 def other_terms_chosen(room):
-    """Terms of which the expression has one alone."""
+    """Terms of which the expression has only one."""
     return of_choice(room, "0", [f"{n}" for n in range(900_000)])
 
 
@@ -397,7 +398,7 @@ def large_body(room):
     return ["serve", "at once"], "sent", write(room, "sent", b"POST /commands HTTP/1.1\r\nContent-Length: %d\r\n\r\n" % len(body) + body)
 
 
-# ---- database files: a desk's tables, and many rows more
+# ---- database files: a desk's tables, and many more rows
 
 
 def many_rows(text):

@@ -1,11 +1,11 @@
 #!/usr/bin/env python3
-"""Has the program serve for long, and looks whether its memory, its descriptors and its file's log stay as they are:
+"""Has the program serve for a long time, and checks that its memory, its descriptors and its file's log don't grow:
 
     python3 tests/hostile/soak.py PROGRAM [--connections N] [--lines N]
 
-So many requests over HTTP go to one `desk serve`, and so many lines to one `desk script --db`; most ask, and some write: duties are met and
-reopened in turn over 400 releases, so what the desk holds grows a little and no more. From the first tenth on, memory may grow by the rows
-that were written and a mebibyte, and descriptors not at all. Ends with status 1 if they do."""
+This many requests over HTTP go to one `desk serve`, and this many lines to one `desk script --db`; most ask, and some write: duties are met
+and reopened in turn over 400 releases, so the desk's contents grow only a little. From the first tenth on, memory may grow by the rows that
+were written plus a mebibyte, and descriptors not at all. Ends with status 1 if they grow more."""
 
 import argparse
 import json
@@ -25,7 +25,7 @@ import serving
 
 CONNECTIONS, LINES = 1_000_000, 10_000_000
 RELEASES, TENTHS = 400, 10
-# Of so many requests one writes.
+# One of this many requests writes.
 WRITES = 20
 # What a process may grow by after the first tenth: a mebibyte, and what a written row takes in memory.
 GROWTH, ROW = 1 << 20, 160
@@ -48,7 +48,7 @@ def first_requests():
 
 
 def requests(count):
-    """So many requests: questions, refused ones, lines that are no request, and moves of duties until each has its changes."""
+    """This many requests: questions, refused ones, lines that aren't requests, and moves of duties until each has its changes."""
     moves = 0
     for number in range(count):
         duty, kind = number % (2 * RELEASES) + 1, number % WRITES
@@ -67,7 +67,7 @@ def requests(count):
 
 
 class Measured:
-    """What a process holds, after each tenth of its requests."""
+    """What a process uses, after each tenth of its requests."""
 
     def __init__(self, process, path, count):
         self.process, self.path, self.step, self.rows = process, path, max(1, count // TENTHS), []
@@ -87,7 +87,7 @@ class Measured:
         return os.path.getsize(self.path + "-wal") if os.path.exists(self.path + "-wal") else 0
 
     def told(self, what, seconds):
-        """Prints what was measured, and answers whether it stayed flat."""
+        """Prints what was measured, and returns whether it stayed flat."""
         first, last = self.rows[0], self.rows[-1]
         written = (last[0] - first[0]) // WRITES
         is_flat = last[1] - first[1] <= GROWTH + ROW * written and last[2] <= first[2] and max(row[3] for row in self.rows) <= LOG
@@ -115,7 +115,7 @@ def over_http(program, room, count):
             body = line(request)
             told = desk.raw(b"POST /commands HTTP/1.1\r\nHost: localhost\r\nContent-Length: %d\r\n\r\n" % len(body) + body)
             if not told.startswith(b"HTTP/1.1 ") or told.startswith(b"HTTP/1.1 5"):
-                sys.exit(f"request {number} is told {told!r:.300}")
+                sys.exit(f"the reply to request {number} is {told!r:.300}")
         measured.look(count // TENTHS * TENTHS)
         is_flat = measured.told("connections", time.monotonic() - begun)
         desk.raw(b"")

@@ -1,6 +1,6 @@
 """What a source tree states: a second reader of REUSE Specification 3.3, docs/LINT.md and docs/DECISIONS.md ("Source trees").
 
-`gathered` answers as tests/acceptance/trees.py tells what `desk gather` prints, `linted` what `desk lint --json` lists."""
+`gathered` returns what tests/acceptance/trees.py reports about the output of `desk gather`, `linted` what `desk lint --json` lists."""
 
 import re
 
@@ -21,7 +21,7 @@ PLAIN_NAMES = re.compile(r"(LICENSE|LICENCE|COPYING)(\..*)?", re.S)
 
 
 def runs_of(data):
-    """The runs of each line: what stands outside the stretches that are ignored."""
+    """The runs of each line: what is outside ignored stretches."""
     at, line = [], []
     while True:
         start, feed = data.find(START), data.find(b"\n")
@@ -41,7 +41,7 @@ def runs_of(data):
 
 
 def value_in(run, tag):
-    """What stands behind a tag in a run, without blanks and the end of a comment."""
+    """What follows a tag in a run, without blanks and the end of a comment."""
     blanks = b" \t"
     text = run.partition(tag)[2].strip(blanks)
     for end in (b"*/", b"-->", b"*)", b"-}"):
@@ -147,7 +147,7 @@ class Tree:
         return path + ".license" if path + ".license" in self.files else path
 
     def own(self, path, tag):
-        """What a file states itself, licences that are no expression among it."""
+        """What a file states itself, including licences that aren't expressions."""
         return [text for _, text in stated(self.files[self.source(path)], tag)]
 
     def counting(self, path):
@@ -177,7 +177,7 @@ class Tree:
         return told[0], told[1]
 
     def first_fault(self):
-        """The line of the first fault that `gather` tells, or None."""
+        """The line of the first fault that `gather` reports, or None."""
         for path in sorted((path for path in self.files if is_reuse(path)), key=str.encode):
             found = self.annotations[path.rpartition("REUSE.toml")[0]]
             if found is None:
@@ -190,7 +190,7 @@ class Tree:
         return None
 
     def bad_licences(self):
-        """Each licence of a covered file that is no expression, by the file that states it and its line."""
+        """Each licence of a covered file that isn't an expression, by the file that states it and its line."""
         for source in sorted({self.source(path) for path in self.covered()}, key=str.encode):
             for line, text in stated(self.files[source], LICENCE_TAG):
                 if not is_expression(text):
@@ -208,14 +208,14 @@ def is_covered(path, data):
 
 
 def joined(licences):
-    """The expression of a file, as tests/acceptance/trees.py tells it."""
+    """The expression of a file, as tests/acceptance/trees.py reports it."""
     if len(licences) < 2:
         return licences[0] if licences else "-"
     return " AND ".join(f"({licence})" for licence in licences)
 
 
 def gathered(files):
-    """What is told of each covered file by its path, or the line of the first fault."""
+    """What is reported about each covered file by its path, or the line of the first fault."""
     tree = Tree(files)
     fault = tree.first_fault()
     if fault:
@@ -251,7 +251,7 @@ def key_of_text(path):
 
 
 def key_of(name):
-    """Licences and exceptions are told apart whatever their case, references byte for byte."""
+    """Licences and exceptions are compared ignoring case, references byte for byte."""
     return name if name.startswith(("LicenseRef-", "DocumentRef-")) else second_lists.folded(name)
 
 
@@ -275,7 +275,7 @@ def flaws_in(tree):
 
 
 def blanks_in(tree):
-    """Licences with a blank at an end, of REUSE.toml files all of whose annotations can be read."""
+    """Licences with a blank at an end, in REUSE.toml files whose annotations can all be read."""
     blanks = []
     for path in sorted((path for path in tree.files if is_reuse(path)), key=str.encode):
         found = tree.annotations[path.rpartition("REUSE.toml")[0]] or []

@@ -1,4 +1,4 @@
-"""Source trees by grammar: folders in one another, licences' texts, what is left out, links and names that hardly stand. A tree is an input."""
+"""Source trees from a grammar: nested folders, licence texts, what is left out, links, and names that are barely allowed. A tree is an input."""
 
 import os
 import random
@@ -42,7 +42,7 @@ def compared(files, gather, lint):
 
 
 def with_links(room, files):
-    """Links and a pipe in the tree count for nothing."""
+    """Links and a pipe in the tree are ignored."""
     os.symlink("/etc/passwd", os.path.join(room, "link"))
     os.symlink(room, os.path.join(room, "round"))
     os.mkfifo(os.path.join(room, "pipe"))

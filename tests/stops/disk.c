@@ -123,7 +123,7 @@ static int cut_by(cutter next, int file, off_t size)
     }
 }
 
-/* Copies the file, which was synced, into the folder of what is kept. */
+/* Copies the file, which was synced, into the folder of kept files. */
 static int keep(int file)
 {
     reader next = NEXT(reader, "pread");

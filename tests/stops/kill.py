@@ -1,7 +1,7 @@
 """Kills the program again and again while it serves requests: python3 tests/stops/kill.py PROGRAM [TIMES]
 
-Each time the desk of one file is opened, is sent requests as fast as it replies, and is killed by SIGKILL after a random while. Then the
-rows that SQLite reads from a copy of the files are those of all requests that were replied to, and of one more at most.
+Each time a desk in a file is opened, is sent requests as fast as it replies, and is killed by SIGKILL after a random time. Then the rows
+that SQLite reads from a copy of the files must be those of all requests that were replied to, and of at most one more.
 """
 
 import json
@@ -50,7 +50,7 @@ def names_in(path, room):
 
 
 def served(program, path, first):
-    """How many releases were opened and told so until the program was killed."""
+    """How many releases were opened, with replies saying so, until the program was killed."""
     process = subprocess.Popen([program, "script", "--db", path], stdin=subprocess.PIPE, stdout=subprocess.PIPE, stderr=subprocess.PIPE)
     killer = threading.Timer(random.uniform(0.001, LONGEST), process.send_signal, [signal.SIGKILL])
     killer.start()
@@ -89,11 +89,11 @@ def main():
             told = served(program, path, len(names))
             found = names_in(path, room)
             if found != [f"r{place}" for place in range(len(found))] or len(found) - len(names) not in range(told, told + AT_ONCE + 1):
-                sys.exit(f"kill {time}: {told} releases were told after {len(names)}, and {len(found)} stand")
+                sys.exit(f"kill {time}: {told} releases were replied to after {len(names)}, and {len(found)} are in the file")
             cut += len(found) - len(names) != told
             served_in_all += len(found) - len(names)
             names = found
-        print(f"killed {times} times, {served_in_all} requests served, {cut} times more was recorded than told: nothing that was told is lost")
+        print(f"killed {times} times, {served_in_all} requests served, {cut} times more was recorded than replied: nothing that was replied is lost")
 
 
 if __name__ == "__main__":

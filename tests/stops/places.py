@@ -1,8 +1,8 @@
-"""Hands the program files that are no desk's, or that it can't use: python3 tests/stops/places.py PROGRAM
+"""Gives the program files that aren't a desk's, or that it can't use: python3 tests/stops/places.py PROGRAM
 
-Two programs on one file, a file that may not be written, a folder in its place, a disk with no room, a file cut short at many places, files
-of random bytes, a file with a letter changed at many places: each time a clear error, and nothing of the file is lost. What needs another
-user or a disk of its own is left out where this isn't root, and that is said.
+Two programs on one file, a file that may not be written, a folder in its place, a disk without space, a file cut short at many places,
+files of random bytes, a file with a letter changed at many places: each time there must be a clear error, and nothing of the file may be
+lost. What needs another user or another disk is left out if this doesn't run as root, and that is reported.
 """
 
 import os
@@ -30,7 +30,7 @@ def run(program, path, text=TOTALS, **more):
 
 
 def contents(path):
-    """The bytes of the file and of what stands beside it."""
+    """The bytes of the file and of its log."""
     found = {}
     for end in ("", "-wal"):
         if os.path.exists(path + end):
@@ -49,7 +49,7 @@ def put(path, found):
 
 
 def refused(what, told, path, before):
-    """A fault in words, or a desk's refusal of the file; and the file is as it was."""
+    """A fault in words, or a desk's refusal of the file; and the file is unchanged."""
     stdout, status, words = told
     is_fault = status == 3 and stdout == b"" and words.startswith(b"error: ") and words.count(b"\n") == 1
     is_refusal = status == 1 and stdout.startswith(b"fault: ") and words == b""
@@ -92,12 +92,12 @@ def folder(program, room):
     os.mkdir(path)
     words = refused("a folder", run(program, path), path, None)
     if os.listdir(path):
-        sys.exit("something stands in the folder")
+        sys.exit("the folder isn't empty")
     return words
 
 
 def no_room(program, room, requests):
-    """A disk of 1 MiB: what was replied to stands once there is room."""
+    """A disk of 1 MiB: what was replied to is in the file once there is room."""
     place = os.path.join(room, "small")
     os.mkdir(place)
     subprocess.run(["mount", "-t", "tmpfs", "-o", "size=1048576", "tmpfs", place], check=True)
@@ -120,7 +120,7 @@ def no_room(program, room, requests):
 def cut_short(program, path):
     before = contents(path)
     told = set()
-    # a file of one byte is what a stop leaves of a file that was being made, and is made anew
+    # a file of one byte is what a stop leaves of a file that was being created, and is created again
     for size in sorted({2, 99, 100, 511, 512, 1024, 4095, *range(4096, len(before[""]), 4096), len(before[""]) - 1}):
         found = {"": before[""][:size]}
         put(path, found)
@@ -140,7 +140,7 @@ def of_random_bytes(program, path, turn):
 
 
 def with_a_byte_changed(program, path, turn):
-    """Each answer is the right one, or a fault: a changed byte is found or isn't looked at; nothing is told that was never so but what
+    """Each answer is the right one, or a fault: a changed byte is found or isn't read; nothing is reported that was never true, except what
     the byte itself says."""
     before = contents(path)
     for _ in range(200):

@@ -1,18 +1,18 @@
-"""Stops the program at each write of a desk's file, and fails each read, write and sync: python3 tests/stops/stops.py PROGRAM
+"""Stops the program at each write of a desk's file, and makes each read, write and sync fail: python3 tests/stops/stops.py PROGRAM
 
 The scripts are the first release and the withdrawn release, on a desk in a file. The process is ended before, in the middle of and after
-each write and each sync. Then SQLite opens the files, finds them sound and reads the tables, and so does the desk: they are those after
-the commands that were replied to, or after the one that was being carried out too.
+each write and each sync. Then SQLite opens the files, finds them sound and reads the tables, and so does the desk: they must be those after
+the commands that were replied to, or also after the one that was being carried out.
 
-A disk that is lost at a call refuses all from then on, and has afterwards only what was synced before: the same holds. So it does where
-each sector that was written since is the old one or the new one by chance, the file as long as before, as now or between, and what lies past
-its old end anything (`docs/DATABASE.md`).
+A disk that is lost at a call refuses all calls from then on, and afterwards has only what was synced before: the same must hold. It must
+hold too if each sector that was written since is randomly the old one or the new one, if the file is as long as before, as now or in
+between, and if anything lies beyond its old end (`docs/DATABASE.md`).
 
-With a call that fails the script goes on or stops: what was replied to is what the script without the other requests gives, the tables
-are those after these, or after the one that failed too where nothing was recorded after it, and a later run serves the desk.
+If a call fails, the script continues or stops: what was replied to is what the script without the other requests gives, the tables are
+those after these requests, or also after the failed one if nothing was recorded after it, and a later run serves the desk.
 
-An audit of the file that each script leaves, with each of its reads refused in turn, tells that the file is sound or why it can't be read,
-and leaves the file as it was. So do a page and lists, with each call refused in turn: they are written whole, or not at all with a reason.
+An audit of the file that each script leaves, with each of its reads refused in turn, reports that the file is sound or why it can't be
+read, and leaves the file unchanged. A page and lists, with each call refused in turn, are written fully, or not at all with a reason.
 """
 
 import os
@@ -58,7 +58,7 @@ def mixed(old, new, turn):
 
 
 class Desk:
-    """The program, with a file of its own."""
+    """The program, with its file."""
 
     def __init__(self, program, library, room):
         self.program, self.library, self.room = program, library, room
@@ -72,7 +72,7 @@ class Desk:
             os.remove(path)
 
     def lose(self, turn):
-        """Has each file hold what it held when it was last synced, or with a turn a mixture of that and of what was written since."""
+        """Restores each file as it was when it was last synced, or with a turn as a mixture of that and of what was written since."""
         for path in self.files():
             kept = os.path.join(self.kept, str(os.stat(path).st_ino))
             old, new = (read(name) if os.path.exists(name) else b"" for name in (kept, path))
@@ -90,7 +90,7 @@ class Desk:
         return done.stdout.splitlines(keepends=True), done.returncode, done.stderr, os.path.exists(self.told)
 
     def tables(self):
-        """The rows of each table, as SQLite reads a copy of the files; none of files that are no database yet."""
+        """The rows of each table, as SQLite reads a copy of the files; none for files that aren't a database yet."""
         with tempfile.TemporaryDirectory(dir=self.room) as room:
             copy = os.path.join(room, "copy.db")
             if not os.path.exists(self.file):
@@ -167,7 +167,7 @@ class Script:
         return True
 
     def served(self, places):
-        """The replies and the tables of a run of the requests at these places alone."""
+        """The replies and the tables of a run of only the requests at these places."""
         self.desk.clear()
         told = self.desk.run([self.requests[place] for place in places])[0]
         return told, self.desk.tables()

@@ -1,10 +1,10 @@
 #!/bin/sh
-# Runs the tests of single calls, compiled with checks of memory and overflow and with no proof (`rt try --test`).
+# Runs the tests of single calls, compiled with checks of memory and overflow and without proof (`rt try --test`).
 #
 #   tests/units/run.sh [try | proved]
 #
-# The crates that they call are proved by the gate; a proof of the tests themselves would cost the gate more than all that it could say.
-# So their sources stand here as texts, and are made a crate in a copy of the repository. With `proved` they are proved and built, and
+# The gate proves the crates that they call; a proof of the tests themselves would cost the gate more than it could show. So their sources
+# are kept here as texts, and made a crate in a copy of the repository. With `proved` they are proved and built, and
 # left as build/unit_tests, for tests/allocations/cases.py.
 set -eu
 
@@ -20,7 +20,7 @@ cp HANDLES "$room"
 for folder in crates/*/; do
     name=$(basename "$folder")
     mkdir -p "$room/crates/$name"
-    # (what was proved of the crate already serves here too)
+    # (what was already proved of the crate is used here too)
     for part in src specs proofs out; do
         [ "$part" = out ] && [ "${1:-try}" = try ] && continue
         [ ! -d "$folder$part" ] || cp -a "$folder$part" "$room/crates/$name"
