@@ -17,7 +17,7 @@ program = crates/desk_program
 
 all: build
 
-# Says if the toolchain isn't the one that README.md names: another kit may refuse what that one proved.
+# Reports a toolchain other than the one that README.md names: another kit may refuse what that one proved.
 kit:
 	@kit=$$(rt version 2>/dev/null) && grep -qF "$$kit" README.md \
 	    || echo "Note: README.md names the kit that proved this state; here is $${kit:-none, since there is no rt}."
@@ -35,12 +35,12 @@ build: kit
 	@touch -r build/is-begun build/desk
 	@echo 'Built build/desk.'
 
-# The desk's main job of the day, on real examples: by build/desk where that is proved and up to date, else with no proof.
+# The desk's main tasks, on real examples: by build/desk if it is proved and up to date, otherwise with no proof.
 demo:
 	@if [ -f build/desk ] && [ -z "$$(find crates crates.txt -type f -newer build/desk ! -path '*/out/*' | head -n 1)" ]; \
 	then sh examples/demo.sh build/desk; else sh examples/demo.sh; fi
 
-# What the tests need beside a shell and make.
+# What the tests need besides a shell and make.
 needs:
 	@echo 'The tests need rt, Python 3.11 or later (python3) and a C compiler (cc).'
 	@for program in rt python3 cc; do command -v $$program >/dev/null 2>&1 \
@@ -56,7 +56,7 @@ test: needs kit
 acceptance: needs build
 	@sh tests/acceptance/run.sh build/desk
 
-# The scripts among them over files, in one run each and in three.
+# The scripts among them on files, each in one run and in three.
 database: needs build
 	@python3 tests/database.py build/desk
 
@@ -64,39 +64,43 @@ database: needs build
 words: needs build
 	@python3 tests/words.py build/desk
 
-# What an audit says of files of desks, and of files that others wrote.
+# The licence step of a build, on its own releases.
+building: needs build
+	@python3 tests/building.py build/desk
+
+# Audits of files of desks, and of files that others wrote.
 auditing: needs build
 	@python3 tests/auditing.py build/desk
 
-# What a browser can do from pages of elsewhere, where Chromium is installed, and from those of the desk's own address.
+# What a browser can do from pages of other addresses, and from those of the desk's own. It needs Chromium.
 browser: needs build
 	@python3 tests/browser.py build/desk
 
-# What becomes of files of older versions, and of migrations that are stopped.
+# Migrations of files of older versions, also stopped ones.
 migrating: needs build
 	@python3 tests/migrating.py build/desk
 
-# What a desk that is served over HTTP replies, to programs and to browsers.
+# The replies of a desk over HTTP, to programs and to browsers.
 serving: needs build
 	@python3 tests/serving.py build/desk
 	@python3 tests/origins.py build/desk
 
-# The tests of single calls, with no proof of their own.
+# The tests of single calls, compiled without proof.
 units: needs
 	@sh tests/units/run.sh
 
-# Each allocation refused in turn of those tests that tell want of memory, of calls that the program doesn't make: what ships by places,
+# Refuses each allocation in turn of the tests that report out of memory, of calls that the program doesn't make: what ships by places,
 # codes, findings in capitals, what trees lack, and how expressions are printed.
 refused: needs
 	@mkdir -p build
 	@sh tests/units/run.sh proved >build/log 2>&1 || { cat build/log; exit 1; }
 	@python3 tests/allocations/cases.py build/unit_tests
 
-# What a checkout of this tree lacks to be REUSE-compliant, which is nothing.
+# Checks that this tree is REUSE-compliant.
 lint: needs build
 	@sh tests/lint.sh build/desk
 
-# Large inputs and each fault of each reader, where there is enough memory.
+# Large inputs and each fault of each reader, with enough memory.
 ample: needs build
 	@python3 tests/ample/ample.py build/desk
 
@@ -104,11 +108,11 @@ ample: needs build
 allocations: needs build
 	@python3 tests/allocations/sweep.py build/desk
 
-# Hostile inputs of a seed for some minutes, each beside a second reader: make hostile MINUTES=10 SEED=1
+# Hostile inputs of a seed for some minutes, compared with second readers: make hostile MINUTES=10 SEED=1
 hostile: needs build
 	@python3 tests/hostile/hostile.py build/desk --minutes $(MINUTES) --seed $(SEED)
 
-# Kills at random moments, so many of each command that writes: make kills TIMES=1000
+# Kills each command that writes, TIMES times at random moments: make kills TIMES=1000
 kills: needs build
 	@python3 tests/hostile/kills.py build/desk --times $(TIMES) --seed $(SEED)
 
@@ -120,21 +124,21 @@ soak: needs build
 cost: needs build
 	@python3 tests/hostile/cost.py build/desk
 
-# Edits that the prover must refuse: those that no record has as refused yet, of some crates with CRATES='desk_expr', as many at a time as JOBS
-# says, or as there are processors. It gives way to other work, writes the records as it goes, and takes up where it was.
+# Edits that the prover must refuse: those that no record has as refused yet, or with CRATES='desk_expr' those of some crates, JOBS at a
+# time, or as many as there are processors. It has a low priority, writes the records as it goes, and continues where it stopped.
 edits:
-	@echo 'Trying edits that turn a meaning: minutes for each crate, hours for all.'
+	@echo 'Trying edits that change a meaning: minutes for each crate, hours for all.'
 	@RT_JOBS=$(JOBS) nice -n 19 python3 tests/edits.py $(CRATES)
 
-# Runs the program with no proof: make try ARGS='check MIT mit'
+# Runs the program without a proof: make try ARGS='check MIT mit'
 try:
-	@echo 'Trying the program with no proof: this says nothing of its contracts.'
+	@echo 'Trying the program without a proof: its contracts are not checked.'
 	@cd $(program) && rt try -- $(ARGS)
 
-# Times the program, beside another one, its scripts, by the rows that a desk holds, in a file beside the library of SQLite, over HTTP,
-# audits, notices, tables, lists and pages, on trees, the reading of documents, those in JSON too, and patterns of paths.
+# Times the program: checks and listings, compared with other programs; scripts; many rows; a desk in a file, compared with SQLite's library;
+# HTTP; audits; notices, tables, lists and pages; trees; the reading of documents, also in JSON; and patterns of paths.
 bench: build
-	@echo 'Building the programs that only the benches run.'
+	@echo 'Building the programs that only the benchmarks run.'
 	@sh bench/programs/build.sh documents bom globs texts sqlite toml
 	@python3 bench/bench.py build/desk
 	@python3 bench/alternatives.py build/desk
@@ -162,15 +166,15 @@ install: build
 	cp build/desk $(DESTDIR)$(PREFIX)/bin/desk
 	sh manual/manual.sh build/desk $(DESTDIR)$(PREFIX)/share
 
-# An archive of the program that `make test` proved and tested, by its record build/proved, with its pages: build/dist/desk-VERSION-linux-x86_64.tar.gz.
+# Packs the program that `make test` proved and tested, by its record build/proved, with its pages: build/dist/desk-VERSION-linux-x86_64.tar.gz.
 dist:
 	@sh packaging/dist.sh
 
-# The same as a Debian package, which lintian has no error for; its maintainer is MAINTAINER='NAME <ADDRESS>'. It needs dpkg-deb.
+# The same as a Debian package, for which lintian reports no error; MAINTAINER='NAME <ADDRESS>' sets its maintainer. It needs dpkg-deb.
 deb:
 	@MAINTAINER="$(MAINTAINER)" sh packaging/deb.sh
 
 clean:
 	rm -rf build
 
-.PHONY: all kit build demo needs test acceptance database words auditing migrating serving browser units refused lint ample allocations hostile kills soak cost edits try bench manual install dist deb clean
+.PHONY: all kit build demo needs test acceptance database words building auditing migrating serving browser units refused lint ample allocations hostile kills soak cost edits try bench manual install dist deb clean

@@ -1,7 +1,7 @@
 #!/usr/bin/env python3
 """Prints the crates of crates.txt in layers, for docs/ARCHITECTURE.md: python3 docs/layers.py
 
-A crate is one layer above the highest crate of the repository that it stands on. With --check it compares the page with that.
+A crate is one layer above the highest crate of the repository that it uses. With --check it compares the page with that.
 """
 
 import os
@@ -12,7 +12,7 @@ WIDTH = 100
 
 
 def stands():
-    """What each crate of the repository stands on there."""
+    """The crates of the repository that each crate uses."""
     with open(os.path.join(TOP, "crates.txt"), encoding="utf-8") as file:
         lines = [line.split("#")[0].partition(":") for line in file]
     named = {name.strip(): words.split() for name, colon, words in lines if colon}
@@ -34,7 +34,7 @@ def layers(below):
 
 
 def drawn(found):
-    """A layer a line, the highest first, without the `desk_` of the names."""
+    """A line for each layer, the highest first, with the names without `desk_`."""
     lines = []
     for level in range(len(found), 0, -1):
         line = f"{level:2} "
