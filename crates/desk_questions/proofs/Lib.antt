@@ -1,8 +1,2 @@
 mod Listings
 mod Lines
-mod Bills
-mod Uses
-pub mod InTurn
-mod Naming
-mod Bodies
-mod Kept

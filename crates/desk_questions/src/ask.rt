@@ -8,7 +8,6 @@ ghost use Rattle.desk_model.specs.Queries.{duty_line};
 ghost use Rattle.desk_access.specs.Seen.{Looked, OfRows};
 ghost use Rattle.desk_history.specs.FromTables.{queried_from, line_found};
 
-use crate::bill::bill;
 use crate::findings::findings;
 use crate::listing::{alternatives, cheapest};
 use crate::lists::{documents, open_duties, releases};
@@ -18,6 +17,8 @@ use crate::wanting::wanting;
 use desk_access::store::Store;
 use desk_access::texts::Texts;
 use desk_base::{Items, Text};
+use desk_bills::bill::bill;
+use desk_bills::gaps::gaps;
 use desk_model::{Answer, DutyLine, DutyRow, Fault, Query, Refusal};
 use std::alloc::Global;
 
@@ -128,5 +129,6 @@ pub fn answer_to<T: Texts, S: Store>(
         Query::OpenDuties => open_duties(alloc, store),
         Query::Wanting { release } => wanting(alloc, texts, store, release),
         Query::Ready { release, day } => ready(alloc, store, release, day),
+        Query::Gaps { release } => gaps(alloc, texts, store, release),
     }
 }

@@ -7,18 +7,15 @@
 //!
 //! - `answer_to` answers all questions; `ask` has those about duties, `findings` reads a document,
 //!   `packages` describes a release, `listing` has the sets of terms under which a conclusion is
-//!   true, `bill` what the notices of a release are written from, `lists` all releases, documents
-//!   and open duties, `wanting` what keeps a release from being frozen, `ready` what
-//!   keeps a frozen one from being ready.
+//!   true, `lists` all releases, documents and open duties, `wanting` what keeps a release from
+//!   being frozen, `ready` what keeps a frozen one from being ready. `desk_bills` answers what
+//!   notices are written from, and what is missing for them.
 #![tactic(auto)]
 
 pub mod ask;
-pub mod bill;
 pub mod findings;
-mod frozen;
 pub mod listing;
 pub mod lists;
 pub mod packages;
 pub mod ready;
-mod texts;
 pub mod wanting;

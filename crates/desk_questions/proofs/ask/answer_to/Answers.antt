@@ -30,3 +30,6 @@ returns-in-OpenDuties-clause-answer g c = λ w right. rw c.in-OpenDuties.is
 
 pub returns-in-Ready-clause-answer : goal.returns-in-Ready-clause-answer
 returns-in-Ready-clause-answer g c = λ w right. rw c.in-Ready.is (c.ready.ensures.answer w)
+
+pub returns-in-Gaps-clause-answer : goal.returns-in-Gaps-clause-answer
+returns-in-Gaps-clause-answer g c = λ w right. rw c.in-Gaps.is (c.gaps.ensures.answer w right)

@@ -1,7 +1,7 @@
 use Rattle.std.proofs.Common.{ℕ, List, Option, ap}
 use Rattle.desk_model.specs.declared.command.DutyLine.{DutyLine}
 use Rattle.desk_history.specs.FromTables.{line_found}
-use Rattle.desk_questions.proofs.InTurn.{one_more}
+use Rattle.desk_bills.proofs.InTurn.{one_more}
 use Rattle.desk_questions.proofs.ask.duty_lines.Goals as goal
 
 pub loop-row-preserved : goal.loop-row-preserved

@@ -1,5 +1,5 @@
 use Rattle.desk_questions.specs.Lists.{head_line}
-use Rattle.desk_questions.proofs.InTurn.{one_more}
+use Rattle.desk_bills.proofs.InTurn.{one_more}
 use Rattle.desk_questions.proofs.lists.document_lines.Goals as goal
 
 pub loop-head-preserved : goal.loop-head-preserved

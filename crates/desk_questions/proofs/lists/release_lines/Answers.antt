@@ -1,5 +1,5 @@
 use Rattle.desk_questions.specs.Lists.{counted_line}
-use Rattle.desk_questions.proofs.InTurn.{one_more}
+use Rattle.desk_bills.proofs.InTurn.{one_more}
 use Rattle.desk_questions.proofs.lists.release_lines.Goals as goal
 
 pub loop-row-preserved : goal.loop-row-preserved

@@ -2,7 +2,7 @@ use Rattle.std.proofs.Common.{ℕ, List, Option, ap}
 use Rattle.desk_model.specs.Queries.{open_duty}
 use Rattle.desk_model.specs.declared.command.OpenDuty.{OpenDuty}
 use Rattle.desk_questions.specs.Lists.{changes_found}
-use Rattle.desk_questions.proofs.InTurn.{one_more}
+use Rattle.desk_bills.proofs.InTurn.{one_more}
 use Rattle.desk_questions.proofs.lists.with_days.Goals as goal
 
 pub loop-row-preserved : goal.loop-row-preserved

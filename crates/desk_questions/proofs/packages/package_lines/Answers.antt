@@ -1,7 +1,7 @@
 use Rattle.desk_model.specs.Queries.{package_line}
 use Rattle.desk_history.specs.FromTables.{choice_found, conclusion_found}
 use Rattle.desk_access.proofs.Chains.{same_then_same}
-use Rattle.desk_questions.proofs.InTurn.{line_more}
+use Rattle.desk_bills.proofs.InTurn.{line_more}
 use Rattle.desk_questions.proofs.packages.package_lines.Goals as goal
 
 pub loop-row-preserved : goal.loop-row-preserved

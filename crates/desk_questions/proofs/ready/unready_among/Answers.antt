@@ -1,5 +1,5 @@
 use Rattle.desk_questions.specs.Ready.{keeps_found}
-use Rattle.desk_questions.proofs.InTurn.{one_tested}
+use Rattle.desk_bills.proofs.InTurn.{one_tested}
 use Rattle.desk_questions.proofs.ready.unready_among.Goals as goal
 
 pub loop-row-preserved : goal.loop-row-preserved

@@ -1,0 +1,3 @@
+pub mod Billing
+pub mod Sides
+pub mod Lacking

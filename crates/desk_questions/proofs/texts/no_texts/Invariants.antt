@@ -1,5 +1,0 @@
-use Rattle.std.proofs.Common.{◌≡◌, None, replicate}
-use Rattle.desk_questions.proofs.texts.no_texts.Given as goal
-
-abbrev pub invariant-loop : goal.invariant-loop
-invariant-loop l = l.found ≡ replicate l.index None
