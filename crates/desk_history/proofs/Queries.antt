@@ -18,7 +18,8 @@ use Rattle.desk_model.specs.Moves.{duties, duty_row, changes, place, all_changes
 use Rattle.desk_model.specs.Tables.{Tables, tables, release_row, release_rows}
 use Rattle.desk_model.specs.Answers.{conclusion, release_state}
 use Rattle.desk_model.specs.Bills.{bill_answer, bill_of}
-use Rattle.desk_model.specs.Queries.{queried, listing, duty_line, is_open_of, open_duties}
+use Rattle.desk_model.specs.Gaps.{gaps_answer, gaps_of}
+use Rattle.desk_model.specs.Queries.{queried, listing, sources, duty_line, is_open_of, open_duties}
 use Rattle.desk_model.specs.Queries.{open_duty, package_line, duties_of, totals_of, unready_duties}
 use Rattle.desk_model.specs.Ready.{ready_answer}
 use Rattle.desk_model.specs.Moves.{duty_at}
@@ -123,6 +124,23 @@ bill_told w h r =
     ≡ (if b then told (release_row h r) else answered.Refused why.UnknownRelease))
     [ true ↦ refl | false ↦ refl ])
 
+gaps_told : (w : Readings) (h : List Command) (r : List ℕ)
+    → queried_from w (tables w h) (query.Gaps r) ≡ queried w h (query.Gaps r)
+gaps_told w h r =
+    let t : Tables = tables w h in
+    let told : ReleaseRow → (PackageRow → List (List ℕ)) → Answer =
+    λ row chosen. gaps_answer (gaps_of w (sources w h chosen row)) row.state in
+    let found : ReleaseRow → Answer = λ row. told row (choice_found t row.name) in
+    ap (λ o. option_map_or found o (answered.Refused why.UnknownRelease))
+    (release_found-tables w h r)
+    ∙ (elim (is_some (form_of h r)) as
+    (λ b. option_map_or found (if b then Some (release_row h r) else None)
+    (answered.Refused why.UnknownRelease)
+    ≡ (if b then told (release_row h r) (choice_found t r)
+    else answered.Refused why.UnknownRelease)) [ true ↦ refl | false ↦ refl ]
+    ∙ ap (λ chosen. if is_some (form_of h r) then told (release_row h r) chosen
+    else answered.Refused why.UnknownRelease) (choice-found w h r))
+
 -- the lines of the duties that keep a release back
 unready-lines : (w : Readings) (h : List Command) (r : List ℕ) (day : Option (List ℕ))
     → map (line_found (tables w h)) (unready_duties w h r day)
@@ -172,6 +190,7 @@ query-answer w h query.OpenDuties = λ i. answered.OpenDuties
     (flat_map (λ row. open-found w h row i) (release_rows h))
 query-answer w h (query.Wanting r) = wanting_told w h r
 query-answer w h (query.Ready r day) = ready_told w h r day
+query-answer w h (query.Gaps r) = gaps_told w h r
 
 pub query_at_history : (w : Readings) (h : List Command) (q : Query) (t : Tables) → t ≡ tables w h
     → queried_from w t q ≡ queried w h q

@@ -29,7 +29,8 @@ use Rattle.desk_model.specs.Answers.{adopt_answer, walk, is_recorded}
 use Rattle.desk_model.specs.Obstacles.{Obstacles, package_refusals, shipped_refusals, wanting_answer}
 use Rattle.desk_model.specs.Queries.{document_line, duty_line, open_duties, package_line, release_line, totals_of}
 use Rattle.desk_model.specs.Ready.{keeps_back, ready_answer}
-use Rattle.desk_model.specs.Bills.{bill_answer, bill_of}
+use Rattle.desk_model.specs.Bills.{bill_answer, bill_of, revision_text}
+use Rattle.desk_model.specs.Gaps.{Sources, gaps_answer, gaps_of, possible_terms, revision_for}
 use Rattle.desk_model.specs.Findings.{findings_answer}
 use Rattle.desk_model.specs.Listings.{Listing, alternatives_answer, cheapest_answer, term_cost}
 use Rattle.desk_model.specs.declared.reading.Catalogue.{Catalogue}
@@ -466,6 +467,16 @@ listing_found w t d p = record {
   conclusion = option_and_then (conclusion_found w t) (package_found t d p);
 }
 
+-- what the gaps of a release are looked up from
+abbrev pub sources_found : Readings → Tables → ReleaseRow → Sources
+sources_found w t row = record {
+  terms = λ p. possible_terms w (conclusion_found w t p) (choice_found t row.name p);
+  catalogue = revision_text t.catalogue (revision_for t.catalogue row);
+  extracted = t.extracted;
+  attached = attached_to t.attached row.name;
+  shipped = shipped_found t row.name;
+}
+
 -- the answer to a query
 abbrev pub queried_from : Readings → Tables → Query → Answer
 queried_from w t (query.Duties r) =
@@ -499,3 +510,7 @@ queried_from w t query.OpenDuties = answered.OpenDuties (flat_map (open_found t)
 queried_from w t (query.Wanting r) = wanting_answer (obstacles_found w t r)
 queried_from w t (query.Ready r day) = ready_answer day (state_found t r)
     (map (line_found t) (unready_found t r day))
+queried_from w t (query.Gaps r) =
+    option_map_or (λ row. gaps_answer (gaps_of w (sources_found w t row)) row.state)
+    (release_found t r)
+    (answered.Refused why.UnknownRelease)

@@ -24,7 +24,6 @@ mod ReadRules
 mod Once
 mod Ordered
 pub mod ChoiceSets
-mod Held
 mod Forms
 mod Ids
 pub mod Lists
@@ -52,3 +51,4 @@ mod ChoiceRows
 mod Printed
 mod Spelled
 mod ReadingRights
+mod Missing

@@ -30,6 +30,7 @@
 #![tactic(auto)]
 
 pub mod audits;
+pub mod gaps;
 mod readings;
 pub mod snapshots;
 

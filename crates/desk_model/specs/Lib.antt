@@ -14,6 +14,7 @@ pub mod Findings
 pub mod Listings
 pub mod Bills
 pub mod Ready
+pub mod Gaps
 pub mod Queries
 pub mod Runs
 pub mod Numbers

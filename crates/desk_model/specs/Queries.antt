@@ -5,10 +5,11 @@ use Rattle.desk_model.specs.Readings.{Readings}
 use Rattle.std.specs.List.{flat_map, list_any}
 use Rattle.std.specs.Str.{bytes_eq}
 use Rattle.desk_model.specs.Keys.{is_document, is_duty_of, is_shipped_by}
-use Rattle.desk_model.specs.History.{documents, form_of, forms_in, in_force, packages, rules_in, state_of}
+use Rattle.desk_model.specs.History.{attached, attached_to, documents, form_of, forms_in, in_force, packages, rules_in, state_of}
 use Rattle.desk_model.specs.Conclusions.{adoptions}
-use Rattle.desk_model.specs.Bills.{bill_answer, bill_of}
+use Rattle.desk_model.specs.Bills.{bill_answer, bill_of, revision_text}
 use Rattle.desk_model.specs.Findings.{findings_answer}
+use Rattle.desk_model.specs.Gaps.{Sources, gaps_answer, gaps_of, possible_terms, revision_for}
 use Rattle.desk_model.specs.Listings.{Listing, alternatives_answer, cheapest_answer, term_cost}
 use Rattle.desk_model.specs.Obstacles.{obstacles, wanting_answer}
 use Rattle.desk_model.specs.Moves.{changes, duties, end_after, moves}
@@ -126,6 +127,18 @@ listing w h d p = record {
   conclusion = option_and_then (conclusion w h) (package_at w h d p);
 }
 
+-- what the gaps of a release are looked up from, with the terms chosen for its packages
+abbrev pub sources : Readings → List Command → (PackageRow → List (List ℕ)) → ReleaseRow → Sources
+sources w h chosen row =
+    let t = tables w h in
+    record {
+      terms = λ p. possible_terms w (conclusion w h p) (chosen p);
+      catalogue = revision_text t.catalogue (revision_for t.catalogue row);
+      extracted = t.extracted;
+      attached = attached_to (attached h) row.name;
+      shipped = shipped w h row.name;
+    }
+
 -- the answer to a query after a history; no query changes anything
 abbrev pub queried : Readings → List Command → Query → Answer
 queried w h (query.Duties r) =
@@ -159,3 +172,7 @@ queried w h query.OpenDuties = answered.OpenDuties
 queried w h (query.Wanting r) = wanting_answer (obstacles w h r)
 queried w h (query.Ready r day) = ready_answer day (release_state h r)
     (map (duty_line (changes w h)) (unready_duties w h r day))
+queried w h (query.Gaps r) =
+    if is_some (form_of h r) then gaps_answer
+    (gaps_of w (sources w h (chosen_in w h r) (release_row h r))) (state_of h r)
+    else answered.Refused why.UnknownRelease

@@ -2,6 +2,7 @@
 
 use crate::bill::Bill;
 use crate::finding::Finding;
+use crate::gap::Gap;
 use crate::reading::{Cheapest, Profile};
 use crate::refusal::Refusal;
 use crate::row::{
@@ -201,6 +202,11 @@ pub enum Query {
         /// The day on which waivers have to last, `YYYY-MM-DD`, if they have to.
         day: Option<Text>,
     },
+    /// What is missing for the notices of a release that is open or frozen.
+    Gaps {
+        /// The name of a release.
+        release: Text,
+    },
 }
 
 /// A duty of a release, and the day of its last change.
@@ -330,6 +336,9 @@ pub enum Answer {
     OpenDuties(Items<OpenDuty>),
     /// What keeps a release from being frozen, in the order in which a freeze checks it.
     Wanting(Items<Refusal>),
+    /// What is missing for the notices of a release: texts, copyrights, shipments, and what is there
+    /// twice.
+    Gaps(Items<Gap>),
     /// Nothing was recorded, for this reason.
     Refused(Refusal),
 }

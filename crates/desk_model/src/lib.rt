@@ -9,6 +9,7 @@
 pub mod bill;
 pub mod command;
 pub mod finding;
+pub mod gap;
 pub mod note;
 pub mod reading;
 pub mod refusal;
@@ -22,6 +23,7 @@ pub use command::{
     Query, ReleaseLine, StoreFault, Totals,
 };
 pub use finding::{Finding, FindingKind, MissingField};
+pub use gap::{Gap, GapKind, says_nothing};
 pub use note::is_note;
 pub use reading::{
     Catalogue, Cheapest, Conclusion, Document, LicenceText, ListFault, Package, Profile, Reference,

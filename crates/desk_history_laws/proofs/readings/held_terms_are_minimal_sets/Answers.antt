@@ -1,4 +1,4 @@
-use Rattle.desk_history_laws.proofs.Held.{held_set}
+use Rattle.desk_history_laws.proofs.ChoiceSets.{held_set}
 use Rattle.desk_history_laws.proofs.readings.held_terms_are_minimal_sets.Goals as goal
 
 pub returns : goal.returns
