@@ -14,6 +14,7 @@ use Rattle.desk_report.specs.Terminal.{lines_shown}
 use Rattle.desk_answers.specs.Refusals.{AreWanting, IsRefused}
 use Rattle.desk_answers.specs.Rows.{change_cells, change_names, cheapest_cells, cheapest_names}
 use Rattle.desk_answers.specs.Rows.{closed_names, counted_cells, document_names, finding_cells}
+use Rattle.desk_answers.specs.Rows.{gap_cells, gap_names}
 use Rattle.desk_answers.specs.Rows.{finding_names, frozen_names, held_cells, held_names, open_cells}
 use Rattle.desk_answers.specs.Rows.{open_names, package_cells, package_names, release_cells}
 use Rattle.desk_answers.specs.Rows.{release_names, revision_names, totals_names}
@@ -62,5 +63,6 @@ IsShown (answer.Releases lines) text = text
 IsShown (answer.Documents lines) text = text ≡ rows_shown held_names held_cells lines
 IsShown (answer.OpenDuties lines) text = text ≡ rows_shown open_names open_cells lines
 IsShown (answer.Wanting refusals) text = AreWanting refusals text
+IsShown (answer.Gaps gaps) text = text ≡ rows_shown gap_names gap_cells gaps
 IsShown (answer.Refused refusal) text = (tables : List (Bor (List Entry)))
     × IsRefused tables refusal text

@@ -8,7 +8,9 @@ use Rattle.desk_model.specs.declared.command.DocumentLine.{DocumentLine}
 use Rattle.desk_model.specs.declared.command.OpenDuty.{OpenDuty}
 use Rattle.desk_model.specs.declared.command.PackageLine.{PackageLine}
 use Rattle.desk_model.specs.declared.command.ReleaseLine.{ReleaseLine}
+use Rattle.desk_model.specs.Gaps.{gap_name}
 use Rattle.desk_model.specs.declared.finding.Finding.{Finding}
+use Rattle.desk_model.specs.declared.gap.Gap.{Gap}
 use Rattle.desk_model.specs.declared.reading.Cheapest.{Cheapest}
 use Rattle.desk_model.specs.declared.row.ChangeRow.{ChangeRow}
 use Rattle.desk_model.specs.declared.row.ReleaseRow.{ReleaseRow}
@@ -105,6 +107,14 @@ abbrev pub open_cells : OpenDuty → List (List ℕ)
 open_cells line = decimal line.duty.number ∷ line.duty.release ∷ decimal line.duty.document
     ∷ line.duty.package_id ∷ line.duty.term ∷ line.duty.rule ∷ line.duty.code
     ∷ unwrap_or line.day [] ∷ []
+
+-- what is missing for the notices of a release
+abbrev pub gap_names : List (List ℕ)
+gap_names = codes "missing" ∷ codes "document" ∷ codes "subject" ∷ []
+
+-- the cells of a gap
+abbrev pub gap_cells : Gap → List (List ℕ)
+gap_cells gap = gap_name gap.kind ∷ decimal gap.document ∷ gap.subject ∷ []
 
 -- what keeps a release from being frozen
 abbrev pub wanting_names : List (List ℕ)

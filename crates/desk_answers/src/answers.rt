@@ -5,7 +5,7 @@ ghost use Rattle.desk_answers.specs.Answers.{IsShown};
 
 use crate::refusals::{refusal_text, wanting_text};
 use crate::rows::{
-    CHANGE_NAMES, CLOSED_NAMES, COUNTED_NAMES, FINDING_NAMES, HELD_NAMES, OPEN_NAMES,
+    CHANGE_NAMES, CLOSED_NAMES, COUNTED_NAMES, FINDING_NAMES, GAP_NAMES, HELD_NAMES, OPEN_NAMES,
     REVISION_NAMES,
 };
 use crate::sets::sets_text;
@@ -46,6 +46,7 @@ pub fn answer_text(alloc: Global, answer: &Answer) -> Result<Vec<u8>, AllocError
         Answer::Documents(lines) => columns_of(alloc, &HELD_NAMES, lines.as_slice()),
         Answer::OpenDuties(lines) => columns_of(alloc, &OPEN_NAMES, lines.as_slice()),
         Answer::Wanting(refusals) => wanting_text(alloc, refusals.as_slice()),
+        Answer::Gaps(gaps) => columns_of(alloc, &GAP_NAMES, gaps.as_slice()),
         Answer::Refused(refusal) => refusal_text(alloc, &TABLES, refusal),
     }
 }

@@ -2,13 +2,13 @@
 
 ghost use Rattle.std.specs.Prelude.{◌≡◌, ℕ, List, [], unwrap_or, IfOk};
 ghost use Rattle.desk_answers.specs.Refusals.{wanting_cells};
-ghost use Rattle.desk_answers.specs.Rows.{change_cells, counted_cells, finding_cells, held_cells, open_cells, package_cells};
+ghost use Rattle.desk_answers.specs.Rows.{change_cells, counted_cells, finding_cells, gap_cells, held_cells, open_cells, package_cells};
 
 use crate::refusals::WantingLine;
 use crate::sets::joined;
 use desk_base::{Day, Items, Text};
 use desk_lists::{Cell, row_of};
-use desk_model::{ChangeRow, DocumentLine, Finding, OpenDuty, PackageLine, ReleaseLine};
+use desk_model::{ChangeRow, DocumentLine, Finding, Gap, OpenDuty, PackageLine, ReleaseLine};
 use std::alloc::{AllocError, Global};
 
 /// The names for a revision.
@@ -106,6 +106,13 @@ pub(crate) const WANTING_NAMES: [Cell<'static>; 3] = [
     Cell::Text("number"),
     Cell::Text("name"),
     Cell::Text("words"),
+];
+
+/// The names for what is missing for notices.
+pub(crate) const GAP_NAMES: [Cell<'static>; 3] = [
+    Cell::Text("missing"),
+    Cell::Text("document"),
+    Cell::Text("subject"),
 ];
 
 // A day, or an empty cell.
@@ -227,6 +234,19 @@ impl Row for OpenDuty {
             Cell::Text(self.duty.rule.as_str()),
             Cell::Text(self.duty.code.as_str()),
             Cell::Text(day_cell(&self.day)),
+        ];
+        row_of(alloc, &cells)
+    }
+}
+
+impl Row for Gap {
+    ghost cells = { gap_cells };
+
+    fn row(&self, alloc: Global) -> Result<Items<Text>, AllocError> {
+        let cells = [
+            Cell::Text(self.kind.name()),
+            Cell::Count(u64::from(self.document)),
+            Cell::Text(self.subject.as_str()),
         ];
         row_of(alloc, &cells)
     }

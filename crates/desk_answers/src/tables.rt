@@ -3,6 +3,7 @@
 ghost use Rattle.std.specs.Prelude.{◌≡◌, ◌∷◌, [], codes, decimal, map, IfOk};
 ghost use Rattle.desk_lists.specs.Cells.{cell_text, totals_cells};
 ghost use Rattle.desk_lists.specs.Columns.{columns_text};
+ghost use Rattle.desk_lists.specs.CsvTable.{csv_text};
 ghost use Rattle.desk_answers.specs.Answers.{cheapest_shown, release_shown, row_shown};
 ghost use Rattle.desk_answers.specs.Rows.{cheapest_cells, cheapest_names, document_names, frozen_names, release_cells, release_names, totals_names};
 
@@ -11,7 +12,7 @@ use crate::rows::{
 };
 use crate::sets::joined;
 use desk_base::{Items, Text};
-use desk_lists::{Cell, columns_text, row_of};
+use desk_lists::{Cell, columns_text, csv_text, row_of};
 use desk_model::{Cheapest, PackageLine, ReleaseRow, Totals};
 use std::alloc::{AllocError, Global};
 
@@ -43,6 +44,19 @@ pub(crate) fn columns_of<R: Row>(
 {
     let table = table_of(alloc, names, rows)?;
     columns_text(alloc, table.as_slice())
+}
+
+/// The same as comma-separated values.
+pub(crate) fn csv_of<R: Row>(
+    alloc: Global,
+    names: &[Cell<'_>],
+    rows: &[R],
+) -> Result<Vec<u8>, AllocError>
+    ensures { IfOk result (λ text. text.items
+        ≡ csv_text (map cell_text names.now ∷ map R.cells rows.now)) }
+{
+    let records = table_of(alloc, names, rows)?;
+    csv_text(alloc, records.as_slice())
 }
 
 /// The table of one row.

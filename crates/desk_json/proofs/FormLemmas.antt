@@ -33,7 +33,8 @@ queries = (codes "duties", form.Duties) ∷ (codes "totals", form.Totals)
     ∷ (codes "release", form.Release) ∷ (codes "alternatives", form.Alternatives)
     ∷ (codes "cheapest", form.Cheapest) ∷ (codes "releases", form.Releases)
     ∷ (codes "documents", form.Documents) ∷ (codes "open", form.OpenDuties)
-    ∷ (codes "wanting", form.Wanting) ∷ (codes "ready", form.Ready) ∷ []
+    ∷ (codes "wanting", form.Wanting) ∷ (codes "ready", form.Ready)
+    ∷ (codes "gaps", form.Gaps) ∷ []
 
 -- whichever is chosen
 chosen : (test : Bool) (first : Form) (other : Option Form) (d : Data) (request : Request)
@@ -64,7 +65,7 @@ query_named word d = chosen _ form.Duties _ d _
     (chosen _ form.Releases _ d _
     (chosen _ form.Documents _ d _
     (chosen _ form.OpenDuties _ d _ (chosen _ form.Wanting _ d _
-    (chosen _ form.Ready _ d _ refl)))))))))))
+    (chosen _ form.Ready _ d _ (chosen _ form.Gaps _ d _ refl))))))))))))
 
 -- the name at a place is the word, or the names after it decide
 pub named_here : (word : List ℕ) (names : List Name) (place : ℕ) (name : Name)

@@ -108,6 +108,7 @@ module _ (d e : Data) (sizes : size e ≡ size d)
   same_form form.OpenDuties = rw (sizes) refl
   same_form form.Wanting = rw (sizes, found (codes "release")) refl
   same_form form.Ready = rw (sizes, found (codes "day"), found (codes "release")) refl
+  same_form form.Gaps = rw (sizes, found (codes "release")) refl
 
   same_by : (f : Option Form) → request_by f e ≡ request_by f d
   same_by None = refl
@@ -252,6 +253,7 @@ module _ (d : Data) (many : 5 < size d) where
   no_form form.OpenDuties = rw (other 1 (omega arith)) refl
   no_form form.Wanting = rw (other 2 (omega arith)) refl
   no_form form.Ready = rw (other 2 (omega arith), other 3 (omega arith)) refl
+  no_form form.Gaps = rw (other 2 (omega arith)) refl
 
   none_by : (f : Option Form) → request_by f d ≡ BadCommand
   none_by None = refl

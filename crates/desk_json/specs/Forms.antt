@@ -10,6 +10,7 @@ use Rattle.desk_json.specs.Requests.{close_request, duties_request, totals_reque
 use Rattle.desk_json.specs.Requests.{findings_request, release_request, alternatives_request}
 use Rattle.desk_json.specs.Requests.{cheapest_request, releases_request, documents_request}
 use Rattle.desk_json.specs.Requests.{open_duties_request, wanting_request, ready_request}
+use Rattle.desk_json.specs.Requests.{gaps_request}
 use Rattle.desk_json.specs.declared.forms.Form.{Form}
 use Rattle.desk_json.specs.declared.forms.Form.TheVariants as form
 use Rattle.desk_json.specs.declared.forms.Name.{Name}
@@ -50,6 +51,7 @@ form_request form.Documents d = documents_request d
 form_request form.OpenDuties d = open_duties_request d
 form_request form.Wanting d = wanting_request d
 form_request form.Ready d = ready_request d
+form_request form.Gaps d = gaps_request d
 
 -- the request of a form, if there is one
 abbrev pub request_by : Option Form → Data → Request

@@ -12,7 +12,9 @@ use Rattle.desk_model.specs.declared.command.OpenDuty.{OpenDuty}
 use Rattle.desk_model.specs.declared.command.PackageLine.{PackageLine}
 use Rattle.desk_model.specs.declared.command.ReleaseLine.{ReleaseLine}
 use Rattle.desk_model.specs.declared.command.Totals.{Totals}
+use Rattle.desk_model.specs.Gaps.{gap_name}
 use Rattle.desk_model.specs.declared.finding.Finding.{Finding}
+use Rattle.desk_model.specs.declared.gap.Gap.{Gap}
 use Rattle.desk_model.specs.FindingKinds.{kind_number, kind_name}
 use Rattle.desk_model.specs.declared.reading.Cheapest.{Cheapest}
 
@@ -78,6 +80,10 @@ abbrev pub open_row : OpenDuty → Data
 open_row line = list (whole line.duty.number ∷ string line.duty.release ∷ whole line.duty.document
     ∷ string line.duty.package_id ∷ string line.duty.term
     ∷ string line.duty.rule ∷ string line.duty.code ∷ string (day_text line.day) ∷ [])
+
+-- what is missing: the word for it, its document, and what lacks it
+abbrev pub gap_row : Gap → Data
+gap_row gap = list (string (gap_name gap.kind) ∷ whole gap.document ∷ string gap.subject ∷ [])
 
 -- printed terms, in order
 abbrev pub term_list : List (List ℕ) → Data

@@ -5,7 +5,7 @@ use Rattle.serde_json.specs.Data.{Data, boolean, string, object, no_members, mem
 use Rattle.serde_json.specs.Written.{compact_text}
 use Rattle.desk_json.specs.Parts.{whole, list, duty_row, totals_row, change_line, finding_line}
 use Rattle.desk_json.specs.Parts.{release_line, package_values, term_list, cheapest_rows}
-use Rattle.desk_json.specs.Parts.{listed_release, listed_document, open_row}
+use Rattle.desk_json.specs.Parts.{listed_release, listed_document, open_row, gap_row}
 use Rattle.desk_json.specs.Refusals.{refusal_values}
 use Rattle.desk_model.specs.Names.{refusal_name}
 use Rattle.desk_model.specs.Numbers.{refusal_number}
@@ -75,6 +75,7 @@ answer_reply (answer.Releases lines) = rows_reply (map listed_release lines)
 answer_reply (answer.Documents lines) = rows_reply (map listed_document lines)
 answer_reply (answer.OpenDuties lines) = rows_reply (map open_row lines)
 answer_reply (answer.Wanting refusals) = rows_reply (map refusal_reply refusals)
+answer_reply (answer.Gaps gaps) = rows_reply (map gap_row gaps)
 answer_reply (answer.Refused refusal) = refusal_reply refusal
 
 -- a fault, by its word

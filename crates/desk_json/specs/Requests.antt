@@ -222,6 +222,11 @@ abbrev pub wanting_request : Data → Request
 wanting_request d = with_members 2 d
     (with_text (codes "release") d (λ release. Ask (query.Wanting release)))
 
+-- what is missing for the notices of a release, with `release`
+abbrev pub gaps_request : Data → Request
+gaps_request d = with_members 2 d
+    (with_text (codes "release") d (λ release. Ask (query.Gaps release)))
+
 -- a question about a ready release may have a member for a day
 abbrev pub ready_day : Data → Option (Option (List ℕ))
 ready_day d = if size d == 2 then Some None else if size d == 3
@@ -248,6 +253,7 @@ query_request word d =
     else if bytes_eq word (codes "open") then open_duties_request d
     else if bytes_eq word (codes "wanting") then wanting_request d
     else if bytes_eq word (codes "ready") then ready_request d
+    else if bytes_eq word (codes "gaps") then gaps_request d
     else BadCommand
 
 -- the request that a value is; an object with both `do` and `ask` has one member too many

@@ -32,6 +32,7 @@ pub(crate) enum Form {
     OpenDuties,
     Wanting,
     Ready,
+    Gaps,
 }
 
 /// The word that names a form.
@@ -102,7 +103,7 @@ pub(crate) const COMMANDS: [Name; 14] = [
 ];
 
 /// The words that `ask` may have.
-pub(crate) const QUERIES: [Name; 12] = [
+pub(crate) const QUERIES: [Name; 13] = [
     Name {
         word: "duties",
         form: Form::Duties,
@@ -150,6 +151,10 @@ pub(crate) const QUERIES: [Name; 12] = [
     Name {
         word: "ready",
         form: Form::Ready,
+    },
+    Name {
+        word: "gaps",
+        form: Form::Gaps,
     },
 ];
 

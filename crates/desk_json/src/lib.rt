@@ -27,7 +27,7 @@
 //! | `alternatives` | `document`, `package` |
 //! | `cheapest` | `document`, `package`, `form` |
 //! | `releases`, `documents`, `open` | |
-//! | `wanting` | `release` |
+//! | `wanting`, `gaps` | `release` |
 //! | `ready` | `release`, and perhaps `day` |
 //!
 //! `document` and `duty` are whole numbers from 0 to 9,223,372,036,854,775,807, `profile` is 1 or 2

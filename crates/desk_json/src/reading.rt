@@ -2,7 +2,7 @@
 
 ghost use Rattle.std.specs.Prelude.{◌≡◌, IfOk};
 ghost use Rattle.desk_json_object.specs.Seen.{seen};
-ghost use Rattle.desk_json.specs.Requests.{catalogue_request, import_profile, import_request, open_request, attach_request, choose_request, freeze_request, meet_request, unchoose_request, waive_until, waive_request, reopen_request, withdraw_request, close_request, conclude_request, adopt_request, duties_request, totals_request, changes_request, findings_request, release_request, alternatives_request, cheapest_request, wanting_request, ready_day, ready_request, with_members, request_of, request_in};
+ghost use Rattle.desk_json.specs.Requests.{catalogue_request, import_profile, import_request, open_request, attach_request, choose_request, freeze_request, meet_request, unchoose_request, waive_until, waive_request, reopen_request, withdraw_request, close_request, conclude_request, adopt_request, duties_request, totals_request, changes_request, findings_request, release_request, alternatives_request, cheapest_request, wanting_request, ready_day, ready_request, gaps_request, with_members, request_of, request_in};
 ghost use Rattle.desk_json.specs.Forms.{form_request, request_by};
 ghost use Rattle.desk_json.specs.Unread.{IsFound, IsRead};
 ghost use Rattle.desk_json.specs.declared.request.Request.TheVariants.{Ask};
@@ -232,6 +232,14 @@ fn read_wanting(alloc: Global, object: &Object) -> Result<Request, Unread>
     Ok(Request::Ask(Query::Wanting { release }))
 }
 
+fn read_gaps(alloc: Global, object: &Object) -> Result<Request, Unread>
+    ensures { IsRead (gaps_request (seen object.now)) result }
+{
+    require_members(object, 2)?;
+    let release = wanted_text(alloc, object, "release")?;
+    Ok(Request::Ask(Query::Gaps { release }))
+}
+
 /// The day of a question, if the request has one more member for it.
 fn ready_day(alloc: Global, object: &Object) -> Result<Option<Text>, Unread>
     ensures { IsFound (ready_day (seen object.now)) result }
@@ -341,6 +349,7 @@ fn read_form(alloc: Global, form: Form, object: &mut Object) -> Result<Request, 
         Form::OpenDuties => read_bare(object, Query::OpenDuties),
         Form::Wanting => read_wanting(alloc, object),
         Form::Ready => read_ready(alloc, object),
+        Form::Gaps => read_gaps(alloc, object),
     }
 }
 

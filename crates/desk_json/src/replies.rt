@@ -116,6 +116,7 @@ fn answer_text(alloc: Global, answer: &Answer) -> Result<String, AllocError>
         Answer::Documents(lines) => reply_of(alloc, lines.as_slice()),
         Answer::OpenDuties(lines) => reply_of(alloc, lines.as_slice()),
         Answer::Wanting(refusals) => reply_of(alloc, refusals.as_slice()),
+        Answer::Gaps(gaps) => reply_of(alloc, gaps.as_slice()),
         Answer::Refused(reason) => row_text(alloc, reason),
     }
 }

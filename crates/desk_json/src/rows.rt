@@ -2,13 +2,13 @@
 
 ghost use Rattle.std.specs.Prelude.{◌≡◌, [], unwrap_or, refl};
 ghost use Rattle.desk_json.specs.Integers.{change_has_integers, package_has_integers, terms_have_integers, cheapest_has_integers};
-ghost use Rattle.desk_json.specs.Parts.{day_text, duty_row, change_line, totals_row, finding_line, release_line, term_list, package_values, cheapest_row, listed_release, listed_document, open_row};
+ghost use Rattle.desk_json.specs.Parts.{day_text, duty_row, change_line, totals_row, finding_line, release_line, term_list, package_values, cheapest_row, listed_release, listed_document, open_row, gap_row};
 
 use crate::cells::{Cell, list, texts};
 use crate::row::Row;
 use desk_base::{Day, Items, Text};
 use desk_model::{
-    ChangeRow, Cheapest, DocumentLine, DutyLine, Finding, OpenDuty, PackageLine, ReleaseLine,
+    ChangeRow, Cheapest, DocumentLine, DutyLine, Finding, Gap, OpenDuty, PackageLine, ReleaseLine,
     ReleaseRow, Totals,
 };
 use serde_json::Value;
@@ -137,6 +137,22 @@ impl Row for DocumentLine {
             Cell::Text(self.head.namespace.as_str()),
             Cell::Number(self.head.profile.number()),
             Cell::Number(self.shipped),
+        ];
+        list(alloc, &cells)
+    }
+}
+
+impl Row for Gap {
+    ghost json = { gap_row };
+
+    ghost has_integers = { λ row. refl };
+
+    fn value(&self, alloc: Global) -> Result<Value, AllocError> {
+        let missing = self.kind.name();
+        let cells = [
+            Cell::Text(missing),
+            Cell::Number(u64::from(self.document)),
+            Cell::Text(self.subject.as_str()),
         ];
         list(alloc, &cells)
     }

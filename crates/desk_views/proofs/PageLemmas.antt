@@ -152,6 +152,7 @@ failed_told old new outcome (Err (failure.Listen port trouble)) told = absurd to
 failed_told old new outcome (Err (failure.Connections count)) told = absurd told
 failed_told old new outcome (Err (failure.Tree fault)) told = absurd told
 failed_told old new outcome (Err (failure.UnknownName name)) told = absurd told
+failed_told old new outcome (Err (failure.NotAFolder path)) told = absurd told
 failed_told old new outcome (Err failure.BadValue) told = absurd told
 
 -- the page was written from the desk's answers
@@ -184,4 +185,5 @@ page_told told (Err (failure.Listen port trouble)) fails = absurd fails
 page_told told (Err (failure.Connections count)) fails = absurd fails
 page_told told (Err (failure.Tree fault)) fails = absurd fails
 page_told told (Err (failure.UnknownName name)) fails = absurd fails
+page_told told (Err (failure.NotAFolder path)) fails = absurd fails
 page_told told (Err failure.BadValue) fails = absurd fails

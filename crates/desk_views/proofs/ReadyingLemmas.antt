@@ -3,7 +3,7 @@ use Rattle.std.proofs.Common.{◌≡◌, ◌∙◌, ℕ, Bool, true, false, List
 use Rattle.std.specs.Prelude.{Result, Ok, Err, IfOk}
 use Rattle.std.specs.Io.KnownBytes.{Appends}
 use Rattle.desk_model.specs.declared.command.Answer.{Answer}
-use Rattle.desk_model.specs.declared.command.Answer.TheVariants.{Duties}
+use Rattle.desk_model.specs.declared.command.Answer.TheVariants.{Duties, Gaps}
 use Rattle.desk_model.specs.declared.command.Outcome.{Outcome}
 use Rattle.desk_model.specs.declared.command.Outcome.TheVariants as outcome_is
 use Rattle.desk_subcommands.specs.declared.failure.Failure.{Failure}
@@ -17,6 +17,8 @@ pub none_back : (is_terminal : Bool) (o : Outcome) (old new : Option (List ℕ))
 none_back b (outcome_is.Failed fault) old new e written = absurd (cc)
 none_back b (outcome_is.Answered (Duties [])) old new e written = (Duties [], refl, written, refl)
 none_back b (outcome_is.Answered (Duties (line ∷ lines))) old new e written = absurd (cc)
+none_back b (outcome_is.Answered (Gaps [])) old new e written = (Gaps [], refl, written, refl)
+none_back b (outcome_is.Answered (Gaps (gap ∷ gaps))) old new e written = absurd (cc)
 none_back b (outcome_is.Answered _) old new e written = absurd (cc)
 
 by_answer : (is_terminal : Bool) (a : Answer) (old new : Option (List ℕ))
@@ -24,6 +26,8 @@ by_answer : (is_terminal : Bool) (a : Answer) (old new : Option (List ℕ))
     → Appends old new (ready_text is_terminal a) × (1 ≡ ready_status a)
 by_answer b (Duties []) old new e written = absurd (cc)
 by_answer b (Duties (line ∷ lines)) old new e written = (written, refl)
+by_answer b (Gaps []) old new e written = absurd (cc)
+by_answer b (Gaps (gap ∷ gaps)) old new e written = (written, refl)
 by_answer b _ old new e written = (written, refl)
 
 -- any other answer is written as it is shown

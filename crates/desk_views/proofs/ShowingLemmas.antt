@@ -34,6 +34,7 @@ done b (answer.Releases lines) text e = refl
 done b (answer.Documents lines) text e = refl
 done b (answer.OpenDuties lines) text e = refl
 done b (answer.Wanting refusals) text e = refl
+done b (answer.Gaps gaps) text e = refl
 
 -- an outcome that has a text is an answer, and is written as this text
 pub has_text : (is_terminal : Bool) (o : Outcome) (text : List ℕ) (old new : Option (List ℕ))

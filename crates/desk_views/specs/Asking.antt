@@ -1,7 +1,8 @@
 -- What is written of the reply to a request, and the status that is returned.
-use Rattle.std.specs.Prelude.{◌≡◌, ◌&&◌, not, Bool, ℕ, List, Option, codes, if◌then◌else◌}
+use Rattle.std.specs.Prelude.{◌≡◌, ◌&&◌, not, Bool, ℕ, List, Option, Some, None, codes, if◌then◌else◌}
 use Rattle.std.specs.Io.KnownBytes.{Appends, Keeps}
 use Rattle.desk_answers.specs.Answers.{IsShown}
+use Rattle.desk_model.specs.declared.command.Answer.TheVariants.{Again}
 use Rattle.desk_model.specs.declared.command.Outcome.TheVariants.{Answered, Failed}
 use Rattle.desk_script.specs.Texts.{line_of}
 use Rattle.desk_script.specs.declared.answer.Reply.{Reply}
@@ -24,6 +25,11 @@ HasShown old new (Became (Answered answer)) status =
     (text : List ℕ) × IsShown answer text × Appends old new text × (status ≡ answer_status answer)
 HasShown old new (Became (Failed fault)) status = ⊥
 HasShown old new NoRequest status = Appends old new (codes "no request\n") × (status ≡ 1)
+
+-- the number of the document of an import, if it was imported before
+abbrev pub number_held : Reply → Option ℕ
+number_held (Became (Answered (Again number))) = Some number
+number_held _ = None
 
 -- columns are for a terminal on which no line is asked for
 abbrev pub form_on : Bool → Bool → ReplyForm

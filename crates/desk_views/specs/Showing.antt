@@ -5,13 +5,14 @@ use Rattle.std.specs.Io.KnownBytes.{Appends}
 use Rattle.desk_model.specs.Readings.{Readings}
 use Rattle.desk_model.specs.Tables.{Tables}
 use Rattle.desk_model.specs.declared.command.Answer.{Answer}
-use Rattle.desk_model.specs.declared.command.Answer.TheVariants.{Bill, Changes, Duties, Totals}
+use Rattle.desk_model.specs.declared.command.Answer.TheVariants.{Bill, Changes, Duties, Gaps, Totals}
 use Rattle.desk_model.specs.declared.command.Fault.{Fault}
 use Rattle.desk_model.specs.declared.command.Outcome.{Outcome}
 use Rattle.desk_model.specs.declared.command.Outcome.TheVariants.{Answered, Failed}
 use Rattle.desk_model.specs.declared.command.Query.{Query}
 use Rattle.desk_model.specs.declared.command.StoreFault.{StoreFault}
 use Rattle.desk_access.specs.Seen.{Seen}
+use Rattle.desk_answers.specs.Gaps.{gaps_text}
 use Rattle.desk_json.specs.declared.request.Request.TheVariants.{Ask}
 use Rattle.desk_report.specs.Columns.{columns_text}
 use Rattle.desk_report.specs.CsvTable.{table_text}
@@ -22,14 +23,15 @@ use Rattle.desk_script.specs.Replies.{Replies}
 use Rattle.desk_script.specs.declared.answer.Reply.TheVariants.{Became}
 use Rattle.desk_subcommands.specs.Filing.{answer_status, outcome_line}
 
--- the text of an answer, if it has one; on a terminal notices are as it shows them, and duties, else
--- comma-separated values, are in columns
+-- the text of an answer, if it has one; on a terminal notices are as it shows them, and duties and
+-- gaps, else comma-separated values, are in columns
 abbrev pub answer_text : Bool → Answer → Option (List ℕ)
 answer_text is_terminal (Bill bill) = Some (text_on is_terminal (notices_text bill))
 answer_text is_terminal (Duties lines) = Some (if is_terminal then columns_text lines
     else table_text lines)
 answer_text is_terminal (Totals totals) = Some (totals_line totals)
 answer_text is_terminal (Changes rows) = Some (flat_map change_text rows)
+answer_text is_terminal (Gaps gaps) = Some (gaps_text is_terminal gaps)
 answer_text is_terminal _ = None
 
 -- the text of an outcome: an answer may have one, a fault never has

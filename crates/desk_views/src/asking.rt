@@ -10,7 +10,7 @@ ghost use Rattle.desk_script.specs.declared.answer.Reply.{Reply};
 ghost use Rattle.desk_script.specs.declared.answer.Reply.TheVariants.{Became};
 ghost use Rattle.desk_subcommands.specs.Failures.{IfMemory, IsOfOutput, OfRequest};
 ghost use Rattle.desk_subcommands.specs.Filing.{answer_status, no_text};
-ghost use Rattle.desk_views.specs.Asking.{form_on, HasReplied, HasShown, HasTold, TellsFault};
+ghost use Rattle.desk_views.specs.Asking.{form_on, number_held, HasReplied, HasShown, HasTold, TellsFault};
 
 use desk_answers::answer_text;
 use desk_core::desk::Desk;
@@ -47,7 +47,7 @@ impl ReplyForm {
 }
 
 /// The reply of a desk to a request.
-fn reply_to<D: Desk>(desk: &mut D, request: Request) -> Reply
+pub fn reply_to<D: Desk>(desk: &mut D, request: Request) -> Reply
     ensures { Replies D.are_right D.tells D.stands (D.seen desk.old) request result
         (D.seen desk.new) }
 {
@@ -59,6 +59,16 @@ fn reply_to<D: Desk>(desk: &mut D, request: Request) -> Reply
             Reply::Became(outcome)
         }
         Request::BadCommand => Reply::NoRequest,
+    }
+}
+
+/// The number of the document of an import, if it was imported before.
+pub fn number_held(reply: &Reply) -> Option<u32>
+    ensures { result ≡ number_held reply.now }
+{
+    match reply {
+        Reply::Became(Outcome::Answered(Answer::Again(number))) => Some(*number),
+        _ => None,
     }
 }
 
@@ -138,7 +148,7 @@ fn show_reply<W: Write>(alloc: Global, reply: &Reply, writer: &mut W) -> Result<
 }
 
 /// Writes a reply in a form, and returns the program's status.
-fn reply_in<W: Write, E: Write>(
+pub fn reply_in<W: Write, E: Write>(
     alloc: Global,
     reply: &Reply,
     form: ReplyForm,

@@ -5,7 +5,8 @@
 //! those of `desk_subcommands` do.
 //!
 //! - `answer_request` answers a request as a script does, or as a terminal shows the answer
-//!   (`specs/Asking.antt`), and `refuse_text` refuses a catalogue that isn't text.
+//!   (`specs/Asking.antt`): `reply_to` is the reply, and `reply_in` writes it. `refuse_text` refuses
+//!   a catalogue that isn't text. `number_held` is the number of a document that was imported before.
 //! - `show` writes the text of an answer: notices, the table of duties, totals, changes
 //!   (`specs/Showing.antt`). `show_ready` writes the duties that keep a release from being ready, and
 //!   its status says whether there are any (`specs/Readying.antt`). `show_filled` writes notices with
@@ -18,10 +19,11 @@
 //!   text (`specs/Proposing.antt`).
 //! - `tell_refusal` and `tell_fault` write the reply that a request is refused, or that the desk
 //!   failed.
-//! - `propose` writes the conclusions that are proposed for a document (`specs/Proposals.antt`),
-//!   `write_proposals` those for one that was read already, and `propose_held` those for one that a
-//!   desk holds (`specs/Proposing.antt`); `document_row` finds it, and `open_releases` the releases
-//!   for which choices of its packages are made.
+//! - `propose` writes the conclusions that are proposed for a document (`specs/Proposals.antt`), and
+//!   `explain_document` says why there are none; `write_proposals` writes those for one that was
+//!   read already, and `propose_held` those for one that a desk holds (`specs/Proposing.antt`).
+//!   `document_row` finds it, and `open_releases` the releases for which choices of its packages
+//!   are made.
 //! - `tell_wanting` writes the refusals that keep a release from being frozen, one on each line
 //!   (`specs/Wanting.antt`).
 #![tactic(auto)]
@@ -38,12 +40,12 @@ mod replying;
 mod showing;
 mod wanting;
 
-pub use asking::{ReplyForm, answer_request, refuse_text};
+pub use asking::{ReplyForm, answer_request, number_held, refuse_text, reply_in, reply_to};
 pub use choosing::{add_choices_for, tell_choices, write_choices};
 pub use filling::{Filling, show_filled};
 pub use listing::{write_documents, write_duties, write_releases};
 pub use paging::page;
-pub use proposals::{propose, refuse_document, write_proposals};
+pub use proposals::{explain_document, propose, refuse_document, write_proposals};
 pub use proposing::{document_row, open_releases, propose_held};
 pub use readying::show_ready;
 pub use replying::{tell_fault, tell_refusal};

@@ -11,22 +11,54 @@ ghost use Rattle.desk_views.specs.Proposals.{HasLines, IsRefused, Proposes};
 
 use desk_access::texts::Texts;
 use desk_base::Profile;
-use desk_import::{Proposals, proposals_of};
+use desk_import::{Proposals, Standing, proposals_of};
 use desk_model::{Answer, Outcome, Refusal};
-use desk_subcommands::{Failure, tell};
-use desk_tagvalue::{Document, read};
+use desk_subcommands::{Failure, Teller, tell};
+use desk_tagvalue::{Document, Package, read};
 use std::alloc::{AllocError, Global};
 use std::io::Write;
 
-// Reports how many conclusions are proposed. The lines themselves may go into a file.
+// Adds the line that names a package that is left out, and what it declares.
+fn add_left_out(alloc: Global, text: &mut String, package: &Package<'_>) -> Result<(), AllocError> {
+    let id = package.id;
+    let line = match package.declared {
+        Some(declared) => {
+            format!(in alloc;
+                "left out: {id}, which declares {declared:?}, no licence expression\n"
+            )?
+        }
+        None => format!(in alloc; "left out: {id}, which declares no licence\n")?,
+    };
+    text.push_str(line.as_str())
+}
+
+// The lines that name the packages that are left out.
+fn left_out_lines(
+    alloc: Global,
+    packages: &[Package<'_>],
+    standings: &[Standing],
+) -> Result<String, AllocError> {
+    let mut text = String::new(alloc);
+    for (package, standing) in packages.iter().zip(standings) {
+        if let Standing::Neither = standing {
+            add_left_out(alloc, &mut text, package)?;
+        }
+    }
+    Ok(text)
+}
+
+// Reports how many conclusions are proposed, and names the packages that are left out. The lines
+// themselves may go into a file.
 fn tell_counts<T: Write>(
     alloc: Global,
     profile: Profile,
     proposals: &Proposals,
+    packages: &[Package<'_>],
     teller: &mut T,
 ) -> Result<(), Failure> {
     let profile = profile.number();
-    let told = format!(in alloc; "read by profile {profile}: {proposals}\n")?;
+    let left_out = left_out_lines(alloc, packages, proposals.standings.as_slice())?;
+    let told = format!(in alloc; "read by profile {profile}: {proposals}\n{left_out}")?;
     teller.write_all(told.as_bytes())?;
     Ok(())
 }
@@ -53,7 +85,8 @@ pub fn write_proposals<W: Write, T: Write>(
     writer.write_all(proposals.lines.as_bytes())?;
     writer.flush()?;
     // If that can't be reported, the lines are still written.
-    let _told = tell_counts(alloc, profile, &proposals, teller);
+    let packages = document.packages.as_slice();
+    let _told = tell_counts(alloc, profile, &proposals, packages, teller);
     Ok(0)
 }
 
@@ -83,6 +116,20 @@ pub fn refuse_document<X: Texts, W: Write>(
             drop(document);
             Err(Failure::Memory(AllocError))
         }
+    }
+}
+
+/// Explains why bytes are no document, if that is why nothing is proposed for them.
+pub fn explain_document<X: Texts, E: Write>(
+    alloc: Global,
+    texts: &X,
+    bytes: &[u8],
+    teller: &mut Teller<E>,
+) {
+    if let Ok(Err(fault)) = texts.document(alloc, bytes) {
+        let outcome = Outcome::Answered(Answer::Refused(Refusal::BadDocument(fault)));
+        teller.explain(&outcome);
+        drop(outcome);
     }
 }
 

@@ -1,4 +1,4 @@
-//! Whether a release is ready.
+//! Whether a release is ready, or lacks nothing for its notices.
 
 ghost use Rattle.std.specs.Prelude.{◌≡◌, IfOk, IfErr, IsTrue, true};
 ghost use Rattle.std.specs.Io.KnownBytes.{Appends, Keeps};
@@ -16,18 +16,18 @@ use desk_subcommands::{Failure, Teller, write_text};
 use std::alloc::Global;
 use std::io::Write;
 
-// Whether no duty keeps the release back.
+// Whether nothing keeps the release back: no duty, or no gap.
 fn is_ready(outcome: &Outcome) -> bool
     ensures { result ≡ is_ready outcome.now }
 {
     match outcome {
         Outcome::Answered(Answer::Duties(lines)) => lines.as_slice().is_empty(),
+        Outcome::Answered(Answer::Gaps(gaps)) => gaps.as_slice().is_empty(),
         _ => false,
     }
 }
 
-// Writes the duties that keep a release back, or else why they can't be listed, and returns the
-// status.
+// Writes what keeps a release back, or else why it can't be listed, and returns the status.
 fn write_unready<W: Write>(
     alloc: Global,
     outcome: &Outcome,
@@ -52,10 +52,10 @@ fn write_unready<W: Write>(
     Ok(1)
 }
 
-/// Asks a desk which duties keep a release from being ready and writes them, as `show` does, or
-/// nothing if there are none. Returns the program's status: 0 if there are none, and else 1. A
-/// refusal is written as the line of its reply. If the desk fails, both the reply and the failure
-/// say so. The desk is as it was.
+/// Asks a desk which duties keep a release from being ready, or what is missing for its notices, and
+/// writes these rows as `show` does, or nothing if there are none. Returns the program's status: 0 if
+/// there are none, and else 1. A refusal is written as the line of its reply. If the desk fails, both
+/// the reply and the failure say so. The desk is as it was.
 pub fn show_ready<D: Desk, W: Write, E: Write>(
     alloc: Global,
     desk: &mut D,

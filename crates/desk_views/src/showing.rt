@@ -1,5 +1,5 @@
 //! The texts that an office asks for: the notices of a release, the table of its duties, their
-//! totals, and the changes of a duty.
+//! totals, the changes of a duty, and what is missing for notices.
 
 ghost use Rattle.std.specs.Prelude.{◌≡◌, IfOk, IfErr, option_map, if◌then◌else◌};
 ghost use Rattle.std.specs.Io.KnownBytes.{Appends, Keeps};
@@ -14,6 +14,7 @@ ghost use Rattle.desk_subcommands.specs.Failures.{IfMemory, IsOfOutput, OfReques
 ghost use Rattle.desk_subcommands.specs.Filing.{answer_status, outcome_line};
 ghost use Rattle.desk_views.specs.Showing.{answer_text, Asks, HasFailed, IsShown, IsUntold, outcome_text, shown};
 
+use desk_answers::gaps_text;
 use desk_core::desk::Desk;
 use desk_model::{Answer, Bill, DutyLine, Outcome, Query, Totals};
 use desk_report::{changes_text, duties_columns, duties_csv, notices, notices_shown, totals_text};
@@ -64,6 +65,7 @@ fn answer_text(
         Answer::Duties(lines) => Ok(Some(duties_table(alloc, lines.as_slice(), is_terminal)?)),
         Answer::Totals(totals) => Ok(Some(totals_bytes(alloc, totals)?)),
         Answer::Changes(rows) => Ok(Some(changes_text(alloc, rows.as_slice())?)),
+        Answer::Gaps(gaps) => Ok(Some(gaps_text(alloc, gaps.as_slice(), is_terminal)?)),
         _ => Ok(None),
     }
 }
@@ -117,8 +119,8 @@ pub(crate) fn ask_desk<D: Desk>(desk: &mut D, query: &Query) -> Outcome
 }
 
 /// Asks a desk a question and writes the text of its answer: the notices of a bill, the table of
-/// duties, the line of totals, or the lines of changes. A terminal gets the notices as it shows
-/// them, and the table in columns. Any other answer, such as a refusal, is written as the line of
+/// duties, the line of totals, the lines of changes, or the list of gaps. A terminal gets the
+/// notices as it shows them, and tables in columns. Any other answer, such as a refusal, is written as the line of
 /// its reply. Returns the program's status. If the desk fails, both the reply and the failure say
 /// so. The desk is as it was.
 pub fn show<D: Desk, W: Write, E: Write>(

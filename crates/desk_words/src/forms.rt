@@ -174,7 +174,7 @@ pub(crate) const COMMANDS: [Form; 14] = [
 ];
 
 /// The forms that the value of `ask` can name.
-pub(crate) const QUERIES: [Form; 12] = [
+pub(crate) const QUERIES: [Form; 13] = [
     Form {
         word: "duties",
         keys: &[RELEASE],
@@ -222,6 +222,10 @@ pub(crate) const QUERIES: [Form; 12] = [
     Form {
         word: "ready",
         keys: &[RELEASE, OPTIONAL_DAY],
+    },
+    Form {
+        word: "gaps",
+        keys: &[RELEASE],
     },
 ];
 

@@ -1,12 +1,17 @@
 //! Refusals in words.
 
 use desk_base::{Text, limits};
-use desk_model::{CatalogueFault, DocumentFault, ExpressionFault, Limit, Refusal};
+use desk_model::{CatalogueFault, DocumentFault, DutyState, ExpressionFault, Limit, Refusal};
 use std::fmt;
 
 const MEBIBYTE: usize = 1_048_576;
 
 const ID_WANTED: &str = ": wanted are letters, digits, . and - behind SPDXRef- or LicenseRef-";
+
+// How the references to licences begin (SPDX 2.3, Annex D.3).
+const LICENSE_REF: &str = "LicenseRef-";
+
+const DOCUMENT_REF: &str = "DocumentRef-";
 
 const WORDS_WANTED: &str = ": wanted are an id, a type in capitals and an id";
 
@@ -164,6 +169,15 @@ fn write_full<W: fmt::Write>(limit: Limit, f: &mut fmt::Formatter<W>) -> fmt::Re
     write!(f, "{who} has {count} {what} at most")
 }
 
+fn write_state<W: fmt::Write>(state: DutyState, f: &mut fmt::Formatter<W>) -> fmt::Result {
+    let name = state.name();
+    write!(f, "the duty is {name}")?;
+    match state {
+        DutyState::Met | DutyState::Waived => f.write_str(": reopen it first"),
+        _ => Ok(()),
+    }
+}
+
 // What is wrong, for a refusal that has no place.
 fn plain_words(refusal: &Refusal) -> &'static str {
     match refusal {
@@ -184,6 +198,16 @@ fn plain_words(refusal: &Refusal) -> &'static str {
         Refusal::TooManyTerms => "there are too many distinct terms to list the sets",
         Refusal::BadEnd => "the waiver's last day is before the day of the request",
         _ => "",
+    }
+}
+
+// Which rule is to be added for a term. That of a reference is for a licence, which the office adopted
+// it as.
+fn rule_wanted(term: &str) -> &'static str {
+    if term.starts_with(LICENSE_REF) || term.starts_with(DOCUMENT_REF) {
+        ": add one for the licence that the reference was adopted as"
+    } else {
+        ": add one"
     }
 }
 
@@ -223,7 +247,8 @@ fn write_place<W: fmt::Write>(refusal: &Refusal, f: &mut fmt::Formatter<W>) -> f
             write!(
                 f,
                 "the catalogue has no rule for {term} of {id} of document {document}"
-            )
+            )?;
+            f.write_str(rule_wanted(term))
         }
         other => f.write_str(plain_words(other)),
     }
@@ -251,10 +276,7 @@ impl fmt::Display for RefusalWords<'_> {
                 let state = state.name();
                 write!(f, "the release is {state}")
             }
-            Refusal::DutyState(state) => {
-                let state = state.name();
-                write!(f, "the duty is {state}")
-            }
+            Refusal::DutyState(state) => write_state(*state, f),
             Refusal::NotMinimal { term } => {
                 let term = term.as_str();
                 write!(f, "{term} can be left out")

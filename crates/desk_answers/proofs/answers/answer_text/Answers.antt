@@ -7,7 +7,7 @@ use Rattle.desk_model.specs.declared.command.Answer.TheVariants as answer
 use Rattle.desk_model.specs.declared.refusal.Refusal.{Refusal}
 use Rattle.desk_answers.specs.Answers.{IsShown, rows_shown}
 use Rattle.desk_answers.specs.Refusals.{IsRefused}
-use Rattle.desk_answers.specs.Rows.{counted_cells, held_cells, held_names, open_cells, open_names}
+use Rattle.desk_answers.specs.Rows.{counted_cells, held_cells, held_names, open_cells, open_names, gap_cells, gap_names}
 use Rattle.desk_answers.specs.Rows.{release_names, totals_names}
 use Rattle.desk_answers.proofs.answers.answer_text.Goals as goal
 use denote.Ref.{Bor}
@@ -35,6 +35,14 @@ returns-in-OpenDuties c =
     (IfOk-weaker c.columns_of-in-OpenDuties.result _ _
     (λ text is. is ∙ ap (rows_shown open_names open_cells) c.as_slice-in-OpenDuties.ensures)
     c.columns_of-in-OpenDuties.ensures)
+
+pub returns-in-Gaps : goal.returns-in-Gaps
+returns-in-Gaps c =
+    subst (λ (a : Answer). IfOk c.columns_of-in-Gaps.result (λ text. IsShown a text.items))
+    (sym c.in-Gaps.is)
+    (IfOk-weaker c.columns_of-in-Gaps.result _ _
+    (λ text is. is ∙ ap (rows_shown gap_names gap_cells) c.as_slice-in-Gaps.ensures)
+    c.columns_of-in-Gaps.ensures)
 
 -- a refusal by some tables
 in_tables : (tables : List (Bor (List Entry))) (refusal : Refusal) (text : List ℕ)
