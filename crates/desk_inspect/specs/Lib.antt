@@ -1,3 +1,5 @@
+pub mod Counting
+pub mod Held
 pub mod Idle
 pub mod Inspecting
 pub mod Listing

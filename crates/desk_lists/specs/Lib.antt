@@ -4,5 +4,6 @@ pub mod CsvTable
 pub mod Documents
 pub mod Duties
 pub mod Held
+pub mod Known
 pub mod Releases
 pub mod Titles

@@ -9,12 +9,15 @@
 //!   name and the findings that its bytes give (`specs/Documents.antt`).
 //! - `duties` has the duties that a filter asks for, in the order in which they were raised
 //!   (`specs/Duties.antt`), with their titles in the catalogue in force (`specs/Titles.antt`).
+//!   `names_unknown_release` and `names_unknown_code` find a filter that no duty can pass
+//!   (`specs/Known.antt`).
 //!
 //! Each list is written as comma-separated values (`specs/CsvTable.antt`) or laid out in columns
 //! for a terminal (`specs/Columns.antt`). The cells of a line are the same in both
 //! (`specs/Cells.antt`). The only error is that no memory is left.
 //!
-//! Other tables are made and laid out in the same way, by `row_of` and `columns_text`.
+//! Other tables are made and laid out in the same way, by `row_of`, `columns_text` and
+//! `csv_text`.
 #![tactic(auto)]
 
 mod cells;
@@ -22,6 +25,7 @@ mod columns;
 mod document;
 mod duty;
 mod held;
+mod known;
 mod lines;
 mod release;
 mod said;
@@ -33,8 +37,10 @@ pub use cells::{Cell, row_of};
 pub use columns::columns_text;
 pub use document::documents;
 pub use duty::duties;
+pub use known::{names_unknown_code, names_unknown_release};
 pub use lines::{DocumentLine, DutyFilter, DutyLine, ReleaseLine};
 pub use release::releases;
+pub use table::csv_text;
 pub use texts::{
     documents_columns, documents_csv, duties_columns, duties_csv, releases_columns, releases_csv,
 };

@@ -104,7 +104,7 @@ fn add_row<W: Write + Drop>(
 }
 
 /// A record for each row.
-pub(crate) fn csv_text(alloc: Global, rows: &[Items<Text>]) -> Result<Vec<u8>, AllocError>
+pub fn csv_text(alloc: Global, rows: &[Items<Text>]) -> Result<Vec<u8>, AllocError>
     ensures { IfOk result (λ text. text.items ≡ csv_text rows.now) }
 {
     let mut writer = WriterBuilder::new().from_writer(Vec::new(alloc));
