@@ -1,42 +1,21 @@
 -- What filling finds, and what it leaves as it is.
-use Rattle.std.proofs.Common.{◌≡◌, ◌∙◌, ℕ, ◌+◌, ◌<◌, Bool, true, false, cond, List, [], ◌∷◌}
-use Rattle.std.proofs.Common.{length, get_or, drop, map, Option, Some, None, sym, ap, refl, arith}
-use Rattle.std.specs.Prelude.{count_by, find}
+use Rattle.std.proofs.Common.{◌≡◌, ◌∙◌, ℕ, ◌+◌, Bool, true, false, cond, List, [], ◌∷◌}
+use Rattle.std.proofs.Common.{map, Option, Some, None, sym, ap, subst, refl, arith, inl, inr}
+use Rattle.std.specs.Prelude.{Contains, IsSomeAnd, count_by, find, option_map}
 use Rattle.std.specs.List.{flat_map}
 use Rattle.std.specs.Option.{option_or}
 use Rattle.std.proofs.lemmas.Bool.{cond-false, cond-true}
-use Rattle.std.proofs.lemmas.List.{drop_more}
-use Rattle.std.proofs.lemmas.List.Folds.{find-append}
 use Rattle.std.proofs.lemmas.List.Sums.{sum_by-cons}
+use Rattle.desk_base.proofs.Lists.{contains_cases}
+use Rattle.desk_base.proofs.SortedOnce.{is_head, is_later}
 use Rattle.desk_model.specs.declared.bill.Bill.{Bill}
 use Rattle.desk_model.specs.declared.bill.BillLine.{BillLine}
 use Rattle.desk_model.specs.declared.bill.BillText.{BillText}
+use Rattle.desk_model.specs.declared.reading.LicenceText.{LicenceText}
+use Rattle.desk_fill.specs.declared.fill.Credit.{Credit}
 use Rattle.desk_fill.specs.declared.fill.Fill.{Fill}
-use Rattle.desk_fill.specs.Filling.{credit_for, filled, filled_line, filled_text, gaps_of, lacks_body}
+use Rattle.desk_fill.specs.Filling.{credit_for, filled, filled_line, filled_text, fits, gaps_of, is_text_of, lacks_body}
 use Rattle.desk_fill.specs.Filling.{lacks_credit, text_for}
-
--- ---- what is found in lists of lists
-
-module _ {A X : Type 0} (of : A → List X) (p : X → Bool) where
-  abbrev pub found : List A → Option X
-  found all = find p (flat_map of all)
-
-  split : (all : List A) (i : ℕ) (d : A) → i < length all
-      → found (drop i all) ≡ option_or (find p (of (get_or all i d))) (found (drop (i + 1) all))
-  split all i d within = ap found (drop_more all i d within)
-      ∙ find-append p (of (get_or all i d)) (flat_map of (drop (i + 1) all))
-
-  -- nothing is found in a list
-  pub passed : (all : List A) (i : ℕ) (d : A) → i < length all
-      → find p (of (get_or all i d)) ≡ None → found (drop (i + 1) all) ≡ found (drop i all)
-  passed all i d within none = sym (split all i d within
-      ∙ ap (λ o. option_or o (found (drop (i + 1) all))) none)
-
-  -- something is found in it
-  pub met : (all : List A) (i : ℕ) (d : A) (x : X) → i < length all
-      → find p (of (get_or all i d)) ≡ Some x → found (drop i all) ≡ Some x
-  met all i d x within is = split all i d within
-      ∙ ap (λ o. option_or o (found (drop (i + 1) all))) is
 
 -- ---- what stays
 
@@ -132,3 +111,59 @@ module _ (fills : List Fill) where
       go : (b : Bool) → (cond b (text_with text) text).title ≡ text.title
       go true = refl
       go false = refl
+
+-- ---- what is filled
+
+by_case : {X : Type 0} (p : X → Bool) (y : X) (ys : List X) (b : Bool) → p y ≡ b
+    → (b ≡ false → IsSomeAnd (find p ys) (λ x. Contains ys x × (p x ≡ true)))
+    → IsSomeAnd (cond b (Some y) (find p ys)) (λ x. Contains (y ∷ ys) x × (p x ≡ true))
+by_case p y ys true is later = (is_head y ys, is)
+by_case {X = X} p y ys false is later = weaker (find p ys) (later refl)
+  where
+    weaker : (o : Option X) → IsSomeAnd o (λ x. Contains ys x × (p x ≡ true))
+        → IsSomeAnd o (λ x. Contains (y ∷ ys) x × (p x ≡ true))
+    weaker None h = h
+    weaker (Some x) h = (is_later y ys x h.0, h.1)
+
+find_met : {X : Type 0} (p : X → Bool) (xs : List X) (x : X) → Contains xs x → p x ≡ true
+    → IsSomeAnd (find p xs) (λ y. Contains xs y × (p y ≡ true))
+find_met p [] x at is = absurd (let within = at.1 in omega (arith, within))
+find_met p (y ∷ ys) x at is = by_case p y ys (p y) refl (λ differs. elim (contains_cases y ys x at) [
+  | inl same ↦ absurd (let e : true ≡ false = sym is ∙ ap p (sym same) ∙ differs in cc)
+  | inr later ↦ find_met p ys x later is
+])
+
+-- what is found is said
+said : {X : Type 0} (p : X → Bool) (say : X → List ℕ) (xs : List X) (o : Option X) (old : Option (List ℕ))
+    → IsSomeAnd o (λ y. Contains xs y × (p y ≡ true))
+    → IsSomeAnd (option_or (option_map say o) old)
+    (λ text. (y : X) × Contains xs y × (p y ≡ true) × (text ≡ say y))
+said p say xs None old h = absurd h
+said p say xs (Some y) old h = (y, h.0, h.1, refl)
+
+pub credit_filled : (fills : List Fill) (line : BillLine) (credit : Credit)
+    → Contains (flat_map (λ fill. fill.credits) fills) credit → fits line credit ≡ true
+    → lacks_credit line ≡ true → IsSomeAnd (filled_line fills line).copyright (λ text.
+    (found : Credit) × Contains (flat_map (λ fill. fill.credits) fills) found
+    × (fits line found ≡ true) × (text ≡ found.text))
+credit_filled fills line credit at is gap =
+    let all = flat_map (λ (fill : Fill). fill.credits) fills in
+    let Met = λ (l : BillLine). IsSomeAnd l.copyright (λ text.
+    (found : Credit) × Contains all found × (fits line found ≡ true) × (text ≡ found.text)) in
+    subst Met (sym (cond-true (lacks_credit line) (line_with fills line) line gap))
+    (said (fits line) (λ (c : Credit). c.text) all (find (fits line) all) line.copyright
+    (find_met (fits line) all credit at is))
+
+pub text_filled : (fills : List Fill) (text : BillText) (own : LicenceText)
+    → Contains (flat_map (λ fill. fill.texts) fills) own → is_text_of text.title own ≡ true
+    → lacks_body text ≡ true → IsSomeAnd (filled_text fills text).body (λ body.
+    (found : LicenceText) × Contains (flat_map (λ fill. fill.texts) fills) found
+    × (is_text_of text.title found ≡ true) × (body ≡ found.body))
+text_filled fills text own at is gap =
+    let all = flat_map (λ (fill : Fill). fill.texts) fills in
+    let same = is_text_of text.title in
+    let Met = λ (t : BillText). IsSomeAnd t.body (λ body.
+    (found : LicenceText) × Contains all found × (same found ≡ true) × (body ≡ found.body)) in
+    subst Met (sym (cond-true (lacks_body text) (text_with fills text) text gap))
+    (said same (λ (t : LicenceText). t.body) all (find same all) text.body
+    (find_met same all own at is))

@@ -1,2 +1,4 @@
 pub mod EntryLemmas
 pub mod FillLemmas
+pub mod SubjectLemmas
+pub mod FirstLemmas

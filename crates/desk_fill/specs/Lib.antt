@@ -3,3 +3,4 @@ pub mod Values
 pub mod Reading
 pub mod Shown
 pub mod Showing
+pub mod Subjects

@@ -1,19 +1,23 @@
 //! The credits of a file.
 
-ghost use Rattle.std.specs.Prelude.{◌≡◌, [], IfOk, option_map};
+ghost use Rattle.std.specs.Prelude.{◌≡◌, ◌++◌, ◌∷◌, [], map, IfOk, OnOk, option_map};
 ghost use Rattle.std.specs.List.{list_any};
 ghost use Rattle.toml.specs.View.{view, items_view};
 ghost use Rattle.desk_fill.specs.Reading.{each, credit_of, credit_of_keys, credit_of_values, credit_at, with_credit, credits_of, version_of};
 ghost use Rattle.toml.specs.Data.{as_str};
 ghost use Rattle.desk_fill.specs.Shown.{Gives};
+ghost use Rattle.desk_fill.specs.Subjects.{Knows, subject_of_credit};
 ghost use Rattle.desk_fill.specs.Values.{is_same_credit};
 
 use crate::entries::tables_of;
 use crate::fault::{Flaw, Part};
 use crate::fill::Credit;
-use crate::values::{is_same_credit, says_something, take_member};
+use crate::index::{note, subject_of_credit};
+use crate::subjects::Subject;
+use crate::values::{says_something, take_member};
 use desk_base::{Items, Text};
 use std::alloc::{AllocError, Global};
+use std::collections::BTreeMap;
 use toml::Value;
 
 // The version that a value gives, or none for any.
@@ -90,11 +94,21 @@ fn credit_at(index: usize, value: Value) -> Result<Credit, Flaw>
     credit_of_keys(index, name, text, version)
 }
 
-// Whether one of some credits is for the package and version of another.
-fn is_there(credits: &[Credit], credit: &Credit) -> bool
-    ensures { result ≡ list_any (is_same_credit credit.now) credits.now }
+// Whether one of some credits is for the package and version of another, which is noted.
+fn is_repeated(
+    alloc: Global,
+    firsts: &mut BTreeMap<Subject, usize>,
+    credits: &[Credit],
+    credit: &Credit,
+) -> Result<bool, AllocError>
+    requires { Knows (map subject_of_credit credits.now) firsts.old }
+    ensures repeated { IfOk result (λ is. is ≡ list_any (is_same_credit credit.now) credits.now) }
+    ensures knows { OnOk result (Knows (map subject_of_credit (credits.now ++ credit.now ∷ []))
+        firsts.new) }
 {
-    credits.iter().any(|other| is_same_credit(credit, other))
+    let subject = subject_of_credit(alloc, credit)?;
+    let new = note(firsts, subject, credits.len())?;
+    Ok(!new)
 }
 
 // The credits of a list, if none stands twice.
@@ -102,11 +116,12 @@ fn each_credit(alloc: Global, values: Vec<Value>) -> Result<Result<Items<Credit>
     ensures { IfOk result (Gives (each with_credit [] 0 (items_view values.items)) (λ credits. credits)) }
 {
     let mut credits = Items::new(alloc);
+    let mut firsts = BTreeMap::new(alloc);
     for value in values {
         let index = credits.as_slice().len();
         match credit_at(index, value) {
             Ok(credit) => {
-                if is_there(credits.as_slice(), &credit) {
+                if is_repeated(alloc, &mut firsts, credits.as_slice(), &credit)? {
                     return Ok(Err(Flaw::Twice(Part::Credit, index)));
                 }
                 credits.push(credit)?;

@@ -1,14 +1,16 @@
 //! Fills the gaps of a bill.
 
-ghost use Rattle.std.specs.Prelude.{◌≡◌, map, find, count_by, option_map, IfOk};
-ghost use Rattle.std.specs.List.{flat_map};
+ghost use Rattle.std.specs.Prelude.{◌≡◌, List, map, count_by, option_map, IfOk};
 ghost use Rattle.std.specs.Option.{option_or};
-ghost use Rattle.desk_fill.specs.Filling.{credit_for, filled, filled_line, filled_text, fits, gaps_of, is_text_of, is_version, lacks_body, lacks_credit, text_for};
+ghost use Rattle.desk_fill.specs.declared.fill.Fill.{Fill};
+ghost use Rattle.desk_fill.specs.Filling.{credit_for, filled, filled_line, filled_text, gaps_of, lacks_body, lacks_credit, text_for};
+ghost use Rattle.desk_fill.specs.Subjects.{Indexes, credit_entries, text_entries};
 
-use crate::fill::{Credit, Fill};
-use crate::values::{is_nothing, is_same_name};
+use crate::fill::Fill;
+use crate::index::{Index, credit_index, subject_of_package, subject_of_title, text_index};
+use crate::values::is_nothing;
 use desk_base::{Items, Text};
-use desk_model::{Bill, BillLine, BillText, LicenceText};
+use desk_model::{Bill, BillLine, BillText};
 use desk_tokens::is_reference;
 use std::alloc::{AllocError, Global};
 
@@ -53,70 +55,34 @@ pub fn gaps_of(bill: &Bill) -> Gaps
     }
 }
 
-// Whether a version is the one that is named, if one is.
-fn is_version(named: &Option<Text>, given: &Option<Text>) -> bool
-    ensures { result ≡ is_version named.now given.now }
+// The text of the first credit for a package.
+fn credit_for<'a>(
+    alloc: Global,
+    credits: &Index<'a>,
+    line: &BillLine,
+) -> Result<Option<&'a Text>, AllocError>
+    ensures { (fills : List Fill) → Indexes (credit_entries fills) credits.now
+        → IfOk result (λ found. option_map (λ text. text.now) found ≡ credit_for fills line.now) }
 {
-    match (named, given) {
-        (None, _) => true,
-        (Some(named), Some(given)) => named.as_str() == given.as_str(),
-        (Some(_), None) => false,
-    }
+    let any = subject_of_package(alloc, &line.name, None)?;
+    let own = subject_of_package(alloc, &line.name, line.version.as_ref())?;
+    let of_any = credits.place(&any);
+    let of_own = credits.place(&own);
+    Ok(credits.text(of_any.min(of_own)))
 }
 
-// Whether a credit is for a package.
-fn fits(line: &BillLine, credit: &Credit) -> bool
-    ensures { result ≡ fits line.now credit.now }
+// The first text that has a title.
+fn text_for<'a>(
+    alloc: Global,
+    texts: &Index<'a>,
+    title: &str,
+) -> Result<Option<&'a Text>, AllocError>
+    ensures { (fills : List Fill) → Indexes (text_entries fills) texts.now
+        → IfOk result (λ found. option_map (λ text. text.now) found ≡ text_for fills title.now) }
 {
-    credit.name.as_str() == line.name.as_str() && is_version(&credit.version, &line.version)
-}
-
-// The first of some credits that is for a package.
-fn first_credit<'a>(credits: &'a [Credit], line: &BillLine) -> Option<&'a Credit>
-    ensures { option_map (λ credit. credit.now) result ≡ find (fits line.now) credits.now }
-{
-    for credit in credits {
-        if fits(line, credit) {
-            return Some(credit);
-        }
-    }
-    None
-}
-
-// The first credit of some files that is for a package.
-fn credit_for<'a>(fills: &'a [Fill], line: &BillLine) -> Option<&'a Text>
-    ensures { option_map (λ text. text.now) result ≡ credit_for fills.now line.now }
-{
-    for fill in fills {
-        if let Some(credit) = first_credit(fill.credits.as_slice(), line) {
-            return Some(&credit.text);
-        }
-    }
-    None
-}
-
-// The first of some texts that has a title.
-fn first_text<'a>(texts: &'a [LicenceText], title: &str) -> Option<&'a LicenceText>
-    ensures { option_map (λ text. text.now) result ≡ find (is_text_of title.now) texts.now }
-{
-    for text in texts {
-        if is_same_name(title, text.title.as_str()) {
-            return Some(text);
-        }
-    }
-    None
-}
-
-// The first text of some files that has a title.
-fn text_for<'a>(fills: &'a [Fill], title: &str) -> Option<&'a Text>
-    ensures { option_map (λ text. text.now) result ≡ text_for fills.now title.now }
-{
-    for fill in fills {
-        if let Some(text) = first_text(fill.texts.as_slice(), title) {
-            return Some(&text.body);
-        }
-    }
-    None
+    let subject = subject_of_title(alloc, title)?;
+    let place = texts.place(&subject);
+    Ok(texts.text(place))
 }
 
 // A copy of what was found or, if nothing was, what there is.
@@ -131,13 +97,14 @@ fn found_or(found: Option<&Text>, given: Option<Text>) -> Result<Option<Text>, A
 }
 
 // A package with its copyright, if it is given or in the files.
-fn filled_line(fills: &[Fill], line: BillLine) -> Result<BillLine, AllocError>
-    ensures { IfOk result (λ made. made ≡ filled_line fills.now line) }
+fn filled_line(alloc: Global, credits: &Index<'_>, line: BillLine) -> Result<BillLine, AllocError>
+    ensures { (fills : List Fill) → Indexes (credit_entries fills) credits.now
+        → IfOk result (λ made. made ≡ filled_line fills line) }
 {
     if !lacks_credit(&line) {
         return Ok(line);
     }
-    let found = credit_for(fills, &line);
+    let found = credit_for(alloc, credits, &line)?;
     let BillLine {
         name,
         version,
@@ -153,13 +120,14 @@ fn filled_line(fills: &[Fill], line: BillLine) -> Result<BillLine, AllocError>
 }
 
 // A text with its body, if it is given or in the files.
-fn filled_text(fills: &[Fill], text: BillText) -> Result<BillText, AllocError>
-    ensures { IfOk result (λ made. made ≡ filled_text fills.now text) }
+fn filled_text(alloc: Global, texts: &Index<'_>, text: BillText) -> Result<BillText, AllocError>
+    ensures { (fills : List Fill) → Indexes (text_entries fills) texts.now
+        → IfOk result (λ made. made ≡ filled_text fills text) }
 {
     if !lacks_body(&text) {
         return Ok(text);
     }
-    let found = text_for(fills, text.title.as_str());
+    let found = text_for(alloc, texts, text.title.as_str())?;
     let BillText { title, body } = text;
     Ok(BillText {
         title,
@@ -170,14 +138,15 @@ fn filled_text(fills: &[Fill], text: BillText) -> Result<BillText, AllocError>
 // The packages with what was missing.
 fn filled_lines(
     alloc: Global,
-    fills: &[Fill],
+    index: &Index<'_>,
     lines: Items<BillLine>,
 ) -> Result<Items<BillLine>, AllocError>
-    ensures { IfOk result (λ made. made ≡ map (filled_line fills.now) lines) }
+    ensures { (fills : List Fill) → Indexes (credit_entries fills) index.now
+        → IfOk result (λ made. made ≡ map (filled_line fills) lines) }
 {
     let mut filled = Vec::with_capacity(alloc, lines.as_slice().len())?;
     for line in lines.into_vec() {
-        filled.push(filled_line(fills, line)?)?;
+        filled.push(filled_line(alloc, index, line)?)?;
     }
     Ok(Items::from_vec(filled))
 }
@@ -185,14 +154,15 @@ fn filled_lines(
 // The texts with what was missing.
 fn filled_texts(
     alloc: Global,
-    fills: &[Fill],
+    index: &Index<'_>,
     texts: Items<BillText>,
 ) -> Result<Items<BillText>, AllocError>
-    ensures { IfOk result (λ made. made ≡ map (filled_text fills.now) texts) }
+    ensures { (fills : List Fill) → Indexes (text_entries fills) index.now
+        → IfOk result (λ made. made ≡ map (filled_text fills) texts) }
 {
     let mut filled = Vec::with_capacity(alloc, texts.as_slice().len())?;
     for text in texts.into_vec() {
-        filled.push(filled_text(fills, text)?)?;
+        filled.push(filled_text(alloc, index, text)?)?;
     }
     Ok(Items::from_vec(filled))
 }
@@ -213,7 +183,7 @@ pub fn filled(alloc: Global, bill: Bill, fills: &[Fill]) -> Result<Bill, AllocEr
     Ok(Bill {
         release,
         form,
-        lines: filled_lines(alloc, fills, lines)?,
-        texts: filled_texts(alloc, fills, texts)?,
+        lines: filled_lines(alloc, &credit_index(alloc, fills)?, lines)?,
+        texts: filled_texts(alloc, &text_index(alloc, fills)?, texts)?,
     })
 }

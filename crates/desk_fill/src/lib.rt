@@ -23,16 +23,23 @@ mod entries;
 mod fault;
 mod fill;
 mod filling;
+mod index;
 mod laws;
 pub mod limits;
 mod reading;
 mod showing;
+mod subjects;
 mod texts;
 mod values;
 
 pub use fault::{FillFault, Flaw, Part};
 pub use fill::{Credit, Fill};
 pub use filling::{Gaps, filled, gaps_of};
-pub use laws::{filling_twice_is_filling_once, full_bills_stay, given_values_stay};
+pub use laws::{
+    filling_twice_is_filling_once, full_bills_stay, gaps_are_filled, given_values_stay,
+};
 pub use reading::read_fill;
 pub use showing::{Style, Written, filled_notices};
+pub use subjects::Subject;
+pub use texts::is_repeated;
+pub use values::{is_name, says_something};

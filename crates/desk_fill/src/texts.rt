@@ -1,18 +1,22 @@
 //! The texts of a file.
 
-ghost use Rattle.std.specs.Prelude.{◌≡◌, [], IfOk, option_map};
+ghost use Rattle.std.specs.Prelude.{◌≡◌, ◌++◌, ◌∷◌, [], map, true, IfOk, OnOk, option_map};
 ghost use Rattle.std.specs.List.{list_any};
 ghost use Rattle.toml.specs.View.{view, items_view};
 ghost use Rattle.desk_fill.specs.Reading.{each, text_of, text_of_keys, text_at, with_text, texts_of};
 ghost use Rattle.desk_fill.specs.Shown.{Gives};
+ghost use Rattle.desk_fill.specs.Subjects.{Knows, subject_of_text};
 ghost use Rattle.desk_fill.specs.Values.{is_same_text};
 
 use crate::entries::tables_of;
 use crate::fault::{Flaw, Part};
-use crate::values::{is_name, is_same_text, says_something, take_member};
+use crate::index::{note, subject_of_title};
+use crate::subjects::Subject;
+use crate::values::{is_name, says_something, take_member};
 use desk_base::{Items, Text};
 use desk_model::LicenceText;
 use std::alloc::{AllocError, Global};
+use std::collections::BTreeMap;
 use toml::Value;
 
 // The text for a name, if there may be one.
@@ -62,11 +66,23 @@ fn text_at(index: usize, value: Value) -> Result<LicenceText, Flaw>
     text_of_keys(index, licence, body)
 }
 
-// Whether one of some texts has the name of another.
-fn is_there(texts: &[LicenceText], text: &LicenceText) -> bool
-    ensures { result ≡ list_any (is_same_text text.now) texts.now }
+/// Whether one of some texts has the name of another, whose subject is noted. The only error is
+/// lack of memory.
+pub fn is_repeated(
+    alloc: Global,
+    firsts: &mut BTreeMap<Subject, usize>,
+    texts: &[LicenceText],
+    text: &LicenceText,
+) -> Result<bool, AllocError>
+    requires { Knows (map subject_of_text texts.now) firsts.old }
+    ensures repeated { IfOk result (λ is. is ≡ list_any (is_same_text text.now) texts.now) }
+    ensures knows { OnOk result (Knows (map subject_of_text (texts.now ++ text.now ∷ []))
+        firsts.new) }
+    ensures kept { IfOk result (λ is. is ≡ true → firsts.new ≡ firsts.old) }
 {
-    texts.iter().any(|other| is_same_text(text, other))
+    let subject = subject_of_title(alloc, text.title.as_str())?;
+    let new = note(firsts, subject, texts.len())?;
+    Ok(!new)
 }
 
 // The texts of a list, if no name stands twice.
@@ -77,11 +93,12 @@ fn each_text(
     ensures { IfOk result (Gives (each with_text [] 0 (items_view values.items)) (λ texts. texts)) }
 {
     let mut texts = Items::new(alloc);
+    let mut firsts = BTreeMap::new(alloc);
     for value in values {
         let index = texts.as_slice().len();
         match text_at(index, value) {
             Ok(text) => {
-                if is_there(texts.as_slice(), &text) {
+                if is_repeated(alloc, &mut firsts, texts.as_slice(), &text)? {
                     return Ok(Err(Flaw::Twice(Part::Text, index)));
                 }
                 texts.push(text)?;

@@ -1,30 +1,20 @@
-use Rattle.std.proofs.Common.{◌≡◌, ◌∙◌, sym, ap, Some, None, get_or}
-use Rattle.std.specs.Prelude.{find, option_map}
-use Rattle.desk_fill.specs.declared.fill.Credit.{Credit}
-use Rattle.desk_fill.specs.declared.fill.Fill.{Fill}
-use Rattle.desk_fill.specs.Filling.{fits}
-use Rattle.desk_fill.proofs.FillLemmas.{met, passed}
+use Rattle.std.proofs.Common.{◌≡◌, ◌∙◌, map, ap}
+use Rattle.std.specs.Prelude.{min}
+use Rattle.std.specs.List.{position_or_len, slice_get}
+use Rattle.desk_fill.proofs.FirstLemmas.{credit_found, own_of}
+use Rattle.desk_fill.specs.Subjects.{Entry, credit_entries, is_of}
+use Rattle.desk_fill.specs.declared.subjects.Subject.{Subject}
 use Rattle.desk_fill.proofs.filling.credit_for.Goals as goal
 
-pub returns-in-Some : goal.returns-in-Some
-returns-in-Some c =
-    let place = c.loop-fill.fill-index in
-    let same = fits c.args.line.now in
-    let found : find same (get_or c.args.fills.now place c.fill-item.result).credits ≡ Some c.in-Some.credit.now
-    = ap (λ (fill : Fill). find same fill.credits) (sym c.fill-item.is)
-    ∙ ap (find same) (sym c.as_slice.ensures) ∙ sym c.first_credit.ensures
-    ∙ ap (option_map (λ credit. credit.now)) c.in-Some.is in
-    ap (option_map (λ (credit : Credit). credit.text))
-    (sym (met (λ (fill : Fill). fill.credits) same c.args.fills.now place c.fill-item.result
-    c.in-Some.credit.now c.loop-fill-test.true found) ∙ c.loop-fill.invariant)
-
-pub loop-fill-preserved : goal.loop-fill-preserved
-loop-fill-preserved c =
-    let place = c.loop-fill.fill-index in
-    let same = fits c.args.line.now in
-    let none : find same (get_or c.args.fills.now place c.fill-item.result).credits ≡ None
-    = ap (λ (fill : Fill). find same fill.credits) (sym c.fill-item.is)
-    ∙ ap (find same) (sym c.as_slice.ensures) ∙ sym c.first_credit.ensures
-    ∙ ap (option_map (λ credit. credit.now)) c.in_default.is in
-    passed (λ (fill : Fill). fill.credits) same c.args.fills.now place c.fill-item.result
-    c.loop-fill-test.true none ∙ c.loop-fill.invariant
+pub returns : goal.returns
+returns c fills has =
+    let entries = credit_entries fills in
+    let line = c.args.line.now in
+    let own : c.in_ok-own.own ≡ own_of line = c.in_ok-own.ensures
+    ∙ (λ i. record { name = line.name; version = c.as_ref.ensures.value i }) in
+    let place = λ (s : Subject). position_or_len (is_of s) (map (λ (e : Entry). e.0) entries) in
+    c.text.ensures entries has
+    ∙ ap (slice_get (map (λ (e : Entry). e.1) entries)) (c.min.ensures
+    ∙ (λ i. min ((c.place-of_any.ensures entries has ∙ ap place c.in_ok-any.ensures) i)
+    ((c.place-of_own.ensures entries has ∙ ap place own) i)))
+    ∙ credit_found line fills
