@@ -1,11 +1,11 @@
 -- Steps and names added one after another.
 use Rattle.std.proofs.Common.{◌≡◌, ◌∙◌, ℕ, ◌+◌, ◌<◌, ◌≤◌, List, [], ◌∷◌, ◌++◌, append_assoc, length}
-use Rattle.std.proofs.Common.{drop, get_or, ap, refl, sym}
+use Rattle.std.proofs.Common.{drop, get_or, ap, sym}
 use Rattle.std.proofs.lemmas.List.{append-nil, at_drop_all, drop_more}
 use Rattle.serde_json.specs.Data.{Data}
 use Rattle.serde_json.specs.View.{items_view, view}
 use Rattle.serde_json.specs.declared.value.Value.{Value}
-use Rattle.desk_spdx_json.specs.Steps.{StepText, item_at}
+use Rattle.desk_spdx_json.specs.Steps.{item_at}
 use Rattle.desk_spdx_json.specs.Values.{items_steps}
 
 -- a piece followed by others
@@ -33,8 +33,8 @@ module _ {X A : Type 0} (whole : List X → List A) (piece : X → List A) (xs :
       ∙ so_far
 
 -- the steps of one more item, and those that are still to come
-pub items_more : (steps : List ℕ → Data → List StepText) (at : List ℕ) (xs : List Value) (i : ℕ)
-    (d : Value) (old new all : List StepText) → i < length xs
+pub items_more : {A : Type 0} (steps : List ℕ → Data → List A) (at : List ℕ) (xs : List Value)
+    (i : ℕ) (d : Value) (old new all : List A) → i < length xs
     → old ++ items_steps steps at i (items_view (drop i xs)) ≡ all
     → new ≡ old ++ steps (item_at at i) (view (get_or xs i d))
     → new ++ items_steps steps at (i + 1) (items_view (drop (i + 1) xs)) ≡ all

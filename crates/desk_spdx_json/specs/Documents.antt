@@ -1,7 +1,8 @@
 -- The steps of a document: its own fields, the files, the snippets, the packages, the extracted
--- licences, the relationships. Files come before packages, so only relationships say to which
--- package a file belongs; a snippet begins a section of its own (clause 9.1), so snippets come
--- where no field of a file or package follows them.
+-- licences, the relationships. Elements of one identifier that say the same are written once. Files
+-- come before packages, so only relationships say to which package a file belongs; a snippet begins
+-- a section of its own (clause 9.1), so snippets come where no field of a file or package follows
+-- them.
 use Rattle.std.specs.Prelude.{ℕ, Bool, ◌&&◌, List, [], ◌∷◌, ◌++◌, Option, Some, None}
 use Rattle.std.specs.Prelude.{option_and_then, is_some, false, codes, if◌then◌else◌}
 use Rattle.std.specs.Str.{bytes_eq}
@@ -13,7 +14,8 @@ use Rattle.desk_spdx_json.specs.declared.parts.Part.TheVariants as parts
 use Rattle.desk_spdx_json.specs.Steps.{StepText, member_at}
 use Rattle.desk_spdx_json.specs.Members.{document_members, creation_members}
 use Rattle.desk_spdx_json.specs.Values.{if_array, word_in}
-use Rattle.desk_spdx_json.specs.Parts.{object_steps, part_steps, tie_step}
+use Rattle.desk_spdx_json.specs.Elements.{ElementText, merged}
+use Rattle.desk_spdx_json.specs.Parts.{found_elements, object_steps, relationship_steps, tie_step}
 
 -- the steps of `creationInfo`, if it is there
 abbrev pub creation_steps : List ℕ → Option Data → List StepText
@@ -21,8 +23,16 @@ creation_steps at None = []
 creation_steps at (Some d) = object_steps at creation_members d
 
 -- the parts in a member of the document
-abbrev pub all_parts : Part → List ℕ → List ℕ → Data → List StepText
-all_parts part at key d = if_array (part_steps part) (member_at at key) (get key d)
+abbrev pub all_parts : Part → List ℕ → List ℕ → Data → List ElementText
+all_parts part at key d = found_elements part (member_at at key) (get key d)
+
+-- all elements of the document
+abbrev pub elements_at : List ℕ → Data → List ElementText
+elements_at at d =
+    all_parts parts.File at (codes "files") d
+    ++ (all_parts parts.Snippet at (codes "snippets") d
+    ++ (all_parts parts.Package at (codes "packages") d
+    ++ all_parts parts.Extracted at (codes "hasExtractedLicensingInfos") d))
 
 -- ---- documentDescribes: a relationship, unless the document lists it
 
@@ -72,13 +82,11 @@ abbrev pub steps_at : List ℕ → Data → List StepText
 steps_at at d =
     object_steps at document_members d
     ++ (creation_steps (member_at at (codes "creationInfo")) (get (codes "creationInfo") d)
-    ++ (all_parts parts.File at (codes "files") d
-    ++ (all_parts parts.Snippet at (codes "snippets") d
-    ++ (all_parts parts.Package at (codes "packages") d
-    ++ (all_parts parts.Extracted at (codes "hasExtractedLicensingInfos") d
+    ++ (merged (elements_at at d)
     ++ (if_array (described_steps (targets d)) (member_at at (codes "documentDescribes"))
     (get (codes "documentDescribes") d)
-    ++ all_parts parts.Relationship at (codes "relationships") d))))))
+    ++ if_array relationship_steps (member_at at (codes "relationships"))
+    (get (codes "relationships") d))))
 
 -- some tools write the document as the member `sbom` of an object without a version
 abbrev pub from_member : Data → Option Data → List StepText

@@ -1,5 +1,6 @@
 pub mod Words
 pub mod Steps
+pub mod Elements
 pub mod Members
 pub mod Values
 pub mod Parts

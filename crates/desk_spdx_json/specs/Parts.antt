@@ -5,8 +5,8 @@ use Rattle.std.specs.List.{flat_map, list_any}
 use Rattle.std.specs.Str.{bytes_eq}
 use Rattle.desk_fields.specs.declared.tag.Tag.TheVariants as tags
 use Rattle.desk_tagvalue.specs.Drafts.{LineText, blank, one_line}
-use Rattle.serde_json.specs.Data.{Data, Members, no_members, member}
-use Rattle.serde_json.specs.Find.{get, as_str, as_object}
+use Rattle.serde_json.specs.Data.{Data, Items, Members, no_members, member}
+use Rattle.serde_json.specs.Find.{get, as_array, as_str, as_object}
 use Rattle.desk_spdx_json.specs.declared.steps.Kind.TheVariants as kinds
 use Rattle.desk_spdx_json.specs.declared.parts.Part.{Part}
 use Rattle.desk_spdx_json.specs.declared.parts.Part.TheVariants as parts
@@ -14,7 +14,8 @@ use Rattle.desk_spdx_json.specs.Words.{is_word}
 use Rattle.desk_spdx_json.specs.Steps.{StepText, step, put, left_out, missing, bad_type, bad_value, member_at}
 use Rattle.desk_spdx_json.specs.Members.{MemberText, package_members, file_members, snippet_members}
 use Rattle.desk_spdx_json.specs.Members.{extracted_members, relationship_members}
-use Rattle.desk_spdx_json.specs.Values.{value_steps, if_array, word_fault, word_in}
+use Rattle.desk_spdx_json.specs.Values.{value_steps, if_array, items_steps, word_fault, word_in}
+use Rattle.desk_spdx_json.specs.Elements.{ElementText}
 
 -- ---- an object, member by member
 
@@ -113,4 +114,30 @@ part_steps parts.Package = package_steps
 part_steps parts.File = file_steps
 part_steps parts.Snippet = snippet_steps
 part_steps parts.Extracted = extracted_steps
-part_steps parts.Relationship = relationship_steps
+
+-- the member that has the identifier of a part
+abbrev pub id_key : Part → List ℕ
+id_key parts.Extracted = codes "licenseId"
+id_key _ = codes "SPDXID"
+
+-- a part as an element
+abbrev pub part_element : Part → List ℕ → Data → ElementText
+part_element part at d = record {
+  at = at;
+  id = word_in (id_key part) d;
+  steps = part_steps part at d;
+}
+
+-- a list that is none, as an element without an identifier
+abbrev pub no_list : List ℕ → ElementText
+no_list at = record { at = at; id = []; steps = step at bad_type ∷ [] }
+
+-- the elements of a list
+abbrev pub list_elements : Part → List ℕ → Option Items → List ElementText
+list_elements part at None = no_list at ∷ []
+list_elements part at (Some ds) = items_steps (λ place d. part_element part place d ∷ []) at 0 ds
+
+-- the same, if there is such a list
+abbrev pub found_elements : Part → List ℕ → Option Data → List ElementText
+found_elements part at None = []
+found_elements part at (Some d) = list_elements part at (as_array d)

@@ -38,8 +38,8 @@ text_steps tag at d = line_step at (one_line tag) (as_str d) ∷ []
 
 -- ---- arrays, by the steps of an item
 
--- the steps of each item; the first one here has the number i
-abbrev pub items_steps : (List ℕ → Data → List StepText) → List ℕ → ℕ → Items → List StepText
+-- what each item gives, such as its steps; the first one here has the number i
+abbrev pub items_steps : {A : Type 0} → (List ℕ → Data → List A) → List ℕ → ℕ → Items → List A
 items_steps steps at i no_items = []
 items_steps steps at i (item d ds) = steps (item_at at i) d ++ items_steps steps at (i + 1) ds
 

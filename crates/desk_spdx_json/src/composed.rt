@@ -17,7 +17,7 @@ use std::alloc::{AllocError, Global};
 const EXCLUDED_FILES: &str = "packageVerificationCodeExcludedFiles";
 
 /// The text of a member, or an empty one.
-pub(crate) fn word_in<'a>(value: &'a Value, key: &str) -> &'a str
+pub fn word_in<'a>(value: &'a Value, key: &str) -> &'a str
     ensures { result.now ≡ word_in key.now (view value.now) }
 {
     match value.get(key) {

@@ -1,17 +1,20 @@
 //! The steps of a document.
 
-ghost use Rattle.std.specs.Prelude.{◌≡◌, ◌++◌, ℕ, List, IfOk, OnOk, codes};
+ghost use Rattle.std.specs.Prelude.{◌≡◌, ◌++◌, ℕ, List, IfOk, OnOk, codes, map};
 ghost use Rattle.serde_json.specs.Find.{get};
 ghost use Rattle.serde_json.specs.View.{view, items_view};
 ghost use Rattle.desk_base.specs.Borrowed.{texts, texts_in};
 ghost use Rattle.desk_spdx_json.specs.Steps.{member_at};
+ghost use Rattle.desk_spdx_json.specs.Elements.{element_text, merged};
+ghost use Rattle.desk_spdx_json.specs.Parts.{relationship_steps};
 ghost use Rattle.desk_spdx_json.specs.Values.{if_array, items_steps};
-ghost use Rattle.desk_spdx_json.specs.Documents.{creation_steps, all_parts, is_describing, target_of, targets_in, targets, described_steps, steps_at, document_steps};
+ghost use Rattle.desk_spdx_json.specs.Documents.{creation_steps, all_parts, elements_at, is_describing, target_of, targets_in, targets, described_steps, steps_at, document_steps};
 ghost use Rattle.desk_base.specs.TextSets.{IsSetOf};
 
 use crate::composed::word_in;
+use crate::elements::{Element, merged};
 use crate::members::{CREATION_MEMBERS, DOCUMENT_MEMBERS};
-use crate::parts::{Part, add_object, add_parts};
+use crate::parts::{Part, add_no_list, add_object, add_parts, add_relationships};
 use crate::steps::{Steps, What, item_at, member_at};
 use crate::ties::add_tie;
 use desk_base::text_set;
@@ -41,21 +44,73 @@ fn add_creation<'a>(
 // Adds the parts in a member of the document.
 fn add_list<'a>(
     alloc: Global,
-    steps: &mut Steps<'a>,
+    elements: &mut Vec<Element<'a>>,
     part: Part,
     at: &str,
     key: &str,
     value: &'a Value,
 ) -> Result<(), AllocError>
-    ensures { OnOk result (steps.new
-        ≡ steps.old ++ all_parts part at.now key.now (view value.now)) }
+    ensures { OnOk result (map element_text elements.new.items
+        ≡ map element_text elements.old.items ++ all_parts part at.now key.now (view value.now)) }
 {
     let place = member_at(alloc, at, key)?;
     let Some(parts) = value.get(key) else {
         return Ok(());
     };
     match parts.as_array() {
-        Some(list) => add_parts(alloc, steps, part, &place, list.as_slice()),
+        Some(list) => add_parts(alloc, elements, part, &place, list.as_slice()),
+        None => add_no_list(alloc, elements, &place),
+    }
+}
+
+// The elements of the document.
+fn elements_at<'a>(
+    alloc: Global,
+    at: &str,
+    value: &'a Value,
+) -> Result<Vec<Element<'a>>, AllocError>
+    ensures { IfOk result (λ es. map element_text es.items ≡ elements_at at.now (view value.now)) }
+{
+    let mut found = Vec::new(alloc);
+    add_list(alloc, &mut found, Part::File, at, "files", value)?;
+    add_list(alloc, &mut found, Part::Snippet, at, "snippets", value)?;
+    add_list(alloc, &mut found, Part::Package, at, "packages", value)?;
+    let licences = "hasExtractedLicensingInfos";
+    add_list(alloc, &mut found, Part::Extracted, at, licences, value)?;
+    Ok(found)
+}
+
+// Adds the steps of the elements of the document.
+fn add_elements<'a>(
+    alloc: Global,
+    steps: &mut Steps<'a>,
+    at: &str,
+    value: &'a Value,
+) -> Result<(), AllocError>
+    ensures { OnOk result (steps.new
+        ≡ steps.old ++ merged (elements_at at.now (view value.now))) }
+{
+    let elements = elements_at(alloc, at, value)?;
+    steps.append(merged(alloc, elements)?)
+}
+
+// Adds the relationships of the document.
+fn add_all_relationships<'a>(
+    alloc: Global,
+    steps: &mut Steps<'a>,
+    at: &str,
+    value: &'a Value,
+) -> Result<(), AllocError>
+    ensures { OnOk result (steps.new ≡ steps.old
+        ++ if_array relationship_steps (member_at at.now (codes "relationships"))
+        (get (codes "relationships") (view value.now))) }
+{
+    let place = member_at(alloc, at, "relationships")?;
+    let Some(relationships) = value.get("relationships") else {
+        return Ok(());
+    };
+    match relationships.as_array() {
+        Some(list) => add_relationships(alloc, steps, &place, list.as_slice()),
         None => steps.add(alloc, &place, What::BadType),
     }
 }
@@ -173,19 +228,9 @@ fn add_document<'a>(
 {
     add_object(alloc, steps, at, value, &DOCUMENT_MEMBERS)?;
     add_creation(alloc, steps, at, value)?;
-    add_list(alloc, steps, Part::File, at, "files", value)?;
-    add_list(alloc, steps, Part::Snippet, at, "snippets", value)?;
-    add_list(alloc, steps, Part::Package, at, "packages", value)?;
-    add_list(
-        alloc,
-        steps,
-        Part::Extracted,
-        at,
-        "hasExtractedLicensingInfos",
-        value,
-    )?;
+    add_elements(alloc, steps, at, value)?;
     add_all_described(alloc, steps, at, value)?;
-    add_list(alloc, steps, Part::Relationship, at, "relationships", value)
+    add_all_relationships(alloc, steps, at, value)
 }
 
 // Adds the steps of a document, or of the one in its member `sbom`.

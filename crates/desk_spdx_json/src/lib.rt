@@ -15,6 +15,7 @@
 
 mod composed;
 mod documents;
+mod elements;
 mod items;
 mod members;
 mod parts;
@@ -23,5 +24,10 @@ mod ties;
 mod values;
 mod words;
 
+pub use composed::word_in;
 pub use documents::document_steps;
-pub use steps::{Kind, Step, Steps, What};
+pub use elements::{Element, merged};
+pub use members::{Form, Member};
+pub use parts::{Part, add_object};
+pub use steps::{Kind, Step, Steps, What, item_at, member_at};
+pub use ties::relationship_text;

@@ -5,7 +5,7 @@ use desk_fields::Tag;
 
 /// How a member's value is written.
 #[derive(Clone, Copy)]
-pub(crate) enum Form {
+pub enum Form {
     /// A text, on one line.
     OneLine(Tag),
     /// A text, in `<text>`.
@@ -28,10 +28,13 @@ pub(crate) enum Form {
 
 /// A member of an object.
 #[derive(Clone, Copy)]
-pub(crate) struct Member {
-    pub(crate) key: &'static str,
-    pub(crate) form: Form,
-    pub(crate) is_needed: bool,
+pub struct Member {
+    /// Its key.
+    pub key: &'static str,
+    /// How its value is written.
+    pub form: Form,
+    /// Whether it must be there.
+    pub is_needed: bool,
 }
 
 // A required member.

@@ -1,16 +1,19 @@
 //! The steps of a document's parts.
 
-ghost use Rattle.std.specs.Prelude.{◌≡◌, ◌++◌, ◌∷◌, [], OnOk, map};
+ghost use Rattle.std.specs.Prelude.{◌≡◌, ◌++◌, ◌∷◌, [], IfOk, OnOk, map};
 ghost use Rattle.std.specs.List.{flat_map};
+ghost use Rattle.std.specs.String.{string_bytes};
 ghost use Rattle.serde_json.specs.View.{view, items_view, members_view};
 ghost use Rattle.desk_tagvalue.specs.Drafts.{blank};
 ghost use Rattle.desk_spdx_json.specs.declared.parts.Part.TheVariants as parts;
 ghost use Rattle.desk_spdx_json.specs.Steps.{step, put};
+ghost use Rattle.desk_spdx_json.specs.Elements.{element_text};
 ghost use Rattle.desk_spdx_json.specs.Members.{member_text};
 ghost use Rattle.desk_spdx_json.specs.Values.{items_steps};
-ghost use Rattle.desk_spdx_json.specs.Parts.{member_steps, is_known, unknown_step, unknown_steps, object_steps, words_of, relationship_steps, part_steps};
+ghost use Rattle.desk_spdx_json.specs.Parts.{member_steps, is_known, unknown_step, unknown_steps, object_steps, words_of, relationship_steps, part_steps, part_element, id_key, no_list};
 
 use crate::composed::{add_word_fault, word_in};
+use crate::elements::Element;
 use crate::items::{Item, add_array_in};
 use crate::members::{
     EXTRACTED_MEMBERS, FILE_MEMBERS, Member, PACKAGE_MEMBERS, RELATIONSHIP_MEMBERS, SNIPPET_MEMBERS,
@@ -24,12 +27,15 @@ use std::alloc::{AllocError, Global};
 
 /// A kind of part.
 #[derive(Clone, Copy)]
-pub(crate) enum Part {
+pub enum Part {
+    /// A file (clause 8).
     File,
+    /// A snippet (clause 9).
     Snippet,
+    /// A package (clause 7).
     Package,
+    /// An extracted licence (clause 10).
     Extracted,
-    Relationship,
 }
 
 // Adds the steps of a member.
@@ -112,7 +118,7 @@ fn leave_all_unknown(
 }
 
 /// Adds the steps of an object that has these members.
-pub(crate) fn add_object<'a>(
+pub fn add_object<'a>(
     alloc: Global,
     steps: &mut Steps<'a>,
     at: &str,
@@ -207,24 +213,84 @@ fn add_part<'a>(
         Part::Snippet => add_element(alloc, steps, at, value, &SNIPPET_MEMBERS),
         Part::Package => add_package(alloc, steps, at, value),
         Part::Extracted => add_element(alloc, steps, at, value, &EXTRACTED_MEMBERS),
-        Part::Relationship => add_relationship(alloc, steps, at, value),
     }
+}
+
+// The member that has the identifier of a part.
+fn id_key(part: Part) -> &'static str
+    ensures { result.now ≡ id_key part }
+{
+    match part {
+        Part::Extracted => "licenseId",
+        _ => "SPDXID",
+    }
+}
+
+// A part as an element.
+fn element_of<'a>(
+    alloc: Global,
+    part: Part,
+    at: String,
+    value: &'a Value,
+) -> Result<Element<'a>, AllocError>
+    ensures { IfOk result (λ e. element_text e
+        ≡ part_element part (string_bytes at) (view value.now)) }
+{
+    let id = String::from_str(alloc, word_in(value, id_key(part)))?;
+    let mut steps = Steps::new(alloc);
+    add_part(alloc, &mut steps, part, at.as_str(), value)?;
+    Ok(Element { at, id, steps })
+}
+
+/// Adds a list that is none, as an element without an identifier.
+pub(crate) fn add_no_list(
+    alloc: Global,
+    elements: &mut Vec<Element<'_>>,
+    at: &str,
+) -> Result<(), AllocError>
+    ensures { OnOk result (map element_text elements.new.items
+        ≡ map element_text elements.old.items ++ no_list at.now ∷ []) }
+{
+    let mut steps = Steps::new(alloc);
+    steps.add(alloc, at, What::BadType)?;
+    let id = String::new(alloc);
+    let at = String::from_str(alloc, at)?;
+    elements.push(Element { at, id, steps })?;
+    Ok(())
 }
 
 /// Adds each part of a list.
 pub(crate) fn add_parts<'a>(
     alloc: Global,
-    steps: &mut Steps<'a>,
+    elements: &mut Vec<Element<'a>>,
     part: Part,
     at: &str,
     list: &'a [Value],
 ) -> Result<(), AllocError>
-    ensures { OnOk result (steps.new
-        ≡ steps.old ++ items_steps (part_steps part) at.now 0 (items_view list.now)) }
+    ensures { OnOk result (map element_text elements.new.items
+        ≡ map element_text elements.old.items
+        ++ items_steps (λ place d. part_element part place d ∷ []) at.now 0 (items_view list.now)) }
 {
     for (i, value) in list.iter().enumerate() {
         let place = item_at(alloc, at, i)?;
-        add_part(alloc, steps, part, &place, value)?;
+        elements.push(element_of(alloc, part, place, value)?)?;
+    }
+    Ok(())
+}
+
+/// Adds each relationship of a list.
+pub(crate) fn add_relationships<'a>(
+    alloc: Global,
+    steps: &mut Steps<'a>,
+    at: &str,
+    list: &'a [Value],
+) -> Result<(), AllocError>
+    ensures { OnOk result (steps.new
+        ≡ steps.old ++ items_steps relationship_steps at.now 0 (items_view list.now)) }
+{
+    for (i, value) in list.iter().enumerate() {
+        let place = item_at(alloc, at, i)?;
+        add_relationship(alloc, steps, &place, value)?;
     }
     Ok(())
 }

@@ -2,7 +2,7 @@
 
 ghost use Rattle.std.specs.Prelude.{◌≡◌, ◌++◌, ◌∷◌, [], IfOk, OnOk, map};
 ghost use Rattle.std.specs.String.{string_bytes};
-ghost use Rattle.desk_spdx_json.specs.Steps.{step, step_text, what_text, member_at, item_at, left_out};
+ghost use Rattle.desk_spdx_json.specs.Steps.{step, step_text, what_text, is_line, unwritten, member_at, item_at};
 
 use desk_fields::Tag;
 use std::alloc::{AllocError, Global};
@@ -40,6 +40,8 @@ pub enum What<'a> {
     BadType,
     /// The value can't be written in its field.
     BadValue,
+    /// An element has the identifier of another one, at this place, and isn't the same.
+    Differs(String),
 }
 
 /// What is done at a place.
@@ -68,7 +70,7 @@ impl<'a> Model for Steps<'a> {
 
 impl<'a> Steps<'a> {
     /// No steps.
-    pub(crate) fn new(alloc: Global) -> Steps<'a>
+    pub fn new(alloc: Global) -> Steps<'a>
         ensures { result ≡ [] }
     {
         Steps {
@@ -77,12 +79,29 @@ impl<'a> Steps<'a> {
     }
 
     /// Adds a step.
-    pub(crate) fn add(&mut self, alloc: Global, at: &str, what: What<'a>) -> Result<(), AllocError>
+    pub fn add(&mut self, alloc: Global, at: &str, what: What<'a>) -> Result<(), AllocError>
         ensures { OnOk result (self.new ≡ self.old ++ step at.now (what_text what.entry) ∷ []) }
     {
         let at = String::from_str(alloc, at)?;
         self.steps.push(Step { at, what })?;
         Ok(())
+    }
+
+    /// Adds other steps.
+    pub fn append(&mut self, other: Steps<'a>) -> Result<(), AllocError>
+        ensures { OnOk result (self.new ≡ self.old ++ other.entry) }
+    {
+        let Steps { mut steps } = other;
+        self.steps.append(&mut steps)
+    }
+
+    /// Adds those of other steps that aren't lines.
+    pub(crate) fn append_unwritten(&mut self, other: Steps<'a>) -> Result<(), AllocError>
+        ensures { OnOk result (self.new ≡ self.old ++ unwritten other.entry) }
+    {
+        let Steps { mut steps } = other;
+        drop_lines(&mut steps);
+        self.steps.append(&mut steps)
     }
 
     /// The steps themselves.
@@ -93,15 +112,32 @@ impl<'a> Steps<'a> {
     }
 }
 
+// Whether a step writes a line.
+fn is_line(step: &Step) -> bool
+    ensures { result ≡ is_line (step_text step.now) }
+{
+    matches!(
+        step.what,
+        What::Blank | What::OneLine(..) | What::InText(..) | What::Composed(..)
+    )
+}
+
+// Drops the steps that write lines.
+fn drop_lines(steps: &mut Vec<Step<'_>>)
+    ensures { map step_text steps.new.items ≡ unwritten (map step_text steps.old.items) }
+{
+    steps.retain(|step| !is_line(step));
+}
+
 /// The place of a member of the object at a place.
-pub(crate) fn member_at(alloc: Global, at: &str, key: &str) -> Result<String, AllocError>
+pub fn member_at(alloc: Global, at: &str, key: &str) -> Result<String, AllocError>
     ensures { IfOk result (λ s. string_bytes s ≡ member_at at.now key.now) }
 {
     format!(in alloc; "{at}/{key}")
 }
 
 /// The place of an item of the array at a place.
-pub(crate) fn item_at(alloc: Global, at: &str, index: usize) -> Result<String, AllocError>
+pub fn item_at(alloc: Global, at: &str, index: usize) -> Result<String, AllocError>
     ensures { IfOk result (λ s. string_bytes s ≡ item_at at.now index) }
 {
     format!(in alloc; "{at}/{index}")

@@ -13,7 +13,7 @@ use serde_json::Value;
 use std::alloc::{AllocError, Global};
 
 /// The words of a relationship.
-pub(crate) fn relationship_text(
+pub fn relationship_text(
     alloc: Global,
     left: &str,
     kind: &str,

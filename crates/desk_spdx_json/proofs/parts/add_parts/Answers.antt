@@ -1,19 +1,25 @@
-use Rattle.std.proofs.Common.{◌∙◌, ◌++◌, List, ap, ap₂, rules, ℕ}
-use Rattle.std.specs.String.{string_bytes}
+use Rattle.std.proofs.Common.{◌∙◌, ◌++◌, ◌∷◌, [], List, ap, ap₂, map, ℕ}
 use Rattle.serde_json.specs.Data.{Data}
 use Rattle.serde_json.specs.View.{items_view, view}
-use Rattle.desk_spdx_json.specs.Parts.{part_steps}
+use Rattle.std.proofs.lemmas.List.{map-append}
+use Rattle.desk_spdx_json.specs.Elements.{ElementText, element_text}
+use Rattle.desk_spdx_json.specs.Parts.{part_element}
 use Rattle.desk_spdx_json.specs.Values.{items_steps}
 use Rattle.desk_spdx_json.proofs.Added.{items_more}
 use Rattle.desk_spdx_json.proofs.parts.add_parts.Goals as goal
 
 pub loop-i-preserved : goal.loop-i-preserved
 loop-i-preserved c =
-    let steps = part_steps c.args.part in
-    items_more steps c.args.at.now c.args.list.now c.loop-i.i c.index-list-i.result c.loop-i.steps
-    c.add_part.new.steps
-    (c.args.steps.now ++ items_steps steps c.args.at.now 0 (items_view c.args.list.now))
+    let each : List ℕ → Data → List ElementText = λ place d. part_element c.args.part place d ∷ [] in
+    let old = map element_text c.loop-i.elements.items in
+    items_more each c.args.at.now c.args.list.now c.loop-i.i c.index-list-i.result
+    old (map element_text c.push.new.self.items)
+    (map element_text c.args.elements.now.items
+    ++ items_steps each c.args.at.now 0 (items_view c.args.list.now))
     c.loop-i-test.true c.loop-i.invariant
-    (c.in_ok-add_part.ensures ∙ ap₂ (λ (place : List ℕ) (d : Data). c.loop-i.steps ++ steps place d)
-    (c.deref.ensures ∙ c.in_ok-place.ensures)
-    (ap view c.index-list-i.is))
+    (ap (map element_text) c.in_ok-push.ensures.items
+    ∙ map-append element_text c.loop-i.elements.items (c.in_ok-element_of.field-0 ∷ [])
+    ∙ ap (λ e. old ++ e ∷ [])
+    (c.in_ok-element_of.ensures
+    ∙ ap₂ (λ (place : List ℕ) (d : Data). part_element c.args.part place d) c.in_ok-place.ensures
+    (ap view c.index-list-i.is)))

@@ -1,11 +1,15 @@
-use Rattle.std.proofs.Common.{◌≡◌, ◌++◌, drop}
+use Rattle.std.proofs.Common.{◌≡◌, ◌++◌, ◌∷◌, [], drop, map}
 use Rattle.serde_json.specs.View.{items_view}
-use Rattle.desk_spdx_json.specs.Parts.{part_steps}
+use Rattle.desk_spdx_json.specs.Elements.{element_text}
+use Rattle.desk_spdx_json.specs.Parts.{part_element}
 use Rattle.desk_spdx_json.specs.Values.{items_steps}
 use Rattle.desk_spdx_json.proofs.parts.add_parts.Given as goal
 
 -- what was added and what is still to come is everything
 abbrev pub invariant-loop-i : goal.invariant-loop-i
 invariant-loop-i l =
-    l.steps ++ items_steps (part_steps l.part) l.at l.i (items_view (drop l.i l.list))
-    ≡ l.initial.steps ++ items_steps (part_steps l.part) l.at 0 (items_view l.list)
+    map element_text l.elements.items
+    ++ items_steps (λ place d. part_element l.part place d ∷ []) l.at l.i
+    (items_view (drop l.i l.list))
+    ≡ map element_text l.initial.elements.items
+    ++ items_steps (λ place d. part_element l.part place d ∷ []) l.at 0 (items_view l.list)
