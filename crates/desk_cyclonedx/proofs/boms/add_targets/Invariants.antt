@@ -1,0 +1,12 @@
+use Rattle.std.proofs.Common.{◌≡◌, ◌++◌, drop, List, ℕ}
+use Rattle.desk_base.specs.TextSets.{IsSetOf}
+use Rattle.serde_json.specs.View.{items_view}
+use Rattle.desk_spdx_json.specs.Values.{items_steps}
+use Rattle.desk_cyclonedx.specs.Boms.{target_steps}
+use Rattle.desk_cyclonedx.proofs.boms.add_targets.Given as goal
+
+-- what was added and what is still to come is everything
+abbrev pub invariant-loop-i : goal.invariant-loop-i
+invariant-loop-i l = (ids : List (List ℕ)) → IsSetOf ids l.excluded
+    → l.steps ++ items_steps (target_steps ids l.left) l.at l.i (items_view (drop l.i l.list))
+    ≡ l.initial.steps ++ items_steps (target_steps ids l.left) l.at 0 (items_view l.list)
