@@ -14,7 +14,7 @@ use Rattle.desk_tagvalue.specs.Parts.{PackageText}
 use Rattle.desk_expr.specs.Printing.{printed}
 use Rattle.desk_expr.specs.Spelling.{Spells}
 use Rattle.desk_import.specs.Proposals.{AreLines, IsLine, declared_tree, request_line}
-use Rattle.desk_import.specs.Summaries.{is_licence, same_standing, standing_of, standings_of}
+use Rattle.desk_import.specs.Summaries.{grants_nothing, is_declared, is_licence, same_standing, standing_of, standings_of}
 use Rattle.desk_import.specs.declared.summary.Standing.{Standing}
 use Rattle.desk_import.specs.declared.summary.Standing.TheVariants.{Aside, Concluded, Declared, Neither}
 
@@ -25,14 +25,18 @@ unread : (b : Bool) (o : Option Tree) → None ≡ o → (b && is_some o) ≡ fa
 unread true o none = ap is_some (sym none)
 unread false o none = refl
 
+also_false : (b : Bool) {a : Bool} → a ≡ false → (a && b) ≡ false
+also_false b e = ap (λ (a : Bool). a && b) e
+
 declared_by : (reads : List ℕ → Option Tree) (is_concluded : Bool) (declared : Option (List ℕ))
     (s : Standing) → same_standing s Declared ≡ true
-    → s ≡ (if is_concluded then Concluded else if is_licence reads declared then Declared
+    → s ≡ (if is_concluded then Concluded else if is_declared reads declared then Declared
     else Neither) → None ≡ option_and_then reads declared → ⊥
 declared_by reads true declared s is e none = absurd (cc (other s Concluded is e))
 declared_by reads false None s is e none = absurd (cc (other s Neither is e))
 declared_by reads false (Some value) s is e none =
-    let known = unread (not (is_no_licence value)) (reads value) none in
+    let known = also_false (not (grants_nothing value))
+    (unread (not (is_no_licence value)) (reads value) none) in
     let neither : s ≡ Neither = e ∙ ap (λ (b : Bool). if b then Declared else Neither) known in
     absurd (cc (other s Neither is neither))
 

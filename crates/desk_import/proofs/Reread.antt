@@ -16,9 +16,10 @@ use Rattle.desk_tagvalue.proofs.LinesReread.{lines_again}
 use Rattle.desk_tagvalue.proofs.ReadLemmas.{spells_once}
 use Rattle.desk_fields.specs.Cutting.{Reads}
 use Rattle.desk_spdx_json.specs.Documents.{document_steps}
-use Rattle.desk_import.specs.Results.{IsConverted, json_of, lines_of}
-use Rattle.desk_import.specs.Said.{DocumentSaid, IsNormal, IsSaid, document_lines, document_object}
-use Rattle.desk_import.specs.Said.{entries_of, fields_in}
+use Rattle.desk_import.specs.Results.{IsConverted, json_of, steps_of}
+use Rattle.desk_spdx_json.specs.Steps.{lines_of}
+use Rattle.desk_import.specs.Said.{AreDistinct, DocumentSaid, IsNormal, IsSaid, document_lines, document_object}
+use Rattle.desk_import.specs.Said.{element_ids, entries_of, fields_in}
 use Rattle.desk_import.specs.declared.converting.Converted.{Converted}
 use Rattle.desk_import.proofs.ResultLemmas.{all_stand, fields_again, unmarked}
 use Rattle.desk_import.proofs.SaidLines.{lines_said}
@@ -26,9 +27,9 @@ use Rattle.desk_import.proofs.SaidSteps.{document_lined}
 
 pub conversion_read : (bytes : List ℕ) (c : Converted) → IsConverted bytes c
     → length (string_bytes c.text) ≤ document_bytes → (d : Data) × (json_of bytes ≡ Some d)
-    × Spells (string_bytes c.text) (judged (entries_of (document_steps d)))
+    × Spells (string_bytes c.text) (judged (entries_of (steps_of d)))
 conversion_read bytes c is small =
-    let steps = document_steps is.1 in (
+    let steps = steps_of is.1 in (
       is.1,
       is.2,
       fields (string_bytes c.text) (fields_of_lines 1 (lines_of steps)) small
@@ -68,24 +69,24 @@ read_back d x n stand spells =
     subst (IsSaid d) (sym (without_fault (first_of (first_fault [] es) (missing_of es))
     (document_of es) x once)) (lines_said d n)
 
-pub document_said : (d : DocumentSaid) → IsNormal d
+pub document_said : (d : DocumentSaid) → IsNormal d → AreDistinct (element_ids d)
     → IsSaid d (document_of (entries_of (document_steps (document_object d))))
-document_said d n = subst (λ lines. IsSaid d (document_of (fields_in lines)))
-    (sym (document_lined d n)) (lines_said d n)
+document_said d n distinct = subst (λ lines. IsSaid d (document_of (fields_in lines)))
+    (sym (document_lined d n distinct)) (lines_said d n)
 
 value_in : (o : Option Data) (a b : Data) → o ≡ Some a → o ≡ Some b → a ≡ b
 value_in o a b is also = let both : Some a ≡ Some b = sym is ∙ also in cc
 
 pub conversion_said : (bytes : List ℕ) (c : Converted) (d : DocumentSaid) (x : DocumentText)
-    → IsNormal d → json_of bytes ≡ Some (document_object d) → IsConverted bytes c
+    → IsNormal d → AreDistinct (element_ids d) → json_of bytes ≡ Some (document_object d) → IsConverted bytes c
     → Spells (string_bytes c.text) (Ok x) → IsSaid d x
-conversion_said bytes c d x n is converted spells =
+conversion_said bytes c d x n distinct is converted spells =
     let made = converted.3 in
-    let lines : lines_of (document_steps converted.1) ≡ document_lines d =
-    ap (λ v. lines_of (document_steps v))
+    let lines : lines_of (steps_of converted.1) ≡ document_lines d =
+    ap (λ v. lines_of (steps_of v))
     (value_in (json_of bytes) converted.1 (document_object d) converted.2 is)
-    ∙ document_lined d n in
+    ∙ document_lined d n distinct in
     let text : string_bytes c.text ≡ text_of_lines (document_lines d) =
     made.text ∙ ap text_of_lines lines in
-    read_back d x n (subst (All Stands) lines (all_stand (document_steps converted.1) made.pass))
+    read_back d x n (subst (All Stands) lines (all_stand (steps_of converted.1) made.pass))
     (subst (λ t. Spells t (Ok x)) text spells)

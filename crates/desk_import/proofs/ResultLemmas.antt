@@ -17,8 +17,9 @@ use Rattle.desk_tagvalue.proofs.WriteLemmas.{mark_behind}
 use Rattle.desk_import.specs.declared.faults.ConvertFault.{ConvertFault}
 use Rattle.desk_import.specs.declared.faults.ConvertFault.TheVariants as faults
 use Rattle.desk_spdx_json.specs.Steps.{StepText, WhatText, put, left_out, missing, bad_type, bad_value}
-use Rattle.desk_spdx_json.specs.Documents.{document_steps}
-use Rattle.desk_import.specs.Results.{Goes, Passes, FailsAt, FailsFirst, IsRefused, json_bytes, json_in, json_of, line_in, lines_of}
+use Rattle.desk_spdx_json.specs.Steps.{differs}
+use Rattle.desk_import.specs.Results.{Goes, Passes, FailsAt, FailsFirst, IsRefused, json_bytes, json_in, json_of, steps_of}
+use Rattle.desk_spdx_json.specs.Steps.{line_in, lines_of}
 
 -- ---- the value of a text
 
@@ -42,6 +43,7 @@ too_large at (left_out kind) h = h
 too_large at missing h = cc
 too_large at bad_type h = cc
 too_large at bad_value h = cc
+too_large at (differs first) h = cc
 
 not_json : (at : List ℕ) (w : WhatText) → FailsAt at w faults.NotJson → ⊥
 not_json at (put line) h = absurd (let e = h.0 in cc)
@@ -49,9 +51,10 @@ not_json at (left_out kind) h = h
 not_json at missing h = cc
 not_json at bad_type h = cc
 not_json at bad_value h = cc
+not_json at (differs first) h = cc
 
 pub refused : (bytes : List ℕ) (d : Data) (fault : ConvertFault) → length bytes ≤ json_bytes
-    → json_of bytes ≡ Some d → (fault ≡ faults.Memory) ⊎ FailsFirst (document_steps d) fault
+    → json_of bytes ≡ Some d → (fault ≡ faults.Memory) ⊎ FailsFirst (steps_of d) fault
     → (fault ≡ faults.Memory) ⊎ IsRefused bytes fault
 refused bytes d fault few is (inl m) = inl m
 refused bytes d faults.Memory few is (inr f) = inl refl
@@ -62,6 +65,7 @@ refused bytes d faults.NotJson few is (inr f) =
 refused bytes d (faults.Missing at) few is (inr f) = inr (few, d, is, f)
 refused bytes d (faults.BadType at) few is (inr f) = inr (few, d, is, f)
 refused bytes d (faults.BadValue at) few is (inr f) = inr (few, d, is, f)
+refused bytes d (faults.Differs at first) few is (inr f) = inr (few, d, is, f)
 
 -- bytes that are no JSON
 pub refused_json : (bytes : List ℕ) (fault : ConvertFault) → length bytes ≤ json_bytes
@@ -79,6 +83,7 @@ line_stands (left_out kind) h = All-nil Stands
 line_stands missing h = absurd h
 line_stands bad_type h = absurd h
 line_stands bad_value h = absurd h
+line_stands (differs first) h = absurd h
 
 pub all_stand : (steps : List StepText) → All Passes steps → All Stands (lines_of steps)
 all_stand [] h = All-nil Stands

@@ -1,30 +1,37 @@
 -- The object of a document in normal form is converted to its lines.
 use Rattle.std.proofs.Common.{◌≡◌, ◌∙◌, ℕ, ◌+◌, true, cond, List, [], ◌∷◌, ◌++◌, map, Some, refl, ap}
-use Rattle.std.proofs.Common.{codes}
+use Rattle.std.proofs.Common.{Bool, None, append_assoc, codes, false, subst, sym}
+use Rattle.std.specs.Prelude.{◌||◌}
+use Rattle.std.specs.Str.{bytes_eq}
 use Rattle.std.specs.Prelude.{All}
 use Rattle.std.specs.List.{flat_map}
 use Rattle.std.proofs.lemmas.Grind.{flat_map-append}
-use Rattle.std.proofs.lemmas.List.{append-nil}
+use Rattle.std.proofs.lemmas.List.{append-nil, map-append}
 use Rattle.std.proofs.lemmas.List.Concat.{flat_map_single}
 use Rattle.std.proofs.lemmas.List.Elements.{All-head, All-tail}
-use Rattle.serde_json.specs.Data.{Data, string}
+use Rattle.serde_json.specs.Data.{Data, Items, item, no_items, string}
+use Rattle.desk_base.specs.TextSets.{is_among}
 use Rattle.desk_fields.specs.declared.tag.Tag.{Tag}
 use Rattle.desk_fields.specs.declared.tag.Tag.TheVariants as tags
 use Rattle.desk_tagvalue.specs.Drafts.{LineText, blank, one_line}
 use Rattle.desk_spdx_json.specs.Documents.{creation_steps, described_steps, document_steps}
-use Rattle.desk_spdx_json.specs.Documents.{targets, targets_in}
+use Rattle.desk_spdx_json.specs.Documents.{elements_at, targets, targets_in}
+use Rattle.desk_spdx_json.specs.declared.parts.Part.{Part}
+use Rattle.desk_spdx_json.specs.declared.parts.Part.TheVariants as parts
+use Rattle.desk_spdx_json.specs.Elements.{ElementText, first_with, merged, merged_after, steps_beside}
+use Rattle.desk_spdx_json.specs.Parts.{id_key, part_element, part_steps}
 use Rattle.desk_spdx_json.specs.Members.{document_members}
 use Rattle.desk_spdx_json.specs.Parts.{contained_steps, extracted_steps, file_steps, object_steps}
 use Rattle.desk_spdx_json.specs.Parts.{package_steps, relationship_steps, snippet_steps}
 use Rattle.desk_spdx_json.specs.Steps.{StepText, item_at, member_at}
-use Rattle.desk_spdx_json.specs.Values.{copyright_line, flag_text, items_steps, line_step}
+use Rattle.desk_spdx_json.specs.Values.{copyright_line, flag_text, items_steps, line_step, word_in}
 use Rattle.desk_spdx_json.specs.Values.{text_steps}
 use Rattle.desk_spdx_json.specs.Words.{is_word}
-use Rattle.desk_import.specs.Results.{lines_in, lines_of}
-use Rattle.desk_import.specs.Said.{DocumentSaid, EdgeSaid, FileSaid, IsNormal, IsNormalEdge}
+use Rattle.desk_spdx_json.specs.Steps.{lines_in, lines_of}
+use Rattle.desk_import.specs.Said.{AreDistinct, AreNew, DocumentSaid, EdgeSaid, FileSaid, IsNormal, IsNormalEdge}
 use Rattle.desk_import.specs.Said.{IsNormalFile, IsNormalPackage, LicenceSaid, PackageSaid}
 use Rattle.desk_import.specs.Said.{contains_line, creation_object, describes, document_lines}
-use Rattle.desk_import.specs.Said.{document_object, edge_line, file_lines, file_object}
+use Rattle.desk_import.specs.Said.{document_object, edge_line, edge_lines, element_ids, file_lines, file_object}
 use Rattle.desk_import.specs.Said.{items_by, licence_lines, licence_object, package_lines}
 use Rattle.desk_import.specs.Said.{package_object, relationship_object, snippet_lines, snippet_object}
 
@@ -108,6 +115,58 @@ no_targets (e ∷ es) all =
 described_lined : (at id : List ℕ) → is_word id ≡ true
     → lines_of (described_steps [] at (string id)) ≡ edge_line (describes id) ∷ []
 described_lined at id is = rw is refl
+
+-- ---- elements of distinct identifiers
+
+map_id : {A : Type 0} (xs : List A) → map (λ x. x) xs ≡ xs
+map_id [] = refl
+map_id (x ∷ xs) = ap (λ l. x ∷ l) (map_id xs)
+
+four_apart : {A : Type 0} (a b c d e : List A)
+    → (a ++ (b ++ (c ++ d))) ++ e ≡ a ++ (b ++ (c ++ (d ++ e)))
+four_apart a b c d e =
+    append_assoc a (b ++ (c ++ d)) e
+    ∙ ap (λ l. a ++ l) (append_assoc b (c ++ d) e ∙ ap (λ l. b ++ l) (append_assoc c d e))
+
+not_first : (id : List ℕ) (es : List ElementText) → is_among (map (λ (e : ElementText). e.id) es) id ≡ false
+    → first_with id es ≡ None
+not_first id [] out = refl
+not_first id (e ∷ es) out = step (bytes_eq e.id id) refl (not_first id es) out where
+  step : (b : Bool) → bytes_eq e.id id ≡ b
+      → (is_among (map (λ (x : ElementText). x.id) es) id ≡ false → first_with id es ≡ None)
+      → (b || is_among (map (λ (x : ElementText). x.id) es) id) ≡ false
+      → first_with id (e ∷ es) ≡ None
+  step true is more e = absurd cc
+  step false is more e = rw is (more e)
+
+-- each is written
+merged_new : (before es : List ElementText)
+    → AreNew (map (λ (e : ElementText). e.id) before) (map (λ (e : ElementText). e.id) es)
+    → merged_after before es ≡ flat_map (λ (e : ElementText). e.steps) es
+merged_new before [] new = refl
+merged_new before (e ∷ es) new =
+    ap (λ o. steps_beside e o ++ merged_after (before ++ e ∷ []) es)
+    (not_first e.id before new.0)
+    ∙ ap (λ l. e.steps ++ l) (merged_new (before ++ e ∷ []) es
+    (subst (λ ids. AreNew ids (map (λ (x : ElementText). x.id) es))
+    (sym (map-append (λ (x : ElementText). x.id) before (e ∷ []))) new.1))
+
+part_ids : {A : Type 0} (part : Part) (of_item : A → Data) (id_of : A → List ℕ)
+    → ((x : A) → word_in (id_key part) (of_item x) ≡ id_of x) → (at : List ℕ) (i : ℕ) (xs : List A)
+    → map (λ (e : ElementText). e.id)
+    (items_steps (λ place v. part_element part place v ∷ []) at i (items_by of_item xs))
+    ≡ map id_of xs
+part_ids part of_item id_of is at i [] = refl
+part_ids part of_item id_of is at i (x ∷ xs) =
+    λ k. is x k ∷ part_ids part of_item id_of is at (i + 1) xs k
+
+part_elements : (part : Part) (at : List ℕ) (i : ℕ) (ds : Items)
+    → flat_map (λ (e : ElementText). e.steps)
+    (items_steps (λ place v. part_element part place v ∷ []) at i ds)
+    ≡ items_steps (part_steps part) at i ds
+part_elements part at i no_items = refl
+part_elements part at i (item v vs) = ap (λ l. part_steps part (item_at at i) v ++ l)
+    (part_elements part at (i + 1) vs)
 
 -- ---- the whole
 
@@ -198,20 +257,81 @@ module _ (d : DocumentSaid) (n : IsNormal d) where
   abbrev creation : List StepText
   creation = creation_steps (place (codes "creationInfo")) (Some (creation_object d))
 
-  pub document_lined : lines_of (document_steps (document_object d)) ≡ document_lines d
-  document_lined =
-      flat_map-append lines_in (object_steps [] document_members (document_object d))
-      (creation ++ (files ++ (snippets ++ (packages ++ (licences ++ (described ++ edges))))))
-      ∙ ap (λ l. lines_of (object_steps [] document_members (document_object d)) ++ l)
-      (flat_map-append lines_in creation
-      (files ++ (snippets ++ (packages ++ (licences ++ (described ++ edges)))))
-      ∙ (λ i. creators_lined i
-      ++ (flat_map-append lines_in files (snippets ++ (packages ++ (licences ++ (described ++ edges))))
-      ∙ (λ i. files_lined i
-      ++ (flat_map-append lines_in snippets (packages ++ (licences ++ (described ++ edges)))
+  abbrev list : Part → List ℕ → Items → List ElementText
+  list part key ds = items_steps (λ at v. part_element part at v ∷ []) (place key) 0 ds
+
+  abbrev file_list : List ElementText
+  file_list = list parts.File (codes "files") (items_by file_object d.files)
+
+  abbrev snippet_list : List ElementText
+  snippet_list = list parts.Snippet (codes "snippets") (items_by snippet_object d.snippets)
+
+  abbrev package_list : List ElementText
+  package_list = list parts.Package (codes "packages") (items_by package_object d.packages)
+
+  abbrev licence_list : List ElementText
+  licence_list = list parts.Extracted (codes "hasExtractedLicensingInfos")
+      (items_by licence_object d.licences)
+
+  ids_are : map (λ (e : ElementText). e.id) (elements_at [] (document_object d)) ≡ element_ids d
+  ids_are =
+      map-append (λ (e : ElementText). e.id) file_list (snippet_list ++ (package_list ++ licence_list))
+      ∙ (λ i. part_ids parts.File file_object (λ (f : FileSaid). f.id) (λ f. refl)
+      (place (codes "files")) 0 d.files i
+      ++ (map-append (λ (e : ElementText). e.id) snippet_list (package_list ++ licence_list)
+      ∙ (λ i. (part_ids parts.Snippet snippet_object (λ id. id) (λ id. refl)
+      (place (codes "snippets")) 0 d.snippets ∙ map_id d.snippets) i
+      ++ (map-append (λ (e : ElementText). e.id) package_list licence_list
+      ∙ (λ i. part_ids parts.Package package_object (λ (p : PackageSaid). p.id) (λ p. refl)
+      (place (codes "packages")) 0 d.packages i
+      ++ part_ids parts.Extracted licence_object (λ (l : LicenceSaid). l.id) (λ l. refl)
+      (place (codes "hasExtractedLicensingInfos")) 0 d.licences i)) i)) i)
+
+  elements_are : AreDistinct (element_ids d)
+      → merged (elements_at [] (document_object d))
+      ≡ files ++ (snippets ++ (packages ++ licences))
+  elements_are distinct =
+      merged_new [] (elements_at [] (document_object d)) (subst (AreNew []) (sym ids_are) distinct)
+      ∙ flat_map-append (λ (e : ElementText). e.steps) file_list
+      (snippet_list ++ (package_list ++ licence_list))
+      ∙ (λ i. part_elements parts.File (place (codes "files")) 0 (items_by file_object d.files) i
+      ++ (flat_map-append (λ (e : ElementText). e.steps) snippet_list (package_list ++ licence_list)
+      ∙ (λ i. part_elements parts.Snippet (place (codes "snippets")) 0
+      (items_by snippet_object d.snippets) i
+      ++ (flat_map-append (λ (e : ElementText). e.steps) package_list licence_list
+      ∙ (λ i. part_elements parts.Package (place (codes "packages")) 0
+      (items_by package_object d.packages) i
+      ++ part_elements parts.Extracted (place (codes "hasExtractedLicensingInfos")) 0
+      (items_by licence_object d.licences) i)) i)) i)
+
+  abbrev elements : List StepText
+  elements = merged (elements_at [] (document_object d))
+
+  elements_lined : AreDistinct (element_ids d) → (rest : List LineText)
+      → lines_of elements ++ rest
+      ≡ flat_map file_lines d.files ++ (flat_map snippet_lines d.snippets
+      ++ (flat_map package_lines d.packages ++ (flat_map licence_lines d.licences ++ rest)))
+  elements_lined distinct rest =
+      ap (λ steps. lines_of steps ++ rest) (elements_are distinct)
+      ∙ ap (λ l. l ++ rest)
+      (flat_map-append lines_in files (snippets ++ (packages ++ licences))
+      ∙ (λ i. files_lined i ++ (flat_map-append lines_in snippets (packages ++ licences)
       ∙ (λ i. snippets_lined (place (codes "snippets")) 0 d.snippets i
-      ++ (flat_map-append lines_in packages (licences ++ (described ++ edges))
-      ∙ (λ i. packages_lined i ++ (flat_map-append lines_in licences (described ++ edges)
-      ∙ (λ i. licences_lined (place (codes "hasExtractedLicensingInfos")) 0 d.licences i
-      ++ (flat_map-append lines_in described edges
-      ∙ (λ i. all_described i ++ edges_lined i)) i)) i)) i)) i)) i))
+      ++ (flat_map-append lines_in packages licences
+      ∙ (λ i. packages_lined i
+      ++ licences_lined (place (codes "hasExtractedLicensingInfos")) 0 d.licences i)) i)) i))
+      ∙ four_apart (flat_map file_lines d.files) (flat_map snippet_lines d.snippets)
+      (flat_map package_lines d.packages) (flat_map licence_lines d.licences) rest
+
+  pub document_lined : AreDistinct (element_ids d)
+      → lines_of (document_steps (document_object d)) ≡ document_lines d
+  document_lined distinct =
+      flat_map-append lines_in (object_steps [] document_members (document_object d))
+      (creation ++ (elements ++ (described ++ edges)))
+      ∙ ap (λ l. lines_of (object_steps [] document_members (document_object d)) ++ l)
+      (flat_map-append lines_in creation (elements ++ (described ++ edges))
+      ∙ (λ i. creators_lined i
+      ++ (flat_map-append lines_in elements (described ++ edges)
+      ∙ ap (λ l. lines_of elements ++ l) (flat_map-append lines_in described edges
+      ∙ (λ i. all_described i ++ edges_lined i))
+      ∙ elements_lined distinct (edge_lines d)) i))

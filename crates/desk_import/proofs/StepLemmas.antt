@@ -10,7 +10,8 @@ use Rattle.desk_spdx_json.specs.declared.steps.Step.{Step}
 use Rattle.desk_import.specs.declared.faults.ConvertFault.{ConvertFault}
 use Rattle.desk_import.specs.declared.faults.ConvertFault.TheVariants as faults
 use Rattle.desk_spdx_json.specs.Steps.{StepText, step_text}
-use Rattle.desk_import.specs.Results.{Passes, Fails, IsStopped, IsPut, lines_in, lines_of}
+use Rattle.desk_import.specs.Results.{Passes, Fails, IsStopped, IsPut}
+use Rattle.desk_spdx_json.specs.Steps.{lines_in, lines_of}
 
 cut_at : (i : ℕ) (steps : List Step) (d : Step) → i < length steps
     → map step_text steps ≡ map step_text (take i steps) ++ step_text (get_or steps i d)

@@ -6,6 +6,7 @@ use Rattle.desk_expr.specs.Tree.{Tree}
 use Rattle.desk_fields.specs.declared.fault.DocFault.{DocFault}
 use Rattle.desk_tagvalue.specs.Documents.{Spells}
 use Rattle.desk_tagvalue.specs.Parts.{DocumentText}
+use Rattle.desk_looks.specs.Looks.{look_of}
 use Rattle.desk_import.specs.Results.{IsConverted, IsRefused}
 use Rattle.desk_import.specs.Summaries.{IsSummary}
 use Rattle.desk_import.specs.declared.converting.Converted.{Converted}
@@ -22,12 +23,14 @@ abbrev pub IsNoDocument : List ℕ → Type 0
 IsNoDocument bytes = (fault : DocFault) × Spells bytes (Err fault)
 
 -- a tag-value document is imported as it is, whatever its bytes are as JSON; what is none, as the
--- tag-value document that it converts to; and what is neither, as it is, so that it is refused
+-- tag-value document that it converts to; and what is neither, as it is, so that it is refused,
+-- with what it looks like
 abbrev pub Takes : List ℕ → List ℕ → Origin → Type 0
 Takes bytes taken TagValue = IsDocument bytes × (taken ≡ bytes)
 Takes bytes taken (Json skipped) = IsNoDocument bytes × (c : Converted) × IsConverted bytes c
     × (taken ≡ string_bytes c.text) × (skipped ≡ c.skipped)
-Takes bytes taken (Neither fault) = IsNoDocument bytes × IsRefused bytes fault × (taken ≡ bytes)
+Takes bytes taken (Neither fault look) = IsNoDocument bytes × IsRefused bytes fault
+    × (look ≡ look_of bytes) × (taken ≡ bytes)
 
 -- the summary of the document that bytes spell, unless no memory was left for it; no summary if
 -- they spell none

@@ -1,12 +1,11 @@
 -- The text that steps give, and how they pass or fail.
-use Rattle.std.specs.Prelude.{◌≡◌, ◌⊎◌, ◌==◌, ◌<◌, ◌≤◌, ℕ, Bool, false, List, [], ◌∷◌, ◌++◌, All}
+use Rattle.std.specs.Prelude.{◌≡◌, ◌⊎◌, ◌==◌, ◌<◌, ◌≤◌, ℕ, Bool, false, List, ◌∷◌, ◌++◌, All}
 use Rattle.std.specs.Prelude.{Option, Some, None, Ok, count_by, length, if◌then◌else◌}
-use Rattle.std.specs.List.{flat_map}
 use Rattle.std.specs.Str.{is_utf8}
 use Rattle.std.specs.String.{string_bytes}
 use Rattle.serde_json.specs.Data.{Data}
 use Rattle.serde_json.specs.Read.{read}
-use Rattle.desk_tagvalue.specs.Drafts.{LineText, text_of_lines}
+use Rattle.desk_tagvalue.specs.Drafts.{text_of_lines}
 use Rattle.desk_tagvalue.specs.Written.{Stands, fields_of_lines}
 use Rattle.desk_fields.specs.Cutting.{Reads, behind_mark}
 use Rattle.desk_spdx_json.specs.declared.steps.Kind.{Kind}
@@ -16,20 +15,9 @@ use Rattle.desk_import.specs.declared.faults.ConvertFault.TheVariants as faults
 use Rattle.desk_import.specs.declared.converting.Skipped.{Skipped}
 use Rattle.desk_import.specs.declared.converting.Converted.{Converted}
 use Rattle.desk_spdx_json.specs.Steps.{StepText, WhatText, put, left_out, missing, bad_type, bad_value}
+use Rattle.desk_spdx_json.specs.Steps.{differs, lines_of}
+use Rattle.desk_cyclonedx.specs.Boms.{bom_steps, is_bom}
 use Rattle.desk_spdx_json.specs.Documents.{document_steps}
-
--- the lines of a step
-abbrev pub line_in : WhatText → List LineText
-line_in (put line) = line ∷ []
-line_in _ = []
-
--- the line that a step writes, if it writes one
-abbrev pub lines_in : StepText → List LineText
-lines_in s = line_in s.what
-
--- the lines that steps write, in order
-abbrev pub lines_of : List StepText → List LineText
-lines_of steps = flat_map lines_in steps
 
 -- a step passes: its line is read back from its text, or something is left out
 abbrev pub Goes : WhatText → Type 0
@@ -48,6 +36,7 @@ FailsAt at (left_out kind) fault = ⊥
 FailsAt at missing fault = fault ≡ faults.Missing at
 FailsAt at bad_type fault = fault ≡ faults.BadType at
 FailsAt at bad_value fault = fault ≡ faults.BadValue at
+FailsAt at (differs first) fault = fault ≡ faults.Differs at first
 
 -- a step that stops the conversion with this fault
 abbrev pub Fails : StepText → ConvertFault → Type 0
@@ -116,6 +105,10 @@ json_in bytes = if is_utf8 bytes then read bytes else None
 abbrev pub json_of : List ℕ → Option Data
 json_of bytes = json_in (behind_mark bytes)
 
+-- the steps of a document, by its form: CycloneDX, or else SPDX
+abbrev pub steps_of : Data → List StepText
+steps_of d = if is_bom d then bom_steps d else document_steps d
+
 -- the text of all lines, and how much is left out; no step fails
 pub record IsOf (steps : List StepText) (c : Converted) : Type 0 where
   pub text : string_bytes c.text ≡ text_of_lines (lines_of steps)
@@ -125,12 +118,12 @@ pub record IsOf (steps : List StepText) (c : Converted) : Type 0 where
 -- the bytes are JSON within the limit, and its steps give the text
 abbrev pub IsConverted : List ℕ → Converted → Type 0
 IsConverted bytes c = (length bytes ≤ json_bytes) × (d : Data) × (json_of bytes ≡ Some d)
-    × IsOf (document_steps d) c
+    × IsOf (steps_of d) c
 
 -- the text is read as the fields of the lines, in order, and as no others
 abbrev pub AreFields : List ℕ → List ℕ → Type 0
 AreFields bytes text = (d : Data) × (json_of bytes ≡ Some d)
-    × Reads 1 (behind_mark text) (Ok (fields_of_lines 1 (lines_of (document_steps d))))
+    × Reads 1 (behind_mark text) (Ok (fields_of_lines 1 (lines_of (steps_of d))))
 
 -- the bytes are too many, or no JSON, or some step of the document fails
 abbrev pub IsRefused : List ℕ → ConvertFault → Type 0
@@ -138,4 +131,4 @@ IsRefused bytes faults.Memory = ⊥
 IsRefused bytes faults.TooLarge = json_bytes < length bytes
 IsRefused bytes faults.NotJson = (length bytes ≤ json_bytes) × (json_of bytes ≡ None)
 IsRefused bytes fault = (length bytes ≤ json_bytes) × (d : Data) × (json_of bytes ≡ Some d)
-    × FailsFirst (document_steps d) fault
+    × FailsFirst (steps_of d) fault

@@ -5,6 +5,7 @@ use Rattle.std.specs.Prelude.{◌≡◌, ◌++◌, ℕ, Bool, true, false, List,
 use Rattle.std.specs.List.{flat_map}
 use Rattle.serde_json.specs.Data.{Data, Items, boolean, string, array, object, no_items, item}
 use Rattle.serde_json.specs.Data.{no_members, member}
+use Rattle.desk_base.specs.TextSets.{is_among}
 use Rattle.desk_fields.specs.declared.tag.Tag.{Tag}
 use Rattle.desk_fields.specs.declared.tag.Tag.TheVariants as tags
 use Rattle.desk_tagvalue.specs.Columns.{AreEach}
@@ -19,7 +20,7 @@ use Rattle.desk_spdx_json.specs.Parts.{relationship_line}
 use Rattle.desk_spdx_json.specs.Steps.{StepText}
 use Rattle.desk_spdx_json.specs.Values.{copyright_line, flag_text}
 use Rattle.desk_spdx_json.specs.Words.{is_word}
-use Rattle.desk_import.specs.Results.{lines_of}
+use Rattle.desk_spdx_json.specs.Steps.{lines_of}
 
 -- the fields of lines, and of the lines of steps
 abbrev pub fields_in : List LineText → List EntryText
@@ -312,6 +313,24 @@ pub record IsNormal (d : DocumentSaid) : Type 0 where
   pub files : All IsNormalFile d.files
   pub edges : All IsNormalEdge d.edges
   pub described : All (λ id. is_word id ≡ true) d.described
+
+-- ---- identifiers
+
+-- the identifiers of all elements
+abbrev pub element_ids : DocumentSaid → List (List ℕ)
+element_ids d =
+    map (λ (f : FileSaid). f.id) d.files
+    ++ (d.snippets
+    ++ (map (λ (p : PackageSaid). p.id) d.packages ++ map (λ (l : LicenceSaid). l.id) d.licences))
+
+-- each differs from those before it
+abbrev pub AreNew : List (List ℕ) → List (List ℕ) → Type 0
+AreNew before [] = Unit {0}
+AreNew before (id ∷ ids) = (is_among before id ≡ false) × AreNew (before ++ id ∷ []) ids
+
+-- no two are the same
+abbrev pub AreDistinct : List (List ℕ) → Type 0
+AreDistinct ids = AreNew [] ids
 
 -- ---- the same, read
 

@@ -1,6 +1,8 @@
 -- What a desk finds in a document that it takes in.
 use Rattle.std.specs.Prelude.{◌≡◌, ◌&&◌, ◌==◌, ℕ, List, [], ◌∷◌, Bool, true, false, not, Option}
-use Rattle.std.specs.Prelude.{None, Some, is_some, drop, count_by, slice_index_or, if◌then◌else◌}
+use Rattle.std.specs.Prelude.{None, Some, codes, is_some, drop, count_by, slice_index_or, if◌then◌else◌}
+use Rattle.std.specs.Option.{option_map_or}
+use Rattle.std.specs.Str.{bytes_eq}
 use Rattle.desk_expr.specs.Tree.{Tree}
 use Rattle.desk_tagvalue.specs.Parts.{DocumentText, PackageText}
 use Rattle.desk_bom.specs.Shipping.{AreShippingMarks}
@@ -16,11 +18,20 @@ abbrev pub is_licence : (List ℕ → Option Tree) → Option (List ℕ) → Boo
 is_licence reads None = false
 is_licence reads (Some value) = not (is_no_licence value) && is_some (reads value)
 
+-- npm's word, in place of a licence, for a package that nobody else may use (npm, package.json,
+-- license)
+abbrev pub grants_nothing : List ℕ → Bool
+grants_nothing value = bytes_eq value (codes "UNLICENSED")
+
+-- a declared value that is a licence, and not that word
+abbrev pub is_declared : (List ℕ → Option Tree) → Option (List ℕ) → Bool
+is_declared reads value = is_licence reads value && not (option_map_or grants_nothing value false)
+
 -- the standing of a package, by whether it ships
 abbrev pub standing_of : (List ℕ → Option Tree) → PackageText → Bool → Standing
 standing_of reads p false = Aside
 standing_of reads p true =
-    if is_licence reads p.concluded then Concluded else if is_licence reads p.declared then Declared
+    if is_licence reads p.concluded then Concluded else if is_declared reads p.declared then Declared
     else Neither
 
 -- the standings of packages, each by its mark

@@ -4,16 +4,16 @@ ghost use Rattle.std.specs.Prelude.{◌≡◌, ◌⊎◌, None, Some, IfOk, IfEr
 ghost use Rattle.std.specs.String.{string_bytes};
 ghost use Rattle.serde_json.specs.View.{view};
 ghost use Rattle.desk_spdx_json.specs.Steps.{step_text};
-ghost use Rattle.desk_spdx_json.specs.Documents.{document_steps};
-ghost use Rattle.desk_fields.specs.Cutting.{behind_mark};
-ghost use Rattle.desk_import.specs.Results.{is_left, count_left, json_of, kind_number, skipped_of, IsOf, IsStopped, IsConverted, IsRefused, AreFields};
+ghost use Rattle.desk_import.specs.Results.{is_left, count_left, json_of, kind_number, skipped_of, IsOf, IsStopped, IsConverted, IsRefused, AreFields, steps_of};
 
 use crate::faults::ConvertFault;
 use crate::writing::put_steps;
 use desk_base::limits::INPUT_BYTES;
-use desk_spdx_json::{Kind, Step, What};
+use desk_cyclonedx::{bom_steps, is_bom};
+use desk_looks::behind_mark;
+use desk_spdx_json::{Kind, Step, Steps, What, document_steps};
 use serde_json::Value;
-use std::alloc::Global;
+use std::alloc::{AllocError, Global};
 
 /// How many things were left out.
 #[derive(Clone, Copy)]
@@ -77,12 +77,22 @@ fn skipped_of(steps: &[Step]) -> Skipped
     }
 }
 
+// The steps of a document, by its form.
+fn steps_of<'a>(alloc: Global, value: &'a Value) -> Result<Steps<'a>, AllocError>
+    ensures { IfOk result (λ steps. steps ≡ steps_of (view value.now)) }
+{
+    if is_bom(value) {
+        return bom_steps(alloc, value);
+    }
+    document_steps(alloc, value)
+}
+
 // The text of a document, and what is left out.
 fn conversion_of(alloc: Global, value: &Value) -> Result<Converted, ConvertFault>
-    ensures ok { IfOk result (λ c. IsOf (document_steps (view value.now)) c) }
-    ensures err { IfErr result (λ e. IsStopped (document_steps (view value.now)) e) }
+    ensures ok { IfOk result (λ c. IsOf (steps_of (view value.now)) c) }
+    ensures err { IfErr result (λ e. IsStopped (steps_of (view value.now)) e) }
 {
-    let steps = match desk_spdx_json::document_steps(alloc, value) {
+    let steps = match steps_of(alloc, value) {
         Ok(steps) => steps,
         Err(_) => return Err(ConvertFault::Memory),
     };
@@ -93,16 +103,6 @@ fn conversion_of(alloc: Global, value: &Value) -> Result<Converted, ConvertFault
             skipped: skipped_of(steps.as_slice()),
         }),
         Err(fault) => Err(fault),
-    }
-}
-
-// The bytes without a byte order mark at their start.
-fn behind_mark(bytes: &[u8]) -> &[u8]
-    ensures { result.now ≡ behind_mark bytes.now }
-{
-    match bytes {
-        [0xEF, 0xBB, 0xBF, rest @ ..] => rest,
-        _ => bytes,
     }
 }
 
@@ -119,8 +119,8 @@ fn value_of(alloc: Global, bytes: &[u8]) -> Result<Value, ConvertFault>
     }
 }
 
-/// The tag-value document that says what the desk reads in an SPDX document in JSON of at most 64
-/// MiB. A byte order mark at its start is skipped.
+/// The tag-value document that says what the desk reads in an SPDX or CycloneDX document in JSON of
+/// at most 64 MiB. A byte order mark at its start is skipped.
 pub fn convert(alloc: Global, bytes: &[u8]) -> Result<Converted, ConvertFault>
     // The text consists of the lines of the document's steps, all of which pass, and what is left
     // out is counted.

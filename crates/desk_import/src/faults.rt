@@ -18,4 +18,6 @@ pub enum ConvertFault {
     BadType(Text),
     /// A value that can't be written in its field.
     BadValue(Text),
+    /// An element has the identifier of another one, at the second place, and doesn't say the same.
+    Differs(Text, Text),
 }

@@ -9,6 +9,7 @@ use crate::converting::{Converted, Skipped, convert};
 use crate::faults::ConvertFault;
 use crate::summary::{Summary, summary_of};
 use desk_base::Profile;
+use desk_looks::{Look, look_of};
 use desk_tagvalue::{DocFault, read};
 use std::alloc::{AllocError, Global};
 
@@ -19,8 +20,8 @@ pub enum Origin {
     TagValue,
     /// A document in JSON, of which so much is left out.
     Json(Skipped),
-    /// Neither, and why they are no document in JSON.
-    Neither(ConvertFault),
+    /// Neither, why they are no document in JSON, and what they look like.
+    Neither(ConvertFault, Option<Look>),
 }
 
 /// What an import takes from a file.
@@ -73,18 +74,21 @@ fn converted_intake(alloc: Global, bytes: Vec<u8>, profile: Profile) -> Result<I
             })
         }
         Err(ConvertFault::Memory) => Err(AllocError),
-        Err(fault) => Ok(Intake {
-            bytes,
-            origin: Origin::Neither(fault),
-            summary: None,
-        }),
+        Err(fault) => {
+            let look = look_of(bytes.as_slice());
+            Ok(Intake {
+                bytes,
+                origin: Origin::Neither(fault, look),
+                summary: None,
+            })
+        }
     }
 }
 
 /// What is imported of the bytes of a file: they themselves, if they are a tag-value document, else
 /// the document that they convert to from JSON. Bytes that are neither are imported as they are,
-/// and the desk says why it refuses them. A tag-value document is read once. Licence expressions
-/// are read by the profile of operators.
+/// and the desk says why it refuses them, and what they look like. A tag-value document is read
+/// once. Licence expressions are read by the profile of operators.
 pub fn intake_of(alloc: Global, bytes: Vec<u8>, profile: Profile) -> Result<Intake, AllocError>
     ensures takes { IfOk result (λ taken. Takes bytes.items taken.bytes.items taken.origin) }
     ensures found { (reads : List ℕ → Option Tree) → IsReading profile reads

@@ -14,8 +14,9 @@ ghost use Rattle.desk_tagvalue.specs.Drafts.{text_of_lines};
 ghost use Rattle.desk_tagvalue.specs.Parts.{DocumentText, document_of};
 ghost use Rattle.desk_tagvalue.specs.Written.{Stands};
 ghost use Rattle.desk_spdx_json.specs.Documents.{document_steps};
-ghost use Rattle.desk_import.specs.Results.{IsConverted, json_of, lines_of};
-ghost use Rattle.desk_import.specs.Said.{DocumentSaid, IsNormal, IsSaid, document_lines, document_object, entries_of};
+ghost use Rattle.desk_import.specs.Results.{IsConverted, json_of, steps_of};
+ghost use Rattle.desk_spdx_json.specs.Steps.{lines_of};
+ghost use Rattle.desk_import.specs.Said.{AreDistinct, DocumentSaid, IsNormal, IsSaid, document_lines, document_object, element_ids, entries_of};
 ghost use Rattle.desk_import.specs.declared.converting.Converted.{Converted};
 
 /// A converted text of at most 4 MiB spells the document, or has the fault, that the fields of its
@@ -23,7 +24,7 @@ ghost use Rattle.desk_import.specs.declared.converting.Converted.{Converted};
 pub fn conversions_are_read()
     ensures { (bytes : List ℕ) (c : Converted) → IsConverted bytes c
         → length (string_bytes c.text) ≤ document_bytes → (d : Data) × (json_of bytes ≡ Some d)
-        × Spells (string_bytes c.text) (judged (entries_of (document_steps d))) }
+        × Spells (string_bytes c.text) (judged (entries_of (steps_of d))) }
 {}
 
 /// The text of a document in normal form, with elements of any number and all their columns, spells
@@ -33,14 +34,15 @@ pub fn documents_are_read_back()
         → Spells (text_of_lines (document_lines d)) (Ok x) → IsSaid d x }
 {}
 
-/// The object of a document in normal form converts to the lines of that document, whose fields say
-/// the same; and if the converted text spells a document, that says the same.
+/// The object of a document in normal form, whose elements have distinct identifiers, converts to
+/// the lines of that document, whose fields say the same; and if the converted text spells a
+/// document, that says the same.
 pub fn objects_are_said()
-    ensures lines { (d : DocumentSaid) → IsNormal d
+    ensures lines { (d : DocumentSaid) → IsNormal d → AreDistinct (element_ids d)
         → lines_of (document_steps (document_object d)) ≡ document_lines d }
-    ensures fields { (d : DocumentSaid) → IsNormal d
+    ensures fields { (d : DocumentSaid) → IsNormal d → AreDistinct (element_ids d)
         → IsSaid d (document_of (entries_of (document_steps (document_object d)))) }
     ensures text { (bytes : List ℕ) (c : Converted) (d : DocumentSaid) (x : DocumentText)
-        → IsNormal d → json_of bytes ≡ Some (document_object d) → IsConverted bytes c
+        → IsNormal d → AreDistinct (element_ids d) → json_of bytes ≡ Some (document_object d) → IsConverted bytes c
         → Spells (string_bytes c.text) (Ok x) → IsSaid d x }
 {}

@@ -1,8 +1,9 @@
 //! What a desk takes in as a document, in either form, and what it finds in it.
 //!
-//! `convert` returns an SPDX document in JSON (SPDX 2.2 and 2.3, JSON schema) as the tag-value
-//! document that says what the desk reads in it. `desk_spdx_json` says what that is, as the steps
-//! of its value: the lines, what is left out, which is counted, and the faults.
+//! `convert` returns an SPDX document in JSON (SPDX 2.2 and 2.3, JSON schema), or a CycloneDX one
+//! (1.4 to 1.6), as the tag-value document that says what the desk reads in it. `desk_spdx_json` and
+//! `desk_cyclonedx` say what that is, as the steps of its value: the lines, what is left out, which
+//! is counted, and the faults.
 //! `specs/Results.antt` says what becomes of the steps. If all pass, the text consists of their
 //! lines, and it is read as the fields of these lines and no others. If not, the fault is that of
 //! the first step that fails. A line passes if it is read back as its one field: a text with

@@ -7,7 +7,7 @@ ghost use Rattle.desk_tagvalue.specs.Documents.{document_text};
 ghost use Rattle.desk_tagvalue.specs.Views.{package_text};
 ghost use Rattle.desk_import.specs.Summaries.{IsSummary, kind_count, same_standing, standing_count, standing_of, standings_of};
 
-use crate::licences::is_licence;
+use crate::licences::{is_declared, is_licence};
 use desk_base::Profile;
 use desk_bom::{first_mark, ships};
 use desk_findings::{Finding, FindingKind, MissingField, findings_in};
@@ -109,7 +109,7 @@ pub(crate) fn standing_of(
     if is_licence(alloc, text.concluded, profile)? {
         return Ok(Standing::Concluded);
     }
-    if is_licence(alloc, text.declared, profile)? {
+    if is_declared(alloc, text.declared, profile)? {
         return Ok(Standing::Declared);
     }
     Ok(Standing::Neither)

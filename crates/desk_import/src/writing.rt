@@ -5,7 +5,8 @@ ghost use Rattle.std.specs.String.{string_bytes};
 ghost use Rattle.desk_tagvalue.specs.Drafts.{line_text, spelled, text_of_lines};
 ghost use Rattle.desk_tagvalue.specs.Written.{Stands};
 ghost use Rattle.desk_spdx_json.specs.Steps.{step_text, put};
-ghost use Rattle.desk_import.specs.Results.{IsPut, IsStopped, Passes, FailsAt, Fails, lines_in};
+ghost use Rattle.desk_import.specs.Results.{IsPut, IsStopped, Passes, FailsAt, Fails};
+ghost use Rattle.desk_spdx_json.specs.Steps.{lines_in};
 
 use crate::faults::ConvertFault;
 use desk_base::Text;
@@ -39,6 +40,16 @@ fn put(alloc: Global, out: &mut String, at: &str, line: DraftLine) -> Result<(),
     }
 }
 
+// That an element isn't the same as the first one with its identifier.
+fn difference(alloc: Global, at: &str, first: &str) -> Result<ConvertFault, ConvertFault>
+    ensures fault { IfOk result (λ e. e ≡ ConvertFault.Differs at.now first.now) }
+    ensures err { IfErr result (λ e. e ≡ ConvertFault.Memory) }
+{
+    let at = place(alloc, at)?;
+    let first = place(alloc, first)?;
+    Ok(ConvertFault::Differs(at, first))
+}
+
 // Adds the text of a step, if it passes.
 fn put_step(alloc: Global, out: &mut String, step: &Step) -> Result<(), ConvertFault>
     ensures ok { OnOk result (string_bytes out.new
@@ -56,6 +67,7 @@ fn put_step(alloc: Global, out: &mut String, step: &Step) -> Result<(), ConvertF
         What::Missing => Err(ConvertFault::Missing(place(alloc, at)?)),
         What::BadType => Err(ConvertFault::BadType(place(alloc, at)?)),
         What::BadValue => Err(ConvertFault::BadValue(place(alloc, at)?)),
+        What::Differs(first) => Err(difference(alloc, at, first.as_str())?),
     }
 }
 

@@ -1,7 +1,7 @@
 use Rattle.std.proofs.lemmas.Result.{IfOk-weaker, IfErr-weaker}
 use Rattle.std.specs.String.{string_bytes}
 use Rattle.serde_json.specs.View.{view}
-use Rattle.desk_spdx_json.specs.Documents.{document_steps}
+use Rattle.desk_import.specs.Results.{steps_of}
 use Rattle.desk_import.proofs.ResultLemmas.{refused, fields_again}
 use Rattle.desk_import.proofs.converting.convert.Goals as goal
 
@@ -18,7 +18,7 @@ returns-clause-fields c =
     (λ made of. (
       d,
       c.in_ok-value.ensures.ok,
-      fields_again (document_steps d) (string_bytes made.text) of.text of.pass,
+      fields_again (steps_of d) (string_bytes made.text) of.text of.pass,
     ))
     c.conversion_of-converted.ensures.ok
 

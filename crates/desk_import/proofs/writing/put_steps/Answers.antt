@@ -3,7 +3,8 @@ use Rattle.std.specs.String.{string_bytes}
 use Rattle.desk_tagvalue.specs.Drafts.{text_of_lines}
 use Rattle.desk_import.specs.declared.faults.ConvertFault.TheVariants as faults
 use Rattle.desk_spdx_json.specs.Steps.{step_text}
-use Rattle.desk_import.specs.Results.{Passes, Fails, lines_in}
+use Rattle.desk_import.specs.Results.{Passes, Fails}
+use Rattle.desk_spdx_json.specs.Steps.{lines_in}
 use Rattle.desk_import.proofs.StepLemmas.{stopped_at, put_more}
 use Rattle.desk_import.proofs.writing.put_steps.Goals as goal
 
