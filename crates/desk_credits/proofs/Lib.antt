@@ -1,0 +1,4 @@
+pub mod NoticeLemmas
+pub mod TreeLemmas
+pub mod CommentLemmas
+pub mod WrittenLemmas

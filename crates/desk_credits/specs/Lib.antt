@@ -1,0 +1,5 @@
+pub mod Patterns
+pub mod Finding
+pub mod Notices
+pub mod Written
+pub mod Answers

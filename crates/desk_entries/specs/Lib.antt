@@ -1,0 +1,3 @@
+pub mod Sifting
+pub mod Written
+pub mod Answers
