@@ -1,0 +1,4 @@
+pub mod Troubles
+pub mod Paths
+pub mod Logs
+pub mod Differences
