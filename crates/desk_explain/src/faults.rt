@@ -138,7 +138,7 @@ pub(crate) const EXPRESSION_FAULTS: [Entry; 7] = [
 ];
 
 /// The other faults, of files and trees.
-pub(crate) const OTHER_FAULTS: [Entry; 9] = [
+pub(crate) const OTHER_FAULTS: [Entry; 10] = [
     Entry {
         name: "BadVersion",
         kind: Kind::OtherFault { place: "--db FILE" },
@@ -184,14 +184,24 @@ pub(crate) const OTHER_FAULTS: [Entry; 9] = [
     Entry {
         name: "BadType",
         kind: Kind::OtherFault { place: "JSON" },
-        meaning: Some("the value at AT isn't of the type that SPDX 2.3 gives its member"),
+        meaning: Some(
+            "the value at AT isn't of the type that SPDX 2.3 or CycloneDX gives its member",
+        ),
         cause: Some("a text instead of a list; SPDX 3"),
     },
     Entry {
         name: "BadValue",
         kind: Kind::OtherFault { place: "JSON" },
-        meaning: Some("the text at AT can't be in its tag-value field"),
-        cause: Some("a line end in a name or version, </text> in a notice, a blank in an id"),
+        meaning: Some("the text at AT can't be in its field"),
+        cause: Some(
+            "a line end in a name or version, </text> in a notice, a blank in an id; an expression beside other licences",
+        ),
+    },
+    Entry {
+        name: "Differs",
+        kind: Kind::OtherFault { place: "JSON" },
+        meaning: Some("two elements of one identifier differ"),
+        cause: Some("a tool that gives two packages one identifier (docs/DOCUMENTS.md)"),
     },
     Entry {
         name: "origin",

@@ -119,7 +119,7 @@ pub(crate) const REFUSALS: [Entry; 30] = [
         name: "UnknownRelease",
         kind: Kind::Refusal {
             number: 12,
-            requests: "attach, choose, unchoose, freeze, withdraw, duties, totals, release, wanting, ready",
+            requests: "attach, choose, unchoose, freeze, withdraw, duties, totals, release, wanting, ready, gaps",
         },
         meaning: None,
         cause: Some("a wrong name, or its opening was refused"),
@@ -128,7 +128,7 @@ pub(crate) const REFUSALS: [Entry; 30] = [
         name: "ReleaseState",
         kind: Kind::Refusal {
             number: 13,
-            requests: "attach, choose, unchoose, freeze, meet, waive, reopen, withdraw, wanting, ready",
+            requests: "attach, choose, unchoose, freeze, meet, waive, reopen, withdraw, wanting, ready, gaps",
         },
         meaning: None,
         cause: Some("it is frozen or withdrawn; for ready, it isn't frozen"),
@@ -217,7 +217,7 @@ pub(crate) const REFUSALS: [Entry; 30] = [
         },
         meaning: None,
         cause: Some(
-            "the catalogue in force has no rule for this term and the release's form; a rule may owe nothing (duties = [])",
+            "the catalogue in force has no rule for this term, or for the licence that this reference was adopted as, in the release's form: add one; it may owe nothing (duties = [])",
         ),
     },
     Entry {
@@ -236,7 +236,9 @@ pub(crate) const REFUSALS: [Entry; 30] = [
             requests: "meet, waive, reopen",
         },
         meaning: None,
-        cause: Some("the duty was met or waived before; or it is open, and so can't be reopened"),
+        cause: Some(
+            "the duty was met or waived before: reopen it first; or it is open, and so can't be reopened",
+        ),
     },
     Entry {
         name: "BadText",

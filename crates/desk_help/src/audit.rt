@@ -26,14 +26,14 @@ condition that isn't met:
 
 Nothing is recorded in FILE.",
     after_help: "\
-A FILE that does not exist, is empty, or is a database with no tables becomes an empty desk first.
+If FILE is empty, or a database with no tables, this prints empty. No file is made.
 
 Example:
   desk audit --db desk.db
 
 Statuses:
   0  the tables are sound
-  1  they are not
+  1  they are not, or FILE is empty
   2  the command line is wrong
   3  no memory, a file or stream failed, or FILE lacks a table of a desk",
 };

@@ -12,7 +12,7 @@ Examples:
 
 Statuses:
   0  nothing prevents a freeze; or the choices were written, if there are any
-  1  something does; or it was refused, or FILE keeps no such desk
+  1  something does, or a document ships no package; or it was refused, or FILE keeps no such desk
   2  the command line is wrong
   3  no memory, or a file or stream failed";
 
@@ -29,9 +29,9 @@ would meet them, as the reply to a request that is refused:
 
 These are packages without a conclusion or a choice, references that aren't adopted, and terms without a
 rule in the form of RELEASE; or, as the only line, that there is no such release, that it isn't open, or that
-no document is attached. Standard error says in words what each line means, and names attached documents
-that ship no package: they raise no duty. If nothing is printed, a freeze is accepted, unless its duties
-don't fit the desk.
+no document is attached. With --explain or on a terminal, standard error says in words what each line means.
+It always names attached documents that ship no package: they raise no duty, and the status is 1. If nothing
+is printed, a freeze is accepted, unless its duties don't fit the desk.
 
 Nothing is recorded in FILE.",
     after_help: AFTER_HELP,

@@ -16,7 +16,8 @@ JSON:
   {\"document\":N,\"new\":false}             the same text was imported before, as document N
   {\"at\":[..],\"name\":\"..\",\"refused\":..}   it was refused, and nothing was changed
 
-Standard error counts what is left out of JSON, or says why a refused file is not a document in JSON.",
+Standard error counts what is left out of JSON, or says why a refused file is not a document in JSON, and
+what it looks like.",
     after_help: "\
 A FILE that does not exist, is empty, or is a database with no tables becomes an empty desk first.
 Any other file without a desk of this version is left unchanged, and one line says so:

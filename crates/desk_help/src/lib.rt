@@ -4,11 +4,14 @@
 
 mod alternatives;
 mod audit;
+mod backup;
 mod catalogue;
 mod check;
 mod convert;
+mod credits;
 mod explain;
 mod freezing;
+mod gaps;
 mod gather;
 mod import;
 mod lint;
@@ -19,15 +22,19 @@ mod ready;
 mod reports;
 mod script;
 mod serve;
+mod texts;
 mod words;
 
 pub use alternatives::ALTERNATIVES;
 pub use audit::AUDIT;
+pub use backup::BACKUP;
 pub use catalogue::CATALOGUE;
 pub use check::CHECK;
 pub use convert::CONVERT;
+pub use credits::CREDITS;
 pub use explain::EXPLAIN;
 pub use freezing::{CHOICES, WANTING};
+pub use gaps::GAPS;
 pub use gather::GATHER;
 pub use import::IMPORT;
 pub use lint::LINT;
@@ -38,6 +45,7 @@ pub use ready::READY;
 pub use reports::{CHANGES, DUTIES, NOTICES, PAGE, TOTALS};
 pub use script::SCRIPT;
 pub use serve::SERVE;
+pub use texts::TEXTS;
 pub use words::{ASK, DO};
 
 /// The help of a subcommand.

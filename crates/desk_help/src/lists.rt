@@ -22,7 +22,8 @@ columns. title is the code's in the catalogue in force, since is the day of the 
 the last day of a waiver that ends.
 
 --release, --code, --open and --past go with duties: those of a release, with a code, in the state open, or
-waived up to a day before DAY, so that close would open them on that day.",
+waived up to a day before DAY, so that close would open them on that day. If the desk has no such release, or
+neither its catalogue nor a duty has the code, standard error says so, and the status is 1.",
     after_help: "\
 A FILE without a desk of this version is left unchanged, and one line says so, as with duties.
 
@@ -34,7 +35,7 @@ Examples:
 
 Statuses:
   0  it was written
-  1  FILE keeps no such desk
+  1  the release or the code is unknown, or FILE keeps no such desk
   2  the command line is wrong
   3  no memory, or a file or stream failed",
 };

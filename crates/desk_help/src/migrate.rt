@@ -14,7 +14,8 @@ All is done in one transaction, and only if the resulting tables are sound. Othe
 this prints why:
 
   fault: BadVersion   its tables aren't of an older version, or are of an unknown one
-  fault: NotADesk     it has no table with a version, or not all tables of that version
+  fault: NotADesk     it has no table with a version, or not all tables of that version as a desk makes
+                      them: standard error says which
   fault: Bad..        its tables wouldn't be sound: desk audit --help has the names",
     after_help: "\
 Copy FILE first: an older desk can't read the tables of this version.

@@ -109,6 +109,9 @@ Requests, with an example of each and its reply:
   list the duties that keep a frozen release from being ready, or, with a day, from being so on it
     > {\"ask\":\"ready\",\"release\":\"r1\"}
     < {\"rows\":[]}
+  list what is missing for the notices of a release: what, the document, and what lacks it
+    > {\"ask\":\"gaps\",\"release\":\"r3\"}
+    < {\"rows\":[[\"copyright\",1,\"SPDXRef-p\"]]}
 
 A refused request changes nothing; the reply has the refusal's number, its name and the place:
 

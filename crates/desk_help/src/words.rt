@@ -68,11 +68,12 @@ columns and words; a file, a pipe and --json get the line that script writes.
   releases, documents, open            all releases, documents and open duties
   wanting       release                everything that prevents a freeze
   ready         release [day]          the duties that keep a frozen release from being ready
+  gaps          release                what is missing for the notices of a release
 
 An unknown word, or a key that is unknown, missing or given twice, or whose value is of the wrong
 kind, is an error of the command line, and no file is opened.",
     after_help: "\
-A file that does not exist becomes an empty desk first.
+The file must exist.
 
 Examples:
   desk ask --db desk.db alternatives document=1 package=SPDXRef-p

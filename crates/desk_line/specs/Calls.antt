@@ -16,12 +16,13 @@ use Rattle.desk_line.specs.Numbers.{number_written}
 use Rattle.desk_line.specs.Words.{desk_app}
 use Rattle.desk_line.specs.declared.call.Call.{Call}
 use Rattle.desk_line.specs.declared.call.Call.TheVariants.{Check, Alternatives, Script, File}
-use Rattle.desk_line.specs.declared.call.Call.TheVariants.{Gather, Lint, Convert, Explain, Propose}
+use Rattle.desk_line.specs.declared.call.Call.TheVariants.{Gather, Lint, Convert, Texts, Credits, Explain, Propose}
 use Rattle.desk_line.specs.declared.call.FileCall.TheVariants.{Import, Catalogue, Notices, Duties}
-use Rattle.desk_line.specs.declared.call.FileCall.TheVariants.{Totals, Changes, Page, Ready, Wanting}
+use Rattle.desk_line.specs.declared.call.FileCall.TheVariants.{Totals, Changes, Gaps, Page, Ready, Wanting}
 use Rattle.desk_line.specs.declared.call.FileCall.TheVariants.{Choices, Audit, Migrate, Serve}
 use Rattle.desk_line.specs.declared.call.FileCall.TheVariants as file
 use Rattle.desk_line.specs.declared.call.Listed.{Listed}
+use Rattle.desk_line.specs.declared.call.Package.{Package}
 use Rattle.desk_line.specs.declared.call.Listed.TheVariants as listed
 use Rattle.desk_line.specs.declared.lists.Filter.{Filter}
 use Rattle.desk_line.specs.declared.subcommands.Kind.{Kind}
@@ -56,9 +57,13 @@ abbrev pub is_true : Option Text → Bool
 is_true None = false
 is_true (Some value) = bytes_eq value (codes "true")
 
+-- whether `--explain` is used
+abbrev pub is_explained : List Row → Bool
+is_explained rows = is_true (first_of (codes "EXPLAIN") rows)
+
 -- the call of `script` with these values
 abbrev pub script_in : List Row → Call
-script_in rows = Script (first_of (codes "FILE") rows) (is_true (first_of (codes "EXPLAIN") rows))
+script_in rows = Script (first_of (codes "FILE") rows) (is_explained rows)
     (is_true (first_of (codes "STOP") rows))
 
 -- whether `--json` is used
@@ -81,7 +86,7 @@ ask_in rows = option_and_then
 abbrev pub import_in : List Row → Option Call
 import_in rows = option_and_then
     (λ database. option_and_then (λ document. option_map
-    (λ profile. File database (Import document profile))
+    (λ profile. File database (Import document profile (is_explained rows)))
     (profile_in rows)) (first_of (codes "DOC") rows)) (first_of (codes "FILE") rows)
 
 -- the call of `catalogue` with these values
@@ -133,7 +138,7 @@ all_or_none id rows = unwrap_or (all_of id rows) []
 abbrev pub notices_in : List Row → Option Call
 notices_in rows = option_map (λ found. File found.database
     (Notices found.release (all_or_none (codes "EXTRA") rows)
-    (is_true (first_of (codes "COMPLETE") rows)))) (release_in rows)
+    (is_true (first_of (codes "COMPLETE") rows)) (is_explained rows))) (release_in rows)
 
 -- the call of `duties`
 abbrev pub duties_in : List Row → Option Call
@@ -156,6 +161,12 @@ audit_in rows = option_map (λ database. File database Audit) (first_of (codes "
 abbrev pub migrate_in : List Row → Option Call
 migrate_in rows = option_map (λ database. File database Migrate) (first_of (codes "FILE") rows)
 
+-- the call of `backup` with these values
+abbrev pub backup_in : List Row → Option Call
+backup_in rows = option_and_then
+    (λ database. option_map (λ copy. File database (file.Backup copy)) (first_of (codes "TO") rows))
+    (first_of (codes "FILE") rows)
+
 -- the call of `explain` with these values
 abbrev pub explain_in : List Row → Option Call
 explain_in rows = option_map Explain (first_of (codes "NAME") rows)
@@ -168,7 +179,8 @@ profile_if_given (Some value) = profile_written value
 -- the proposals for a document in a file of its own
 abbrev pub filed_proposals_in : List Row → Option Call
 filed_proposals_in rows = option_and_then
-    (λ document. option_and_then (λ number. option_map (λ profile. Propose document number profile)
+    (λ document. option_and_then (λ number. option_map
+    (λ profile. Propose document number profile (is_explained rows))
     (profile_if_given (first_of (codes "PROFILE") rows))) (number_in 32 (codes "N") rows))
     (first_of (codes "DOC") rows)
 
@@ -181,7 +193,7 @@ has_reading rows = is_some (number_in 32 (codes "N") rows)
 abbrev pub held_proposals_in : Text → List Row → Option Call
 held_proposals_in database rows =
     if has_reading rows then None
-    else option_map (λ document. File database (file.Proposals document))
+    else option_map (λ document. File database (file.Proposals document (is_explained rows)))
     (option_and_then (number_written 32) (first_of (codes "DOC") rows))
 
 -- with a file, the word is the number of its document; without one, a path
@@ -200,14 +212,18 @@ choices_in rows = option_map (λ found. File found.database (Choices found.relea
 
 -- the call of `wanting`
 abbrev pub wanting_in : List Row → Option Call
-wanting_in rows = option_map (λ found. File found.database (Wanting found.release))
-    (release_in rows)
+wanting_in rows = option_map
+    (λ found. File found.database (Wanting found.release (is_explained rows))) (release_in rows)
 
 -- the call of `ready` with these values
 abbrev pub ready_in : List Row → Option Call
 ready_in rows = option_map
     (λ found. File found.database (Ready found.release (first_of (codes "DAY") rows)))
     (release_in rows)
+
+-- the call of `gaps`
+abbrev pub gaps_in : List Row → Option Call
+gaps_in rows = option_map (λ found. File found.database (Gaps found.release)) (release_in rows)
 
 -- which duties are listed
 abbrev pub filter_in : List Row → Filter
@@ -259,6 +275,21 @@ page_in rows = option_map (λ found. File found.database (Page found.release)) (
 abbrev pub convert_in : List Row → Option Call
 convert_in rows = option_map Convert (first_of (codes "JSON") rows)
 
+-- the call of `texts` with these values
+abbrev pub texts_in : List Row → Option Call
+texts_in rows = option_map Texts (first_of (codes "DIR") rows)
+
+-- the package that a credit is for
+abbrev pub package_in : List Row → Option Package
+package_in rows = option_map (λ name. let found : Package =
+    record { name = name; version = first_of (codes "VERSION") rows } in found)
+    (first_of (codes "NAME") rows)
+
+-- the call of `credits` with these values
+abbrev pub credits_in : List Row → Option Call
+credits_in rows = option_and_then (λ folder. option_map (Credits folder) (package_in rows))
+    (first_of (codes "DIR") rows)
+
 -- which subcommand has a name
 abbrev pub kind_at : Text → Option Kind
 kind_at name =
@@ -275,6 +306,7 @@ kind_at name =
     else if bytes_eq name (codes "changes") then Some kind.Changes
     else if bytes_eq name (codes "audit") then Some kind.Audit
     else if bytes_eq name (codes "migrate") then Some kind.Migrate
+    else if bytes_eq name (codes "backup") then Some kind.Backup
     else if bytes_eq name (codes "gather") then Some kind.Gather
     else if bytes_eq name (codes "lint") then Some kind.Lint
     else if bytes_eq name (codes "serve") then Some kind.Serve
@@ -283,9 +315,12 @@ kind_at name =
     else if bytes_eq name (codes "choices") then Some kind.Choices
     else if bytes_eq name (codes "wanting") then Some kind.Wanting
     else if bytes_eq name (codes "ready") then Some kind.Ready
+    else if bytes_eq name (codes "gaps") then Some kind.Gaps
     else if bytes_eq name (codes "list") then Some kind.List
     else if bytes_eq name (codes "page") then Some kind.Page
     else if bytes_eq name (codes "convert") then Some kind.Convert
+    else if bytes_eq name (codes "texts") then Some kind.Texts
+    else if bytes_eq name (codes "credits") then Some kind.Credits
     else None
 
 -- the call of a subcommand with these values
@@ -303,6 +338,7 @@ call_by kind.Totals rows = totals_in rows
 call_by kind.Changes rows = changes_in rows
 call_by kind.Audit rows = audit_in rows
 call_by kind.Migrate rows = migrate_in rows
+call_by kind.Backup rows = backup_in rows
 call_by kind.Gather rows = gather_in rows
 call_by kind.Lint rows = lint_in rows
 call_by kind.Serve rows = serve_in rows
@@ -311,9 +347,12 @@ call_by kind.Propose rows = propose_in rows
 call_by kind.Choices rows = choices_in rows
 call_by kind.Wanting rows = wanting_in rows
 call_by kind.Ready rows = ready_in rows
+call_by kind.Gaps rows = gaps_in rows
 call_by kind.List rows = list_in rows
 call_by kind.Page rows = page_in rows
 call_by kind.Convert rows = convert_in rows
+call_by kind.Texts rows = texts_in rows
+call_by kind.Credits rows = credits_in rows
 
 -- the call of the subcommand with this name, if there is one
 abbrev pub call_in : Text → List Row → Option Call

@@ -49,13 +49,17 @@ several name long = record (optional name long) {
 abbrev pub flag : Text → Text → Rule
 flag name long = record (new_rule name) { long = Some long; action = Some SetTrue }
 
+-- `--explain`
+abbrev pub explain_flag : Rule
+explain_flag = flag (codes "EXPLAIN") (codes "explain")
+
 -- `script [--db FILE] [--explain] [--stop]`
 abbrev pub kept_script_app : App
 kept_script_app = with_rule (new_app (codes "script")) (optional (codes "FILE") (codes "db"))
 
 -- with its two flags
 abbrev pub script_app : App
-script_app = with_rule (with_rule kept_script_app (flag (codes "EXPLAIN") (codes "explain")))
+script_app = with_rule (with_rule kept_script_app explain_flag)
     (flag (codes "STOP") (codes "stop"))
 
 -- `--LONG NAME`, required
@@ -75,10 +79,10 @@ abbrev pub request_app : Text → App
 request_app name = with_rule (with_rule (with_rule (new_app name) database_option) json_flag)
     (words (codes "WORD"))
 
--- `import --db FILE [--profile PROFILE] DOC`
+-- `import --db FILE [--profile PROFILE] [--explain] DOC`
 abbrev pub import_app : App
-import_app = with_rule (with_rule (with_rule (new_app (codes "import")) database_option)
-    profile_option) (word (codes "DOC"))
+import_app = with_rule (with_rule (with_rule (with_rule (new_app (codes "import")) database_option)
+    profile_option) explain_flag) (word (codes "DOC"))
 
 -- `catalogue --db FILE TOML`
 abbrev pub catalogue_app : App
@@ -119,10 +123,20 @@ count name most = record (word name) { parser = Some (Signed (pos 0) (pos most))
 abbrev pub release_app : Text → App
 release_app name = with_rule (with_rule (new_app name) database_option) (word (codes "RELEASE"))
 
--- `notices --db FILE [--fill EXTRA ..] [--complete] RELEASE`
+-- `wanting --db FILE [--explain] RELEASE`
+abbrev pub wanting_app : App
+wanting_app = with_rule (with_rule (with_rule (new_app (codes "wanting")) database_option)
+    explain_flag) (word (codes "RELEASE"))
+
+-- `notices --db FILE [--fill EXTRA ..] [--complete] [--explain] RELEASE`
+abbrev pub filled_notices_app : App
+filled_notices_app = with_rule (with_rule (new_app (codes "notices")) database_option)
+    (several (codes "EXTRA") (codes "fill"))
+
+-- with its other values
 abbrev pub notices_app : App
-notices_app = with_rule (with_rule (with_rule (with_rule (new_app (codes "notices")) database_option)
-    (several (codes "EXTRA") (codes "fill"))) (flag (codes "COMPLETE") (codes "complete")))
+notices_app = with_rule (with_rule
+    (with_rule filled_notices_app (flag (codes "COMPLETE") (codes "complete"))) explain_flag)
     (word (codes "RELEASE"))
 
 -- `changes --db FILE DUTY`, limited to the numbers that a duty may have
@@ -177,9 +191,14 @@ audit_app = with_rule (new_app (codes "audit")) database_option
 abbrev pub migrate_app : App
 migrate_app = with_rule (new_app (codes "migrate")) database_option
 
--- and with those that audit and migrate a file
+-- `backup --db FILE TO`
+abbrev pub backup_app : App
+backup_app = with_rule (with_rule (new_app (codes "backup")) database_option) (word (codes "TO"))
+
+-- and with those that audit, migrate and copy a file
 abbrev pub auditing_app : App
-auditing_app = with_subcommand (with_subcommand reporting_app audit_app.top) migrate_app.top
+auditing_app = with_subcommand (with_subcommand (with_subcommand reporting_app audit_app.top)
+    migrate_app.top) backup_app.top
 
 -- and with those that read a source tree
 abbrev pub reading_app : App
@@ -197,16 +216,16 @@ explain_app = with_rule (new_app (codes "explain")) (word (codes "NAME"))
 abbrev pub explaining_app : App
 explaining_app = with_subcommand serving_app explain_app.top
 
--- `propose [--db FILE] [--profile PROFILE] [--document N] DOC`, limited to the numbers that a
+-- `propose [--db FILE] [--profile PROFILE] [--document N] [--explain] DOC`, limited to the numbers that a
 -- document may have
 abbrev pub kept_proposals_app : App
 kept_proposals_app = with_rule (new_app (codes "propose")) (optional (codes "FILE") (codes "db"))
 
 -- with its other values
 abbrev pub propose_app : App
-propose_app = with_rule (with_rule
+propose_app = with_rule (with_rule (with_rule
     (with_rule kept_proposals_app (optional (codes "PROFILE") (codes "profile")))
-    (optional_number (codes "N") (codes "document") 4294967295)) (word (codes "DOC"))
+    (optional_number (codes "N") (codes "document") 4294967295)) explain_flag) (word (codes "DOC"))
 
 -- and with the one that proposes conclusions
 abbrev pub proposing_app : App
@@ -215,16 +234,17 @@ proposing_app = with_subcommand explaining_app propose_app.top
 -- and with those that prepare a freeze
 abbrev pub freezing_app : App
 freezing_app = with_subcommand (with_subcommand proposing_app (release_app (codes "choices")).top)
-    (release_app (codes "wanting")).top
+    wanting_app.top
 
 -- `ready --db FILE [--day DAY] RELEASE`
 abbrev pub ready_app : App
 ready_app = with_rule (with_rule (with_rule (new_app (codes "ready")) database_option)
     (optional (codes "DAY") (codes "day"))) (word (codes "RELEASE"))
 
--- and with the one that says whether a release is ready
+-- and with those that say whether a release is ready, and what its notices lack
 abbrev pub readying_app : App
-readying_app = with_subcommand freezing_app ready_app.top
+readying_app = with_subcommand (with_subcommand freezing_app ready_app.top)
+    (release_app (codes "gaps")).top
 
 -- `list --db FILE [--release RELEASE] [--code CODE] [--open] [--past DAY] WHAT`
 abbrev pub filtered_app : App
@@ -246,5 +266,18 @@ abbrev pub convert_app : App
 convert_app = with_rule (new_app (codes "convert")) (word (codes "JSON"))
 
 -- and with the one that converts a document
+abbrev pub converting_app : App
+converting_app = with_subcommand showing_app convert_app.top
+
+-- `texts DIR`
+abbrev pub texts_app : App
+texts_app = with_rule (new_app (codes "texts")) (word (codes "DIR"))
+
+-- `credits --name NAME [--of-version VERSION] DIR`
+abbrev pub credits_app : App
+credits_app = with_rule (with_rule (with_rule (new_app (codes "credits")) (word (codes "DIR")))
+    (wanted (codes "NAME") (codes "name"))) (optional (codes "VERSION") (codes "of-version"))
+
+-- and with those that write texts and credits for `--fill`
 abbrev pub desk_app : App
-desk_app = with_subcommand showing_app convert_app.top
+desk_app = with_subcommand (with_subcommand converting_app texts_app.top) credits_app.top

@@ -76,6 +76,13 @@ const OPTIONAL_DATABASE: Argument = argument!(
     "The file that keeps the desk"
 );
 
+// For each subcommand whose explanations only a terminal gets otherwise.
+const EXPLAIN: Argument = argument!(
+    "EXPLAIN",
+    Form::Flag("explain"),
+    "Explains refusals on standard error, even if that is no terminal"
+);
+
 const DOCUMENT: Argument = argument!("DOC", Form::Word, "The file of the document");
 
 const FOLDER: Argument = argument!("DIR", Form::Word, "The folder of the tree");
@@ -117,18 +124,19 @@ pub(crate) const REQUEST: [Argument; 3] = [
     ),
 ];
 
-pub(crate) const IMPORT: [Argument; 3] = [DATABASE, PROFILE, DOCUMENT];
+pub(crate) const IMPORT: [Argument; 4] = [DATABASE, PROFILE, EXPLAIN, DOCUMENT];
 
 pub(crate) const CATALOGUE: [Argument; 2] = [
     DATABASE,
     argument!("TOML", Form::Word, "The file of the catalogue"),
 ];
 
+const NAMED_RELEASE: Argument = argument!("RELEASE", Form::Word, "The name of the release");
+
 // For each subcommand about a release.
-pub(crate) const RELEASE: [Argument; 2] = [
-    DATABASE,
-    argument!("RELEASE", Form::Word, "The name of the release"),
-];
+pub(crate) const RELEASE: [Argument; 2] = [DATABASE, NAMED_RELEASE];
+
+pub(crate) const WANTING: [Argument; 3] = [DATABASE, EXPLAIN, NAMED_RELEASE];
 
 pub(crate) const READY: [Argument; 3] = [
     DATABASE,
@@ -137,10 +145,10 @@ pub(crate) const READY: [Argument; 3] = [
         Form::Optional("day"),
         "The day to which waivers must last, YYYY-MM-DD or today"
     ),
-    argument!("RELEASE", Form::Word, "The name of the release"),
+    NAMED_RELEASE,
 ];
 
-pub(crate) const NOTICES: [Argument; 4] = [
+pub(crate) const NOTICES: [Argument; 5] = [
     DATABASE,
     argument!(
         "EXTRA",
@@ -152,7 +160,8 @@ pub(crate) const NOTICES: [Argument; 4] = [
         Form::Flag("complete"),
         "Writes nothing if something is missing"
     ),
-    argument!("RELEASE", Form::Word, "The name of the release"),
+    EXPLAIN,
+    NAMED_RELEASE,
 ];
 
 pub(crate) const CHANGES: [Argument; 2] = [
@@ -162,6 +171,15 @@ pub(crate) const CHANGES: [Argument; 2] = [
 
 // For `audit` and `migrate`.
 pub(crate) const FILE: [Argument; 1] = [DATABASE];
+
+pub(crate) const BACKUP: [Argument; 2] = [
+    DATABASE,
+    argument!(
+        "TO",
+        Form::Word,
+        "The file of the copy, which must not exist yet"
+    ),
+];
 
 pub(crate) const GATHER: [Argument; 4] = [
     FOLDER,
@@ -180,6 +198,14 @@ pub(crate) const GATHER: [Argument; 4] = [
         Form::Wanted("created"),
         "When it is made, as 2025-01-01T00:00:00Z"
     ),
+];
+
+pub(crate) const TEXTS: [Argument; 1] = [argument!("DIR", Form::Word, "The folder with the texts")];
+
+pub(crate) const CREDITS: [Argument; 3] = [
+    FOLDER,
+    argument!("NAME", Form::Wanted("name"), "The name of the package"),
+    argument!("VERSION", Form::Optional("of-version"), "Its version"),
 ];
 
 pub(crate) const LINT: [Argument; 2] = [
@@ -201,13 +227,13 @@ pub(crate) const SERVE: [Argument; 3] = [
     ),
 ];
 
-pub(crate) const EXPLAIN: [Argument; 1] = [argument!(
+pub(crate) const NAMED: [Argument; 1] = [argument!(
     "NAME",
     Form::Word,
     "The name, as the desk prints it"
 )];
 
-pub(crate) const PROPOSE: [Argument; 4] = [
+pub(crate) const PROPOSE: [Argument; 5] = [
     OPTIONAL_DATABASE,
     argument!(
         "PROFILE",
@@ -219,6 +245,7 @@ pub(crate) const PROPOSE: [Argument; 4] = [
         Form::OptionalNumber("document", u32::MAX),
         "The number that import gave the document"
     ),
+    EXPLAIN,
     argument!(
         "DOC",
         Form::Word,

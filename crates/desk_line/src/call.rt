@@ -67,6 +67,19 @@ pub enum Call {
         /// The path of the document.
         document: Text,
     },
+    /// The texts of the files in a folder, as entries for `--fill`.
+    Texts {
+        /// The path of the folder.
+        folder: Text,
+    },
+    /// The credit of a package from the notices of the tree of files in a folder, as an entry for
+    /// `--fill`.
+    Credits {
+        /// The path of the folder.
+        folder: Text,
+        /// The package.
+        package: Package,
+    },
     /// What a name that the desk prints means.
     Explain {
         /// The name, as the desk prints it.
@@ -81,7 +94,18 @@ pub enum Call {
         number: u32,
         /// How the operators of its licence expressions may be written.
         profile: Profile,
+        /// Why it is refused, and what is left out, is explained off a terminal too.
+        explain: bool,
     },
+}
+
+/// A package.
+#[derive(Drop)]
+pub struct Package {
+    /// Its name.
+    pub name: Text,
+    /// Its version, or none for any.
+    pub version: Option<Text>,
 }
 
 /// A subcommand for the file that keeps a desk, with its other values.
@@ -94,6 +118,8 @@ pub enum FileCall {
         document: Text,
         /// How its operators may be written.
         profile: Profile,
+        /// A refusal is explained off a terminal too.
+        explain: bool,
     },
     /// The command that words spell: its word, and an assignment for each of its keys.
     Do {
@@ -123,6 +149,8 @@ pub enum FileCall {
         fills: Items<Text>,
         /// Whether the notices must be complete.
         is_complete: bool,
+        /// A refusal is explained off a terminal too.
+        explain: bool,
     },
     /// The table of the duties of a release.
     Duties {
@@ -148,6 +176,8 @@ pub enum FileCall {
     Wanting {
         /// The name of the release.
         release: Text,
+        /// Each refusal is explained off a terminal too.
+        explain: bool,
     },
     /// The duties that keep a frozen release from being ready, for a day if one is given.
     Ready {
@@ -156,6 +186,8 @@ pub enum FileCall {
         /// The day, `YYYY-MM-DD` or `today`.
         day: Option<Text>,
     },
+    /// What is missing for the notices of the release with this name.
+    Gaps(Text),
     /// The choices of a release for the packages that have only one.
     Choices {
         /// The name of the release.
@@ -165,6 +197,8 @@ pub enum FileCall {
     Proposals {
         /// The number of the document, from 1.
         document: u32,
+        /// Why it is refused, and what is left out, is explained off a terminal too.
+        explain: bool,
     },
     /// What the desk holds.
     List {
@@ -175,6 +209,11 @@ pub enum FileCall {
     Audit,
     /// The migration of a file of an older version to the tables of this one.
     Migrate,
+    /// A copy of the file.
+    Backup {
+        /// The path of the copy.
+        copy: Text,
+    },
     /// Replies over HTTP, at a port of this machine's own address, to at most `limit` connections.
     /// Port 0 means any free port.
     Serve {

@@ -6,14 +6,16 @@ ghost use Rattle.desk_line.specs.Calls.{call_in};
 ghost use Rattle.desk_line.specs.Unfound.{IsFound};
 
 use crate::call::Call;
+use crate::entries::{credits_from, texts_from};
 use crate::files::{
-    ask_from, audit_from, catalogue_from, do_from, import_from, migrate_from, serve_from,
+    ask_from, audit_from, backup_from, catalogue_from, do_from, import_from, migrate_from,
+    serve_from,
 };
 use crate::lists::list_from;
 use crate::propose::propose_from;
 use crate::reports::{
-    changes_from, choices_from, duties_from, notices_from, page_from, ready_from, totals_from,
-    wanting_from,
+    changes_from, choices_from, duties_from, gaps_from, notices_from, page_from, ready_from,
+    totals_from, wanting_from,
 };
 use crate::script::script_from;
 use crate::subcommands::{Kind, kind_at};
@@ -45,6 +47,7 @@ pub(crate) fn call_from(
         Kind::Changes => changes_from(alloc, matches),
         Kind::Audit => audit_from(alloc, matches),
         Kind::Migrate => migrate_from(alloc, matches),
+        Kind::Backup => backup_from(alloc, matches),
         Kind::Gather => gather_from(alloc, matches),
         Kind::Lint => lint_from(alloc, matches),
         Kind::Serve => serve_from(alloc, matches),
@@ -53,8 +56,11 @@ pub(crate) fn call_from(
         Kind::Choices => choices_from(alloc, matches),
         Kind::Wanting => wanting_from(alloc, matches),
         Kind::Ready => ready_from(alloc, matches),
+        Kind::Gaps => gaps_from(alloc, matches),
         Kind::List => list_from(alloc, matches),
         Kind::Page => page_from(alloc, matches),
         Kind::Convert => convert_from(alloc, matches),
+        Kind::Texts => texts_from(alloc, matches),
+        Kind::Credits => credits_from(alloc, matches),
     }
 }

@@ -2,7 +2,7 @@
 
 ghost use Rattle.std.specs.Prelude.{◌≡◌, codes};
 ghost use Rattle.clap.specs.Words.{found_of, rows_of};
-ghost use Rattle.desk_line.specs.Calls.{ask_in, audit_in, do_in, catalogue_in, import_in, migrate_in, number_in, serve_in};
+ghost use Rattle.desk_line.specs.Calls.{ask_in, audit_in, backup_in, do_in, catalogue_in, import_in, migrate_in, number_in, serve_in};
 ghost use Rattle.desk_line.specs.Unfound.{IsFound};
 
 use crate::call::{Call, FileCall};
@@ -39,7 +39,11 @@ pub(crate) fn import_from(alloc: Global, matches: &ArgMatches<'_>) -> Result<Cal
     let database = wanted_text(alloc, matches, "FILE")?;
     let profile = require(profile_in(matches))?;
     let document = wanted_text(alloc, matches, "DOC")?;
-    let call = FileCall::Import { document, profile };
+    let call = FileCall::Import {
+        document,
+        profile,
+        explain: is_used(matches, "EXPLAIN"),
+    };
     Ok(Call::File { database, call })
 }
 
@@ -68,6 +72,16 @@ pub(crate) fn migrate_from(alloc: Global, matches: &ArgMatches<'_>) -> Result<Ca
 {
     let database = wanted_text(alloc, matches, "FILE")?;
     let call = FileCall::Migrate;
+    Ok(Call::File { database, call })
+}
+
+/// The call of `backup`.
+pub(crate) fn backup_from(alloc: Global, matches: &ArgMatches<'_>) -> Result<Call, Unfound>
+    ensures { IsFound (backup_in (rows_of (found_of matches.now))) result }
+{
+    let database = wanted_text(alloc, matches, "FILE")?;
+    let copy = wanted_text(alloc, matches, "TO")?;
+    let call = FileCall::Backup { copy };
     Ok(Call::File { database, call })
 }
 

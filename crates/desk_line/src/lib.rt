@@ -11,6 +11,7 @@
 mod arguments;
 mod call;
 mod calls;
+mod entries;
 mod fields;
 mod files;
 mod lists;
@@ -23,5 +24,5 @@ mod texts;
 mod trees;
 mod values;
 
-pub use call::{Call, FileCall, LineFault, Listed};
+pub use call::{Call, FileCall, LineFault, Listed, Package};
 pub use reading::line;

@@ -7,7 +7,7 @@ ghost use Rattle.desk_line.specs.Numbers.{number_written};
 ghost use Rattle.desk_line.specs.Unfound.{IsFound};
 
 use crate::call::{Call, FileCall};
-use crate::values::{Unfound, number_in, profile_written, require, text_in, wanted_text};
+use crate::values::{Unfound, is_used, number_in, profile_written, require, text_in, wanted_text};
 use clap::ArgMatches;
 use desk_base::{Profile, Text};
 use std::alloc::Global;
@@ -57,7 +57,8 @@ fn held_proposals_from(
     }
     let document = require(document_in(matches))?;
     let database = Text::of(alloc, database)?;
-    let call = FileCall::Proposals { document };
+    let explain = is_used(matches, "EXPLAIN");
+    let call = FileCall::Proposals { document, explain };
     Ok(Call::File { database, call })
 }
 
@@ -72,6 +73,7 @@ fn filed_proposals_from(alloc: Global, matches: &ArgMatches<'_>) -> Result<Call,
         document,
         number,
         profile,
+        explain: is_used(matches, "EXPLAIN"),
     })
 }
 

@@ -1,7 +1,7 @@
 //! The subcommands that write what a desk in a file holds of a release or of a duty.
 
 ghost use Rattle.clap.specs.Words.{found_of, rows_of};
-ghost use Rattle.desk_line.specs.Calls.{changes_in, choices_in, duties_in, notices_in, page_in, ready_in, release_in, totals_in, wanting_in};
+ghost use Rattle.desk_line.specs.Calls.{changes_in, choices_in, duties_in, gaps_in, notices_in, page_in, ready_in, release_in, totals_in, wanting_in};
 ghost use Rattle.desk_line.specs.Unfound.{IsFound};
 
 use crate::call::{Call, FileCall};
@@ -36,6 +36,7 @@ pub(crate) fn notices_from(alloc: Global, matches: &ArgMatches<'_>) -> Result<Ca
         release,
         fills: optional_texts(alloc, matches, "EXTRA")?,
         is_complete: is_used(matches, "COMPLETE"),
+        explain: is_used(matches, "EXPLAIN"),
     };
     Ok(Call::File { database, call })
 }
@@ -81,7 +82,8 @@ pub(crate) fn wanting_from(alloc: Global, matches: &ArgMatches<'_>) -> Result<Ca
     ensures { IsFound (wanting_in (rows_of (found_of matches.now))) result }
 {
     let Release { database, release } = release_in(alloc, matches)?;
-    let call = FileCall::Wanting { release };
+    let explain = is_used(matches, "EXPLAIN");
+    let call = FileCall::Wanting { release, explain };
     Ok(Call::File { database, call })
 }
 
@@ -92,6 +94,15 @@ pub(crate) fn ready_from(alloc: Global, matches: &ArgMatches<'_>) -> Result<Call
     let Release { database, release } = release_in(alloc, matches)?;
     let day = optional_text(alloc, matches, "DAY")?;
     let call = FileCall::Ready { release, day };
+    Ok(Call::File { database, call })
+}
+
+/// The call of `gaps`.
+pub(crate) fn gaps_from(alloc: Global, matches: &ArgMatches<'_>) -> Result<Call, Unfound>
+    ensures { IsFound (gaps_in (rows_of (found_of matches.now))) result }
+{
+    let Release { database, release } = release_in(alloc, matches)?;
+    let call = FileCall::Gaps(release);
     Ok(Call::File { database, call })
 }
 

@@ -40,6 +40,7 @@ pub(crate) enum Kind {
     Changes,
     Audit,
     Migrate,
+    Backup,
     Gather,
     Lint,
     Serve,
@@ -48,85 +49,65 @@ pub(crate) enum Kind {
     Choices,
     Wanting,
     Ready,
+    Gaps,
     List,
     Page,
     Convert,
+    Texts,
+    Credits,
 }
 
-/// A subcommand: its name and its arguments.
+/// A subcommand: its name, its arguments and its help.
 #[derive(Clone, Copy)]
 pub(crate) struct Subcommand {
     kind: Kind,
     name: &'static str,
     arguments: &'static [Argument],
+    help: &'static Help,
 }
 
 macro_rules! subcommand {
-    ($kind:expr, $name:literal, $arguments:expr) => {
+    ($kind:ident, $name:literal, $arguments:ident, $help:ident) => {
         Subcommand {
-            kind: $kind,
+            kind: Kind::$kind,
             name: $name,
-            arguments: &$arguments,
+            arguments: &arguments::$arguments,
+            help: &desk_help::$help,
         }
     };
 }
 
 /// The subcommands.
-const SUBCOMMANDS: [Subcommand; 24] = [
-    subcommand!(Kind::Check, "check", arguments::CHECK),
-    subcommand!(Kind::Alternatives, "alternatives", arguments::ALTERNATIVES),
-    subcommand!(Kind::Script, "script", arguments::SCRIPT),
-    subcommand!(Kind::Do, "do", arguments::REQUEST),
-    subcommand!(Kind::Ask, "ask", arguments::REQUEST),
-    subcommand!(Kind::Import, "import", arguments::IMPORT),
-    subcommand!(Kind::Catalogue, "catalogue", arguments::CATALOGUE),
-    subcommand!(Kind::Notices, "notices", arguments::NOTICES),
-    subcommand!(Kind::Duties, "duties", arguments::RELEASE),
-    subcommand!(Kind::Totals, "totals", arguments::RELEASE),
-    subcommand!(Kind::Changes, "changes", arguments::CHANGES),
-    subcommand!(Kind::Audit, "audit", arguments::FILE),
-    subcommand!(Kind::Migrate, "migrate", arguments::FILE),
-    subcommand!(Kind::Gather, "gather", arguments::GATHER),
-    subcommand!(Kind::Lint, "lint", arguments::LINT),
-    subcommand!(Kind::Serve, "serve", arguments::SERVE),
-    subcommand!(Kind::Explain, "explain", arguments::EXPLAIN),
-    subcommand!(Kind::Propose, "propose", arguments::PROPOSE),
-    subcommand!(Kind::Choices, "choices", arguments::RELEASE),
-    subcommand!(Kind::Wanting, "wanting", arguments::RELEASE),
-    subcommand!(Kind::Ready, "ready", arguments::READY),
-    subcommand!(Kind::List, "list", arguments::LIST),
-    subcommand!(Kind::Page, "page", arguments::RELEASE),
-    subcommand!(Kind::Convert, "convert", arguments::CONVERT),
+const SUBCOMMANDS: [Subcommand; 28] = [
+    subcommand!(Check, "check", CHECK, CHECK),
+    subcommand!(Alternatives, "alternatives", ALTERNATIVES, ALTERNATIVES),
+    subcommand!(Script, "script", SCRIPT, SCRIPT),
+    subcommand!(Do, "do", REQUEST, DO),
+    subcommand!(Ask, "ask", REQUEST, ASK),
+    subcommand!(Import, "import", IMPORT, IMPORT),
+    subcommand!(Catalogue, "catalogue", CATALOGUE, CATALOGUE),
+    subcommand!(Notices, "notices", NOTICES, NOTICES),
+    subcommand!(Duties, "duties", RELEASE, DUTIES),
+    subcommand!(Totals, "totals", RELEASE, TOTALS),
+    subcommand!(Changes, "changes", CHANGES, CHANGES),
+    subcommand!(Audit, "audit", FILE, AUDIT),
+    subcommand!(Migrate, "migrate", FILE, MIGRATE),
+    subcommand!(Backup, "backup", BACKUP, BACKUP),
+    subcommand!(Gather, "gather", GATHER, GATHER),
+    subcommand!(Lint, "lint", LINT, LINT),
+    subcommand!(Serve, "serve", SERVE, SERVE),
+    subcommand!(Explain, "explain", NAMED, EXPLAIN),
+    subcommand!(Propose, "propose", PROPOSE, PROPOSE),
+    subcommand!(Choices, "choices", RELEASE, CHOICES),
+    subcommand!(Wanting, "wanting", WANTING, WANTING),
+    subcommand!(Ready, "ready", READY, READY),
+    subcommand!(Gaps, "gaps", RELEASE, GAPS),
+    subcommand!(List, "list", LIST, LISTS),
+    subcommand!(Page, "page", RELEASE, PAGE),
+    subcommand!(Convert, "convert", CONVERT, CONVERT),
+    subcommand!(Texts, "texts", TEXTS, TEXTS),
+    subcommand!(Credits, "credits", CREDITS, CREDITS),
 ];
-
-fn help_of(kind: Kind) -> &'static Help {
-    match kind {
-        Kind::Check => &desk_help::CHECK,
-        Kind::Alternatives => &desk_help::ALTERNATIVES,
-        Kind::Script => &desk_help::SCRIPT,
-        Kind::Do => &desk_help::DO,
-        Kind::Ask => &desk_help::ASK,
-        Kind::Import => &desk_help::IMPORT,
-        Kind::Catalogue => &desk_help::CATALOGUE,
-        Kind::Notices => &desk_help::NOTICES,
-        Kind::Duties => &desk_help::DUTIES,
-        Kind::Totals => &desk_help::TOTALS,
-        Kind::Changes => &desk_help::CHANGES,
-        Kind::Audit => &desk_help::AUDIT,
-        Kind::Migrate => &desk_help::MIGRATE,
-        Kind::Gather => &desk_help::GATHER,
-        Kind::Lint => &desk_help::LINT,
-        Kind::Serve => &desk_help::SERVE,
-        Kind::Explain => &desk_help::EXPLAIN,
-        Kind::Propose => &desk_help::PROPOSE,
-        Kind::Choices => &desk_help::CHOICES,
-        Kind::Wanting => &desk_help::WANTING,
-        Kind::Ready => &desk_help::READY,
-        Kind::List => &desk_help::LISTS,
-        Kind::Page => &desk_help::PAGE,
-        Kind::Convert => &desk_help::CONVERT,
-    }
-}
 
 /// The kind of the row with this name, if there is one.
 fn kind_named(name: &str, rows: &[Subcommand]) -> Option<Kind>
@@ -164,7 +145,7 @@ fn command<'a>(alloc: Global, row: &Subcommand) -> Result<Command<'a>, AllocErro
     ensures local { IfOk result (λ c. (out-Command c).has_globals ≡ false) }
 {
     let args = args(alloc, row.arguments)?;
-    titled_command(alloc, row.name, help_of(row.kind)).args(args)
+    titled_command(alloc, row.name, row.help).args(args)
 }
 
 /// Subcommands as `clap` reads them.

@@ -10,11 +10,12 @@ use sqlite::Alter;
 use std::io::{IsTerminal, Write};
 
 /// Writes a list of what a desk holds.
-pub fn list<S: Alter, W: Write>(
+pub fn list<S: Alter, W: Write, E: Write>(
     rt: &HostRuntime,
     desk: &mut SqlDesk<S>,
     list: &Listed,
     writer: &mut W,
+    teller: &mut Teller<E>,
 ) -> Result<u8, Failure> {
     let alloc = rt.alloc();
     let in_columns = rt.stdout().is_terminal();
@@ -33,7 +34,15 @@ pub fn list<S: Alter, W: Write>(
                 still_open: *is_open,
                 past: past.as_ref().map(|day| day.as_str()),
             };
-            duties(alloc, desk, &wanted, in_columns, writer)
+            duties(
+                alloc,
+                desk,
+                &wanted,
+                in_columns,
+                writer,
+                teller,
+                &mut rt.stderr(),
+            )
         }
     }
 }

@@ -5,33 +5,30 @@
 //! 2; 3 means that no memory was left, or that a file or stream failed.
 #![tactic(auto)]
 
-mod blocks;
 mod database;
-mod differences;
-mod filling;
-mod input;
 mod looking;
-mod progress;
 mod scripts;
 mod serving;
 mod summaries;
 mod tasks;
-mod trouble;
+mod upkeep;
 
-use crate::input::bytes_at;
 use crate::scripts::Course;
 use desk_base::{Profile, Text};
 use desk_core::desk::MemDesk;
 use desk_explain::TABLES;
-use desk_line::{Call, LineFault, line};
-use desk_subcommands::{Failure, Title, alternatives, tell_blanks};
+use desk_files::bytes_at;
+use desk_line::{Call, LineFault, Package, line};
+use desk_subcommands::{Failure, alternatives, tell_look};
 use desk_texts::Standard;
-use desk_tree_files::files_of;
 use std::alloc::{AllocError, Global};
 use std::io::{BufWriter, IsTerminal};
 use std::mem::ManuallyDrop;
 use std::process::ExitCode;
 use std::{env, io};
+
+/// The status of what is refused.
+pub(crate) const REFUSED: u8 = 1;
 
 /// The status of words that are no command line.
 pub(crate) const USAGE: u8 = 2;
@@ -93,12 +90,12 @@ fn check<R: Print>(
 
 /// Replies to the requests of standard input on a desk in memory.
 fn script_in_memory(rt: &HostRuntime, alloc: Global, course: Course) -> Result<u8, Failure> {
-    blocks::keep_large(alloc);
+    desk_files::keep_large(alloc);
     // The process ends with the script, so the desk is left to the system instead of being freed
     // row by row.
     let mut desk = ManuallyDrop::new(MemDesk::new(alloc, Standard));
     let mut writer = BufWriter::new(alloc, io::writer(rt))?;
-    scripts::script(rt, &mut *desk, &mut writer, course)
+    scripts::script(rt, &mut *desk, &mut rt.reader(), &mut writer, course)
 }
 
 /// Replies to the requests of standard input on the desk that a file keeps, or on one in memory.
@@ -114,65 +111,23 @@ fn script(
     }
 }
 
-/// Says which licences the document of a source tree can't hold. They are looked for in the tree as
-/// it is now.
-fn tell_blanks_in(rt: &HostRuntime, folder: &str) -> Result<(), Failure> {
-    let files = files_of(rt, folder, false)?;
-    tell_blanks(rt.alloc(), files, &mut rt.stderr())
-}
-
-/// Writes the document of a source tree.
-fn gather(
+/// Writes the credit of a package from the notices of its source tree.
+fn credits(
     rt: &HostRuntime,
-    folder: &Text,
-    name: &Text,
-    namespace: &Text,
-    created: &Text,
-    is_watched: bool,
-) -> Result<u8, Failure> {
-    let files = files_of(rt, folder.as_str(), is_watched)?;
-    let title = Title {
-        name: name.as_str(),
-        namespace: namespace.as_str(),
-        created: created.as_str(),
-    };
-    let gathered = desk_subcommands::gather(
-        rt.alloc(),
-        files,
-        &title,
-        rt.stdout().is_terminal(),
-        &mut io::writer(rt),
-        &mut rt.stderr(),
-    );
-    if let Err(Failure::BadValue) = &gathered {
-        // If they can't be named, the failure still says what is wrong.
-        let _told = tell_blanks_in(rt, folder.as_str());
-    }
-    gathered
-}
-
-/// Writes what is wrong in a source tree.
-fn lint(
-    rt: &HostRuntime,
-    alloc: Global,
     folder: &str,
-    json: bool,
+    package: &Package,
     is_watched: bool,
 ) -> Result<u8, Failure> {
-    let files = files_of(rt, folder, is_watched)?;
-    let mut writer = BufWriter::new(alloc, io::writer(rt))?;
-    desk_subcommands::lint(alloc, files, json, &mut writer)
+    let version = package.version.as_ref();
+    desk_files::credits(rt, folder, package.name.as_str(), version, is_watched)
 }
 
 /// Writes the tag-value document that says the same as an SPDX document in JSON.
 fn convert(rt: &HostRuntime, path: &str) -> Result<u8, Failure> {
     let bytes = bytes_at(rt, path)?;
-    desk_subcommands::convert(
-        rt.alloc(),
-        bytes.as_slice(),
-        &mut io::writer(rt),
-        &mut rt.stderr(),
-    )
+    let writer = &mut io::writer(rt);
+    let teller = &mut rt.stderr();
+    desk_subcommands::convert(rt.alloc(), bytes.as_slice(), writer, teller)
 }
 
 /// Writes what a name means.
@@ -180,10 +135,17 @@ fn explain<R: Print>(rt: &R, alloc: Global, name: &str) -> Result<u8, Failure> {
     desk_subcommands::explain(alloc, &TABLES, name, &mut io::writer(rt))
 }
 
-/// Writes the conclusions that are proposed for a document, which the desk knows by this number.
-fn propose(rt: &HostRuntime, path: &str, number: u32, profile: Profile) -> Result<u8, Failure> {
+/// Writes the conclusions that are proposed for a document, which the desk knows by this number. Why
+/// there are none is explained if that is asked for, or somebody watches.
+fn propose(
+    rt: &HostRuntime,
+    path: &str,
+    number: u32,
+    profile: Profile,
+    explain: bool,
+) -> Result<u8, Failure> {
     let bytes = bytes_at(rt, path)?;
-    desk_views::propose(
+    let status = desk_views::propose(
         rt.alloc(),
         &Standard,
         number,
@@ -191,7 +153,14 @@ fn propose(rt: &HostRuntime, path: &str, number: u32, profile: Profile) -> Resul
         profile,
         &mut io::writer(rt),
         &mut rt.stderr(),
-    )
+    )?;
+    if status == REFUSED {
+        // If that can't be reported, the reply is still written.
+        let _told = tell_look(rt.alloc(), bytes.as_slice(), &mut rt.stderr());
+        let teller = &mut tasks::teller(rt, explain);
+        desk_views::explain_document(rt.alloc(), &Standard, bytes.as_slice(), teller);
+    }
+    Ok(status)
 }
 
 fn answer(rt: &HostRuntime, alloc: Global, call: &Call, is_watched: bool) -> Result<u8, Failure> {
@@ -222,15 +191,18 @@ fn answer(rt: &HostRuntime, alloc: Global, call: &Call, is_watched: bool) -> Res
             name,
             namespace,
             created,
-        } => gather(rt, folder, name, namespace, created, is_watched),
-        Call::Lint { folder, json } => lint(rt, alloc, folder.as_str(), *json, is_watched),
+        } => desk_files::gather(rt, folder, name, namespace, created, is_watched),
+        Call::Lint { folder, json } => desk_files::lint(rt, folder.as_str(), *json, is_watched),
         Call::Convert { document } => convert(rt, document.as_str()),
+        Call::Texts { folder } => desk_files::texts(rt, folder.as_str(), is_watched),
+        Call::Credits { folder, package } => credits(rt, folder.as_str(), package, is_watched),
         Call::Explain { name } => explain(rt, alloc, name.as_str()),
         Call::Propose {
             document,
             number,
             profile,
-        } => propose(rt, document.as_str(), *number, *profile),
+            explain,
+        } => propose(rt, document.as_str(), *number, *profile, *explain),
     }
 }
 

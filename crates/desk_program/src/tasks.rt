@@ -2,17 +2,20 @@
 //! closes it is proved once, for every task.
 
 use crate::scripts::{self, Course};
-use crate::{looking, serving};
+use crate::{looking, serving, summaries};
 use desk_base::Text;
-use desk_import::Origin;
+use desk_import::{Origin, Summary};
 use desk_json::Request;
 use desk_line::Listed;
-use desk_model::Query;
+use desk_model::{Profile, Query};
 use desk_store::SqlDesk;
 use desk_subcommands::{Failure, Teller};
-use desk_views::{Filling, ReplyForm, answer_request, page, show, show_filled, show_ready};
+use desk_views::{
+    Filling, ReplyForm, number_held, page, reply_in, reply_to, show, show_filled, show_ready,
+};
 use sqlite::Alter;
-use std::io::{IsTerminal, Write};
+use std::alloc::AllocError;
+use std::io::{IsTerminal, Read, Write};
 use std::rt::Stderr;
 
 /// What a desk in a file is to do.
@@ -26,46 +29,82 @@ pub(crate) trait Task {
     ) -> Result<u8, Failure>;
 }
 
-/// Explains on standard error why a request is refused, if that is a terminal.
-pub(crate) fn teller(rt: &HostRuntime) -> Teller<Stderr> {
+/// Explains on standard error why a request is refused, if that is asked for or is a terminal.
+pub(crate) fn teller(rt: &HostRuntime, explain: bool) -> Teller<Stderr> {
     let stderr = rt.stderr();
-    let is_told = stderr.is_terminal();
+    let is_told = explain || stderr.is_terminal();
     Teller::new(rt.alloc(), stderr, is_told)
 }
 
-impl Task for Course {
+/// It replies to the requests that a reader gives.
+#[derive(Drop)]
+pub(crate) struct Scripting<R: Read + Drop> {
+    /// How it goes on after requests that aren't done.
+    pub course: Course,
+    /// The requests.
+    pub input: R,
+}
+
+impl<R: Read + Drop> Task for Scripting<R> {
     fn run<S: Alter + Drop, W: Write>(
         self,
         rt: &HostRuntime,
         desk: &mut SqlDesk<S>,
         writer: &mut W,
     ) -> Result<u8, Failure> {
-        scripts::script(rt, desk, writer, self)
+        let Scripting { course, mut input } = self;
+        scripts::script(rt, desk, &mut input, writer, course)
     }
 }
 
-/// It answers a request, and reports what the file of an imported document is.
+/// What is imported of a file.
 #[derive(Drop)]
-pub(crate) struct Answering<'a> {
+pub(crate) struct Imported {
+    /// What the file is.
+    pub origin: Origin,
+    /// The profile by which the document's licence expressions are to be read.
+    pub profile: Profile,
+    /// What is in the document by that profile, if it is one.
+    pub summary: Option<Result<Summary, AllocError>>,
+}
+
+/// It answers a request, and reports what is imported of a file.
+#[derive(Drop)]
+pub(crate) struct Answering {
     /// The request.
     pub request: Request,
     /// How the reply is written.
     pub form: ReplyForm,
-    /// What the file is, if it imports one.
-    pub origin: Option<&'a Origin>,
+    /// What is imported, if it imports a file.
+    pub imported: Option<Imported>,
+    /// Whether a refusal is explained even if nobody watches.
+    pub explain: bool,
 }
 
-impl Task for Answering<'_> {
+impl Task for Answering {
     fn run<S: Alter + Drop, W: Write>(
         self,
         rt: &HostRuntime,
         desk: &mut SqlDesk<S>,
         writer: &mut W,
     ) -> Result<u8, Failure> {
-        let teller = &mut teller(rt);
-        let status = answer_request(rt.alloc(), desk, self.request, self.form, writer, teller)?;
-        if let Some(origin) = self.origin {
-            teller.report(origin);
+        let Answering {
+            request,
+            form,
+            imported,
+            explain,
+        } = self;
+        let teller = &mut teller(rt, explain);
+        let reply = reply_to(desk, request);
+        let again = number_held(&reply);
+        let told = reply_in(rt.alloc(), &reply, form, writer, teller);
+        drop(reply);
+        let status = told?;
+        if let Some(imported) = imported {
+            teller.report(&imported.origin);
+            if status == 0 {
+                summaries::tell(rt, desk, imported, again);
+            }
         }
         Ok(status)
     }
@@ -91,9 +130,9 @@ impl Task for Serving {
     }
 }
 
-/// It writes the text of an answer.
+/// It writes the text of an answer. A refusal is explained even if nobody watches, or not.
 #[derive(Drop)]
-pub(crate) struct Showing<'a>(pub &'a Query);
+pub(crate) struct Showing<'a>(pub &'a Query, pub bool);
 
 impl Task for Showing<'_> {
     fn run<S: Alter + Drop, W: Write>(
@@ -110,12 +149,12 @@ impl Task for Showing<'_> {
             self.0,
             is_terminal,
             writer,
-            &mut teller(rt),
+            &mut teller(rt, self.1),
         )
     }
 }
 
-/// It writes the duties that keep a release from being ready.
+/// It writes what keeps a release from being ready, or from complete notices.
 #[derive(Drop)]
 pub(crate) struct Readying<'a>(pub &'a Query);
 
@@ -133,14 +172,15 @@ impl Task for Readying<'_> {
             self.0,
             is_terminal,
             writer,
-            &mut teller(rt),
+            &mut teller(rt, false),
         )
     }
 }
 
-/// It writes the notices of the bill that a question asks for, with their gaps filled.
+/// It writes the notices of the bill that a question asks for, with their gaps filled. A
+/// refusal is explained even if nobody watches, or not.
 #[derive(Drop)]
-pub(crate) struct FilledNotices<'a>(pub &'a Query, pub Filling<'a>);
+pub(crate) struct FilledNotices<'a>(pub &'a Query, pub Filling<'a>, pub bool);
 
 impl Task for FilledNotices<'_> {
     fn run<S: Alter + Drop, W: Write>(
@@ -150,7 +190,7 @@ impl Task for FilledNotices<'_> {
         writer: &mut W,
     ) -> Result<u8, Failure> {
         let notes = &mut rt.stderr();
-        let teller = &mut teller(rt);
+        let teller = &mut teller(rt, self.2);
         show_filled(rt.alloc(), desk, self.0, self.1, writer, teller, notes)
     }
 }
@@ -166,7 +206,7 @@ impl Task for List<'_> {
         desk: &mut SqlDesk<S>,
         writer: &mut W,
     ) -> Result<u8, Failure> {
-        looking::list(rt, desk, self.0, writer)
+        looking::list(rt, desk, self.0, writer, &mut teller(rt, false))
     }
 }
 
@@ -181,7 +221,7 @@ impl Task for Page<'_> {
         desk: &mut SqlDesk<S>,
         writer: &mut W,
     ) -> Result<u8, Failure> {
-        page(rt.alloc(), desk, self.0, writer, &mut teller(rt))
+        page(rt.alloc(), desk, self.0, writer, &mut teller(rt, false))
     }
 }
 
@@ -196,13 +236,15 @@ impl Task for Choices<'_> {
         desk: &mut SqlDesk<S>,
         writer: &mut W,
     ) -> Result<u8, Failure> {
-        desk_inspect::choices(rt.alloc(), desk, self.0, writer, &mut teller(rt))
+        let teller = &mut teller(rt, false);
+        desk_inspect::choices(rt.alloc(), desk, self.0, writer, teller)
     }
 }
 
-/// It writes what keeps a release from being frozen.
+/// It writes what keeps a release from being frozen, and reports how many gaps it has. That is
+/// explained even if nobody watches, or not.
 #[derive(Drop)]
-pub(crate) struct Wanting<'a>(pub &'a Text);
+pub(crate) struct Wanting<'a>(pub &'a Text, pub bool);
 
 impl Task for Wanting<'_> {
     fn run<S: Alter + Drop, W: Write>(
@@ -211,14 +253,18 @@ impl Task for Wanting<'_> {
         desk: &mut SqlDesk<S>,
         writer: &mut W,
     ) -> Result<u8, Failure> {
-        let teller = &mut teller(rt);
-        desk_inspect::wanting(rt.alloc(), desk, self.0, writer, teller, &mut rt.stderr())
+        let teller = &mut teller(rt, self.1);
+        let notes = &mut rt.stderr();
+        let status = desk_inspect::wanting(rt.alloc(), desk, self.0, writer, teller, notes)?;
+        summaries::tell_gap_count(rt, desk, self.0);
+        Ok(status)
     }
 }
 
-/// It writes what is proposed for the document of this number.
+/// It writes what is proposed for the document of this number. A refusal is explained even if nobody
+/// watches, or not.
 #[derive(Drop)]
-pub(crate) struct Proposals(pub u32);
+pub(crate) struct Proposals(pub u32, pub bool);
 
 impl Task for Proposals {
     fn run<S: Alter + Drop, W: Write>(
@@ -227,6 +273,6 @@ impl Task for Proposals {
         desk: &mut SqlDesk<S>,
         writer: &mut W,
     ) -> Result<u8, Failure> {
-        looking::proposals(rt, desk, self.0, writer, &mut teller(rt))
+        looking::proposals(rt, desk, self.0, writer, &mut teller(rt, self.1))
     }
 }

@@ -45,4 +45,5 @@ module _ (Comes : Outcome → Type 0) (line : Answer → List ℕ) (old new : Op
   failed outcome (Err (failure.Connections count)) comes told = absurd told
   failed outcome (Err (failure.Tree fault)) comes told = absurd told
   failed outcome (Err (failure.UnknownName name)) comes told = absurd told
+  failed outcome (Err (failure.NotAFolder path)) comes told = absurd told
   failed outcome (Err failure.BadValue) comes told = absurd told

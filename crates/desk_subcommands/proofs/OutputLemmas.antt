@@ -16,6 +16,7 @@ no_bad_value X (failure.Listen port trouble) is = tt
 no_bad_value X (failure.Connections count) is = tt
 no_bad_value X (failure.Tree fault) is = tt
 no_bad_value X (failure.UnknownName name) is = tt
+no_bad_value X (failure.NotAFolder path) is = absurd is
 no_bad_value X failure.BadValue is = absurd is
 
 pub of_document : (why : Failure) → IsOfOutput why → IsOfDocument why
@@ -31,4 +32,5 @@ of_document (failure.Listen port trouble) is = is
 of_document (failure.Connections count) is = is
 of_document (failure.Tree fault) is = is
 of_document (failure.UnknownName name) is = is
+of_document (failure.NotAFolder path) is = absurd is
 of_document failure.BadValue is = tt

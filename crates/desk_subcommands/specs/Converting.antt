@@ -1,12 +1,14 @@
 -- What `convert` writes, and what is reported of a document in JSON.
-use Rattle.std.specs.Prelude.{◌≡◌, ◌⊎◌, ◌++◌, ◌∷◌, [], ℕ, List, codes, decimal}
+use Rattle.std.specs.Prelude.{◌≡◌, ◌⊎◌, ◌++◌, ◌∷◌, [], ℕ, List, Option, codes, decimal}
 use Rattle.std.specs.String.{string_bytes}
+use Rattle.desk_looks.specs.Words.{look_line}
+use Rattle.desk_looks.specs.declared.look.Look.{Look}
 use Rattle.desk_import.specs.Results.{IsConverted, IsRefused}
 use Rattle.desk_import.specs.declared.converting.Converted.{Converted}
 use Rattle.desk_import.specs.declared.converting.Skipped.{Skipped}
 use Rattle.desk_import.specs.declared.faults.ConvertFault.{ConvertFault}
 use Rattle.desk_import.specs.declared.faults.ConvertFault.TheVariants.{Memory, TooLarge, NotJson}
-use Rattle.desk_import.specs.declared.faults.ConvertFault.TheVariants.{Missing, BadType, BadValue}
+use Rattle.desk_import.specs.declared.faults.ConvertFault.TheVariants.{Missing, BadType, BadValue, Differs}
 use Rattle.desk_import.specs.declared.intake.Origin.{Origin}
 use Rattle.desk_import.specs.declared.intake.Origin.TheVariants.{TagValue, Json, Neither}
 
@@ -18,6 +20,7 @@ fault_words NotJson = codes "NotJson"
 fault_words (Missing at) = codes "Missing at " ++ at
 fault_words (BadType at) = codes "BadType at " ++ at
 fault_words (BadValue at) = codes "BadValue at " ++ at
+fault_words (Differs at first) = codes "Differs at " ++ (at ++ (codes " from " ++ first))
 
 -- the line that reports it
 abbrev pub convert_fault_line : ConvertFault → List ℕ
@@ -38,10 +41,14 @@ Converts bytes text status =
     ⊎ ((fault : ConvertFault) × IsRefused bytes fault × (text ≡ convert_fault_line fault)
     × (status ≡ 1))
 
+-- the lines on bytes that are neither: why they are no document in JSON, and what they look like
+abbrev pub neither_text : ConvertFault → Option Look → List ℕ
+neither_text fault look =
+    codes "nor is it a document in JSON: " ++ (fault_words fault ++ 10 ∷ look_line look)
+
 -- the lines on what a file is whose bytes are imported: nothing of a tag-value document, what is
--- left out of one in JSON, and why other bytes are none in JSON
+-- left out of one in JSON, and what other bytes are
 abbrev pub origin_text : Origin → List ℕ
 origin_text TagValue = []
 origin_text (Json skipped) = left_out_line skipped
-origin_text (Neither fault) =
-    (codes "nor is it a document in JSON: " ++ fault_words fault) ++ 10 ∷ []
+origin_text (Neither fault look) = neither_text fault look

@@ -3,13 +3,16 @@
 ghost use Rattle.std.specs.Prelude.{◌≡◌, ◌++◌, ◌∷◌, [], ℕ, List, IfOk, IfErr, OnOk, codes};
 ghost use Rattle.std.specs.String.{string_bytes};
 ghost use Rattle.std.specs.Io.KnownBytes.{Appends, Keeps};
-ghost use Rattle.desk_subcommands.specs.Converting.{convert_fault_line, Converts, fault_words, left_out_line, origin_text};
+ghost use Rattle.desk_looks.specs.Looks.{look_of};
+ghost use Rattle.desk_looks.specs.Words.{look_line};
+ghost use Rattle.desk_subcommands.specs.Converting.{convert_fault_line, Converts, fault_words, left_out_line, neither_text, origin_text};
 ghost use Rattle.desk_subcommands.specs.Failures.{IfMemory, IsOfOutput};
 
 use crate::failure::Failure;
 use crate::filing::{write_line, write_text};
 use desk_base::Text;
 use desk_import::{ConvertFault, Origin, Skipped};
+use desk_looks::{Look, look_line, look_of};
 use std::alloc::{AllocError, Global};
 use std::io::Write;
 
@@ -20,6 +23,14 @@ fn words_at(alloc: Global, name: &str, at: &Text) -> Result<String, AllocError>
     let mut words = String::from_str(alloc, name)?;
     words.push_str(at.as_str())?;
     Ok(words)
+}
+
+// That the element at a place isn't the same as the first one with its identifier.
+fn difference(alloc: Global, at: &str, first: &str) -> Result<String, AllocError>
+    ensures { IfOk result (λ words. string_bytes words
+        ≡ codes "Differs at " ++ (at.now ++ (codes " from " ++ first.now))) }
+{
+    format!(in alloc; "Differs at {at} from {first}")
 }
 
 // The name of a fault, and where in the document it is.
@@ -33,6 +44,7 @@ fn fault_words(alloc: Global, fault: &ConvertFault) -> Result<String, AllocError
         ConvertFault::Missing(at) => words_at(alloc, "Missing at ", at),
         ConvertFault::BadType(at) => words_at(alloc, "BadType at ", at),
         ConvertFault::BadValue(at) => words_at(alloc, "BadValue at ", at),
+        ConvertFault::Differs(at, first) => difference(alloc, at.as_str(), first.as_str()),
     }
 }
 
@@ -40,9 +52,7 @@ fn fault_text(alloc: Global, fault: &ConvertFault) -> Result<String, AllocError>
     ensures { IfOk result (λ line. string_bytes line ≡ codes "fault: " ++ fault_words fault.now) }
 {
     let words = fault_words(alloc, fault)?;
-    let mut line = String::from_str(alloc, "fault: ")?;
-    line.push_str(words.as_str())?;
-    Ok(line)
+    format!(in alloc; "fault: {words}")
 }
 
 // The line of what is left out of a document in JSON.
@@ -60,35 +70,50 @@ fn left_out_line(alloc: Global, skipped: Skipped) -> Result<String, AllocError>
     )
 }
 
-// The line that says why bytes that aren't a tag-value document aren't one in JSON either.
-fn neither_line(alloc: Global, fault: &ConvertFault) -> Result<String, AllocError>
-    ensures { IfOk result (λ line. string_bytes line
-        ≡ (codes "nor is it a document in JSON: " ++ fault_words fault.now) ++ 10 ∷ []) }
+// The lines that say why bytes that aren't a tag-value document aren't one in JSON either, and what
+// they look like.
+fn neither_text(
+    alloc: Global,
+    fault: &ConvertFault,
+    look: Option<Look>,
+) -> Result<String, AllocError>
+    ensures { IfOk result (λ text. string_bytes text ≡ neither_text fault.now look) }
 {
     let words = fault_words(alloc, fault)?;
-    let mut line = String::from_str(alloc, "nor is it a document in JSON: ")?;
-    line.push_str(words.as_str())?;
-    line.push_str("\n")?;
-    Ok(line)
+    let line = look_line(alloc, look)?;
+    format!(in alloc; "nor is it a document in JSON: {words}\n{line}")
 }
 
 /// The lines on what an imported file is: what is left out of a document in JSON, or why bytes that
-/// aren't a tag-value document aren't one in JSON either.
+/// aren't a tag-value document aren't one in JSON either, and what they look like.
 pub(crate) fn origin_text(alloc: Global, origin: &Origin) -> Result<String, AllocError>
     ensures { IfOk result (λ text. string_bytes text ≡ origin_text origin.now) }
 {
     match origin {
         Origin::TagValue => Ok(String::new(alloc)),
         Origin::Json(skipped) => left_out_line(alloc, *skipped),
-        Origin::Neither(fault) => neither_line(alloc, fault),
+        Origin::Neither(fault, look) => neither_text(alloc, fault, *look),
     }
 }
 
-// Writes why a document isn't converted, as a line, and returns the program's status.
-fn refuse_conversion<W: Write>(
+/// Reports what the bytes of a file that is refused look like, if they look like something.
+pub fn tell_look<T: Write>(alloc: Global, bytes: &[u8], teller: &mut T) -> Result<(), Failure>
+    ensures told { OnOk result
+        (Appends (T.contents teller.old) (T.contents teller.new) (look_line (look_of bytes.now))) }
+{
+    let line = look_line(alloc, look_of(bytes))?;
+    teller.write_all(line.as_bytes())?;
+    Ok(())
+}
+
+// Writes why a document isn't converted, as a line, and returns the program's status. What its
+// bytes look like is reported to another writer.
+fn refuse_conversion<W: Write, T: Write>(
     alloc: Global,
     fault: ConvertFault,
+    bytes: &[u8],
     writer: &mut W,
+    teller: &mut T,
 ) -> Result<u8, Failure>
     ensures told { IfOk result (λ status. (status ≡ 1)
         × Appends (W.contents writer.old) (W.contents writer.new) (convert_fault_line fault)) }
@@ -104,6 +129,8 @@ fn refuse_conversion<W: Write>(
     let line = fault_text(alloc, &fault);
     drop(fault);
     write_line(writer, line?.as_str())?;
+    // If that can't be reported, the fault is still written.
+    let _told = tell_look(alloc, bytes, teller);
     Ok(1)
 }
 
@@ -118,7 +145,8 @@ fn tell_skipped<T: Write>(alloc: Global, skipped: Skipped, teller: &mut T) -> Re
 }
 
 /// Writes the tag-value document that says the same as an SPDX document in JSON or, as a line, why
-/// there is none, and returns the program's status. What is left out is reported to another writer.
+/// there is none, and returns the program's status. What is left out, or what bytes that are refused
+/// look like, is reported to another writer.
 pub fn convert<W: Write, T: Write>(
     alloc: Global,
     bytes: &[u8],
@@ -138,6 +166,6 @@ pub fn convert<W: Write, T: Write>(
             let _told = tell_skipped(alloc, converted.skipped, teller);
             Ok(0)
         }
-        Err(fault) => refuse_conversion(alloc, fault, writer),
+        Err(fault) => refuse_conversion(alloc, fault, bytes, writer, teller),
     }
 }

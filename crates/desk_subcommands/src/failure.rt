@@ -43,6 +43,9 @@ pub enum Failure {
     /// The files of a tree can't be read.
     #[error("{0}")]
     Tree(TreeFault),
+    /// What is named as the folder of a tree is none.
+    #[error("{0:?} is no folder: name the folder of the tree")]
+    NotAFolder(String),
     /// Nothing that the desk prints has this name.
     #[error("nothing is named {0:?}; see docs/REFUSALS.md and the pages that it cites")]
     UnknownName(String),

@@ -39,7 +39,7 @@ mod trouble;
 
 pub use auditing::tell_report;
 pub use checking::check;
-pub use converting::convert;
+pub use converting::{convert, tell_look};
 pub use explaining::Explainer;
 pub use failure::Failure;
 pub use filing::{

@@ -20,7 +20,7 @@ pub enum Trouble {
     ReadOnly,
     #[error("it may not be read; see to its permissions")]
     Unreadable,
-    #[error("it is no database, or it is damaged; name another file, or put back a copy of it")]
+    #[error("it is no database, it is damaged, or it has something that a desk cannot read (docs/TABLES.md); name another file, drop that, or put back a copy")]
     Damaged,
     #[error("its disk is full; make room, then try again")]
     Full,
