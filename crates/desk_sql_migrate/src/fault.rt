@@ -8,8 +8,9 @@ use thiserror::Error;
 /// the database gives.
 #[derive(Clone, Copy, Debug, Drop, PartialEq, Eq, Error)]
 pub enum MigrateFault {
-    /// The database gives no version, or a table of the older version that it gives isn't there as
-    /// it is declared.
+    /// No table `meta` has a column `version`; or it gives version 1 or 2, and a table of this version
+    /// isn't there as it is declared, a table has a foreign key, or an index of a desk's table could
+    /// refuse a row.
     #[error("NotADesk")]
     NotADesk,
     /// The tables are of a version that isn't an older one.

@@ -19,8 +19,9 @@ pub enum CreateFault {
 /// database gives.
 #[derive(Clone, Copy, Debug, Drop, PartialEq, Eq, Error)]
 pub enum AdoptFault {
-    /// The database gives no version, or a table of a desk doesn't exist as it is declared, or
-    /// there is something besides these tables.
+    /// No table `meta` has a column `version`; or it gives no other version, and a table of a desk
+    /// isn't there as it is declared, a table has a foreign key, or an index of a desk's table could
+    /// refuse a row.
     #[error("NotADesk")]
     NotADesk,
     /// The tables are of another version.
