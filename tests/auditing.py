@@ -39,6 +39,12 @@ SHOWN = 20
 DIFFERENCE = (
     rb'("[^\n]*": it has no table [^\n]+\n|"[^\n]*": (its|one of its tables) [^\n]+\n"[^\n]*": examples/restore moves [^\n]+\n)'
 )
+# The same before a migration.
+OLDER = rb'"[^\n]*": (it has no table|its|one of its tables|a table of its version) [^\n]+\n'
+# What is to be done about a log that may be that of another file.
+LEFT = rb'"[^\n]*": a run that was killed left a log beside it[^\n]+\n'
+# What a migration says of something else that has the name of a table that it makes.
+IN_THE_WAY = rb'"[^\n]*": it has something else named \w+: rename that first\n'
 UNOPENED = rb'"[^\n]*" isn\'t opened as a desk \(NotADesk\)\n'
 # A file system in memory, if there is one.
 ROOM = "/dev/shm" if os.path.isdir("/dev/shm") else None
@@ -85,17 +91,20 @@ class Desk:
         except subprocess.TimeoutExpired:
             return "nothing in time"
         self.longest = max(self.longest, time.perf_counter() - begun)
-        is_fault = done.returncode == 3 and re.fullmatch(rb"error: [^\n]+\n", done.stderr)
+        said = re.sub(rb"\A" + LEFT, b"", done.stderr)
+        if words[0] == "migrate" and done.returncode == 3:
+            said = re.sub(rb"\A" + IN_THE_WAY, b"", said)
+        is_fault = done.returncode == 3 and re.fullmatch(rb"error: [^\n]+\n", said)
         if is_fault and done.stdout == b"":
             return "error"
-        self.said = done.stderr
+        self.said = said
         # (for a file that isn't a desk, subcommands that need one say how its tables differ, and an audit that it isn't opened)
         wanted = b""
         if words[0] == "audit" and done.stdout == b"sound\n":
             wanted = b"(" + UNOPENED + DIFFERENCE + b")?"
-        elif words[0] not in ("audit", "migrate") and done.stdout == b"fault: NotADesk\n":
-            wanted = DIFFERENCE
-        is_told = re.fullmatch(wanted, done.stderr)
+        elif words[0] != "audit" and done.stdout == b"fault: NotADesk\n":
+            wanted = OLDER if words[0] == "migrate" else DIFFERENCE
+        is_told = re.fullmatch(wanted, said)
         if not is_fault and (not is_told or done.returncode not in (0, 1)):
             return f"status {done.returncode}, {done.stdout[:100]!r}, {done.stderr[:100]!r}"
         return f"{done.returncode} {done.stdout.decode(errors='replace')}"
@@ -108,7 +117,7 @@ class Desk:
         self.audits += 1
         if before and bytes_at(path) != before:
             return f"a changed file, after {told}"
-        known = {"0 sound\n": "sound", "error": "error", **{f"1 {name}\n": name for name in NAMES}}
+        known = {"0 sound\n": "sound", "1 empty\n": "empty", "error": "error", **{f"1 {name}\n": name for name in NAMES}}
         return known.get(told, told)
 
     def totals(self, release="r1"):
@@ -359,10 +368,10 @@ def in_other_places(desk, room, data):
     """Files that don't exist, that aren't a database or have no table `meta`, and a file whose last changes are in its log."""
     turn = random.Random(1)
     desk.put(None)
-    differs("audit where no file is", desk.audit(), ["sound"])
-    differs("audit of what was made there", desk.audit(), ["sound"])
+    differs("audit where no file is", desk.audit(), ["error"])
+    differs("a file that an audit made", "a file" if os.path.exists(desk.path) else "none", ["none"])
     for what, found, wanted in (
-        ("an empty file", b"", ["sound"]),
+        ("an empty file", b"", ["empty"]),
         ("words", b"a file of words\n" * 100, ["error"]),
         ("random bytes", turn.randbytes(70_000), ["error"]),
         ("a file cut short", data[: len(data) // 2], ["error", *NAMES]),

@@ -6,7 +6,7 @@ without that memory. A run over a file isn't forked; it is repeated for each N w
 
 - a check or a listing prints its answer with its status, or nothing with status 3 and its message;
 - a text from a desk in a file (notices, the table of duties, totals, changes, a page, a list, what is wanting, what keeps a release from
-  being ready, choices, proposals) is written fully, or not at all with status 3 and its message; or the reply is {"fault":"memory"};
+  being ready, what notices lack, choices, proposals) is written fully, or not at all with status 3 and its message; or the reply is {"fault":"memory"};
 - an import of a document in JSON replies that the document is new, or in one of those ways; and repeating it replies that the document had
   been imported if the first reply was so, and otherwise that or new;
 - an audit and a migration of a file, after its opening and once during it, print their answer, or nothing but their message; the file is
@@ -292,6 +292,7 @@ TEXTS = [
     ("page", "r1"),
     ("wanting", "r1"),
     ("ready", "r1"),
+    ("gaps", "r1"),
     ("choices", "r1"),
     ("propose", "1"),
     ("list", "releases"),

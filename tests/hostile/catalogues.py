@@ -158,11 +158,11 @@ def unsure(program, batch):
 
 
 def from_a_file(program, data):
-    """What `desk catalogue` says about a file, and that its desk is sound afterwards."""
+    """What `desk catalogue` says about a file, and that its desk is sound afterwards. A file that isn't UTF-8 is refused before a desk is made."""
     try:
-        wanted = second_desk.SecondDesk().answer({"do": "catalogue", "text": data.decode()}) + b"\n"
+        wanted, audited = second_desk.SecondDesk().answer({"do": "catalogue", "text": data.decode()}) + b"\n", (0, b"sound\n")
     except UnicodeDecodeError:
-        wanted = b'{"at":[1],"name":"BadCatalogue","refused":1}\n'
+        wanted, audited = b'{"at":[1],"name":"BadCatalogue","refused":1}\n', (3, b"")
     with tempfile.TemporaryDirectory(dir=running.ROOM) as room:
         file, path = os.path.join(room, "catalogue"), os.path.join(room, "desk.db")
         with open(file, "wb") as out:
@@ -171,7 +171,7 @@ def from_a_file(program, data):
         if (done.status, done.out, done.err) != (int(b"refused" in wanted), wanted, b""):
             return f"catalogue: {done!r}, and not {wanted!r}"
         done = program.run("audit", "--db", path, size=len(data))
-        return None if (done.status, done.out) == (0, b"sound\n") else f"audit: {done!r}"
+        return None if (done.status, done.out) == audited else f"audit: {done!r}"
 
 
 def differences(program, batch):

@@ -21,6 +21,7 @@ NAME, SIZE = "databases", 100
 ASKED = 10
 IN_THE_LOG = 40
 ROWS, BYTES, LOG = "rows", "bytes", "log"
+EMPTY = "empty"
 ENDS = ("", "-wal", "-shm", "-journal")
 
 
@@ -55,7 +56,7 @@ def answer(done):
     wrong = running.unlike(done, {0, 1, 3}, beside=done.err if is_told else b"")
     if wrong:
         return wrong
-    told = {(0, b"sound\n"): "sound", **{(1, f"{name}\n".encode()): name for name in auditing.NAMES}}
+    told = {(0, b"sound\n"): "sound", (1, b"empty\n"): EMPTY, **{(1, f"{name}\n".encode()): name for name in auditing.NAMES}}
     return "error" if done.status == 3 and not done.out else told.get((done.status, done.out), repr(done))
 
 
@@ -94,8 +95,22 @@ def judged(path):
         return None
 
 
+def is_empty(path):
+    """Whether SQLite finds neither a table nor a view in a file."""
+    try:
+        connection = sqlite3.connect(f"file:{path}?mode=ro", uri=True)
+        try:
+            return connection.execute("SELECT count(*) FROM sqlite_master WHERE type IN ('table', 'view')").fetchone() == (0,)
+        finally:
+            connection.close()
+    except sqlite3.Error:
+        return False
+
+
 def allowed(path, kind):
     """What an audit may answer."""
+    if is_empty(path):
+        return {EMPTY, "error"}
     found = judged(path)
     if found is None:
         return {"error", "sound", *auditing.NAMES}
@@ -144,9 +159,12 @@ def killed(program, path):
 def of_a_log(program, path, turn, left):
     """A log with some bytes changed: the desk is as it was after some of the commands, from the first on."""
     data, log = left
+    put(path, data)
+    # (all that the desk holds may be in the log)
+    wanted = {"sound", "error", EMPTY} if is_empty(path) else {"sound", "error"}
     put(path, data, mutations.changed(turn, log) if turn.random() < 0.3 else changed_bytes(turn, log))
     told = answer(program.run("audit", "--db", path, size=len(log)))
-    if told not in ("sound", "error"):
+    if told not in wanted:
         return f"audit of a changed log: {told}"
     questions = "".join(offices.line(ask="release", release=f"r{number}") for number in range(IN_THE_LOG)).encode()
     done = program.run("script", "--db", path, text=questions, size=len(log))

@@ -22,6 +22,7 @@ import running
 
 import catalogues
 import connections
+import credit_trees
 import database_files
 import documents
 import expressions
@@ -30,9 +31,10 @@ import folders
 import json_documents
 import lines
 import reports
+import text_folders
 import trees_made
 
-KINDS = {kind.NAME: kind for kind in (expressions, documents, json_documents, catalogues, lines, reports, fills, connections, folders,
+KINDS = {kind.NAME: kind for kind in (expressions, documents, json_documents, catalogues, lines, reports, fills, text_folders, credit_trees, connections, folders,
                                       trees_made, database_files)}
 SHOWN = 10
 # This many inputs of a kind meet what each run of them must meet.

@@ -7,6 +7,7 @@ import json
 import os
 import random
 
+import bom_read
 import documents
 import json_read
 import mutations
@@ -14,10 +15,12 @@ import running
 
 NAME, SIZE = "conversions", 100
 # The outcomes that must occur among this many documents, and how often they did.
-MEETS, MET = {"converted", "NotJson", "Missing", "BadType", "BadValue"}, collections.Counter()
+MEETS, MET = {"converted", "NotJson", "Missing", "BadType", "BadValue", "Differs"}, collections.Counter()
 # After this many inputs `desk import` gets the file too.
 ASKED = 10
 TOOLS = sorted(glob.glob(os.path.join(running.TESTS, "convert/*.json")))
+# Those in CycloneDX form, of which there are more changed ones.
+BOMS = sorted(glob.glob(os.path.join(running.TESTS, "convert/pairs/*.cdx.json"))) + [os.path.join(running.TESTS, "convert/cyclonedx.json")] * 4
 # What can't be in a line, or can only just, or isn't what its member has.
 TEXTS = ["", " ", " a", "a\t", "a\nb", "a\r", "\r\n", "\0", "\x1f", "\x7f", "\u2028", "\ufeff", "\U0001f600", "é", "<text>", "<text>x</text>", "x</text>",
          "</text", "NONE", "NOASSERTION", "a b", "a\tb", "a,b", "#", ":", "SPDXRef-a b", "SPDXRef-\u00e9", "null", "\\", '"', "/", "x" * 5_000]
@@ -127,9 +130,9 @@ def grown(turn, kind, number):
     return Members(members)
 
 
-def of_tool(turn):
+def of_tool(turn, paths=TOOLS):
     """What a tool wrote."""
-    with open(turn.choice(TOOLS), encoding="utf-8") as file:
+    with open(turn.choice(paths), encoding="utf-8") as file:
         return json.load(file, object_pairs_hook=Members)
 
 
@@ -180,7 +183,8 @@ def longer(turn, value):
 
 
 VALUES = [other_value, other_value, other_value, within, written_otherwise, longer, lambda turn, value: turn.choice(TEXTS), lambda turn, value: turn.choice(TEXTS)]
-KEYS = sorted({name.rstrip("!") for rows in json_read.MEMBERS.values() for name, _, _ in rows} | set().union(*json_read.ELSEWHERE.values()) | {"sbom", "", "x"})
+KEYS = sorted({name.rstrip("!") for rows in json_read.MEMBERS.values() for name, _, _ in rows} | {name for rows in bom_read.MEMBERS.values() for name, _ in rows}
+              | set().union(*json_read.ELSEWHERE.values(), *bom_read.ELSEWHERE.values()) | {"sbom", "", "x", "encoding", "content", "license", "timestamp"})
 
 
 def renamed(turn, key):
@@ -247,7 +251,8 @@ def written(turn, value, blank):
 def one(seed, number):
     """A document, and a profile."""
     turn = random.Random(f"{seed} {NAME} {number}")
-    value = grown(turn, "document", number) if turn.random() < 0.85 else of_tool(turn)
+    kind = turn.random()
+    value = grown(turn, "document", number) if kind < 0.65 else of_tool(turn, TOOLS if kind < 0.75 else BOMS)
     for _ in range(turn.choice([0, 1, 1, 1, 2, 4])):
         damaged(turn, value)
     if turn.random() < 0.08:

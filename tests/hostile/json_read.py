@@ -1,12 +1,13 @@
 """A second reader of documents in JSON: what they are converted to, or why not, and what is left out.
 
 It is written from the JSON schema of SPDX 2.3, clauses 6 to 11, for the fields that mean the same in a tag-value document, and from
-docs/DATABASE.md and docs/REFUSALS.md. The reader of tests/documents decides whether a value can be in its field."""
+docs/DOCUMENTS.md and docs/REFUSALS.md. `bom_read.py` reads CycloneDX. The reader of tests/documents decides whether a value can be in its field."""
 
 import json
 import math
 import re
 
+import looks_read
 import oracle
 
 JSON_BYTES = 64 << 20
@@ -62,6 +63,7 @@ class Number:
     def __init__(self, text):
         if not math.isfinite(float(text)):
             raise ValueError(text)
+        self.text = text
 
 
 def no_word(text):
@@ -147,12 +149,44 @@ def is_in(value, key):
     return isinstance(value, dict) and key in value
 
 
+def lines_of(kind, value):
+    """What is read of an element, whether it has faults or not."""
+    lines = []
+    for name, way, tag in MEMBERS[kind]:
+        found = member(value, name.rstrip("!"))
+        items = found if isinstance(found, list) else []
+        if way in ("line", "text", "copyright") and isinstance(found, str):
+            lines.append((tag, found))
+        elif way == "flag" and isinstance(found, bool):
+            lines.append((tag, found))
+        elif way == "lines":
+            lines += [(tag, item) for item in items if isinstance(item, str)]
+        elif way == "checksums":
+            lines += [(tag, f"{text_in(item, 'algorithm')}: {text_in(item, 'checksumValue')}") for item in items]
+        elif way == "code" and is_in(value, name):
+            names = [name if isinstance(name, str) else "" for name in listed(member(found, EXCLUDED))]
+            lines.append((tag, text_in(found, NO_CODE) + (f" (excludes: {', '.join(names)})" if names else "")))
+    if kind == "package":
+        lines += [("CONTAINS", item) for item in listed(member(value, "hasFiles")) if isinstance(item, str) and is_word(item)]
+    return lines
+
+
+def listed(value):
+    return value if isinstance(value, list) else []
+
+
 class Conversion:
     """The text that a document in JSON is converted to, as far as it was read, and how much was left out."""
 
     def __init__(self, data):
-        self.parts, self.left = [], [0, 0, 0, 0]
+        self.parts, self.left, self.seen = [], [0, 0, 0, 0], {}
         value, at = json_of(data), ""
+        if text_in(value, "bomFormat") == "CycloneDX":
+            # That reader takes its words from this one.
+            import bom_read
+
+            bom_read.read(self, value)
+            return
         if not is_in(value, "spdxVersion") and is_in(value, "sbom"):
             value, at = value["sbom"], "/sbom"
         self.document(at, value)
@@ -247,15 +281,27 @@ class Conversion:
             part(place, item)
 
     def section(self, kind):
+        """Adds an element, unless an earlier one has its identifier: that one must have the same lines."""
         def part(at, value):
-            self.parts.append("\n")
-            self.object(at, value, kind)
+            identifier, lines = text_in(value, "licenseId" if kind == "extracted" else "SPDXID"), lines_of(kind, value)
+            self.once(at, identifier, lines, lambda: self.element(at, value, kind))
 
         return part
 
-    def package(self, at, value):
-        self.section("package")(at, value)
-        self.parts_of(at, value, "hasFiles", lambda place, item: self.tie(place, text_in(value, "SPDXID"), "CONTAINS", item))
+    def once(self, at, identifier, lines, write):
+        first_at, first_lines = self.seen.setdefault(identifier, (at, lines))
+        if first_at != at and first_lines != lines:
+            raise Fault(f"Differs at {at} from {first_at}")
+        written = list(self.parts)
+        write()
+        if first_at != at:
+            self.parts = written
+
+    def element(self, at, value, kind):
+        self.parts.append("\n")
+        self.object(at, value, kind)
+        if kind == "package":
+            self.parts_of(at, value, "hasFiles", lambda place, item: self.tie(place, text_in(value, "SPDXID"), "CONTAINS", item))
 
     def tie(self, at, left, kind, right):
         """A relationship that isn't an item of `relationships`."""
@@ -279,7 +325,7 @@ class Conversion:
             self.object(f"{at}/creationInfo", value["creationInfo"], "creation")
         self.parts_of(at, value, "files", self.section("file"))
         self.parts_of(at, value, "snippets", self.section("snippet"))
-        self.parts_of(at, value, "packages", self.package)
+        self.parts_of(at, value, "packages", self.section("package"))
         self.parts_of(at, value, "hasExtractedLicensingInfos", self.section("extracted"))
         listed = self.described(value)
         for place, item in self.each(f"{at}/documentDescribes", value["documentDescribes"]) if "documentDescribes" in value else []:
@@ -293,7 +339,7 @@ def converted(data):
     try:
         conversion = Conversion(data)
     except Fault as fault:
-        return f"fault: {fault}\n".encode(), 1, b""
+        return f"fault: {fault}\n".encode(), 1, looks_read.line(data)
     return conversion.text, 0, conversion.left_out()
 
 
@@ -304,5 +350,5 @@ def taken(data):
     try:
         conversion = Conversion(data)
     except Fault as fault:
-        return data, f"nor is it a document in JSON: {fault}\n".encode()
+        return data, f"nor is it a document in JSON: {fault}\n".encode() + looks_read.line(data)
     return conversion.text, conversion.left_out()

@@ -120,6 +120,10 @@ def session(seed, start):
 # ---- what is asked of it
 
 
+class UnknownCode(Exception):
+    """A filter's code that no duty has."""
+
+
 def filters(turn):
     kept = {}
     if turn.random() < 0.4:
@@ -154,8 +158,17 @@ def words_of(kind, of, kept, path):
     return [*words, "--", of]
 
 
+def is_unknown(desk, code):
+    """Whether neither the catalogue in force nor a duty that was raised has a code."""
+    return code not in second_views.titles(desk) and all(duty.row[4] != code for release in desk.releases.values() for duty in release.duties)
+
+
 def rows_of(desk, of, kept):
-    """The rows of a list."""
+    """The rows of a list. Its filters must name a release and a code that the desk knows."""
+    if "release" in kept:
+        desk.release(kept)
+    if "code" in kept and is_unknown(desk, kept["code"]):
+        raise UnknownCode(kept["code"])
     if of == "releases":
         return second_views.release_rows(desk)
     return second_views.document_rows(desk) if of == "documents" else second_views.duty_rows(desk, **kept)
@@ -174,11 +187,13 @@ def report(desk, asked):
 
 
 def answer(desk, asked):
-    """The bytes on standard output, and the status."""
+    """The bytes on standard output, the status, and the bytes on standard error."""
     try:
-        return report(desk, asked).encode(), 0
+        return report(desk, asked).encode(), 0, b""
     except second_desk.Refused as refused:
-        return second_desk.shown(refused.told) + b"\n", 1
+        return second_desk.shown(refused.told) + b"\n", 1, b""
+    except UnknownCode as unknown:
+        return b"", 1, f'no duty has the code "{unknown}", in the catalogue in force or among those that were raised\n'.encode()
 
 
 def on_terminal(program, words, size):
@@ -221,7 +236,7 @@ def differences(program, batch):
             if question_asked[3] and not is_shown:
                 continue
             done = on_terminal(program, words, size) if is_shown else program.run(*words, size=size)
-            if (done.out, done.status, done.err) != (*wanted, b""):
+            if (done.out, done.status, done.err) != wanted:
                 yield place, f"{words}: {done.status}, {done.out!r:.2000}, {done.err!r}, and not {wanted!r:.2000}"
 
 

@@ -11,7 +11,7 @@ KEYS = {
 QUESTIONS = {
     "duties": "release", "totals": "release", "changes": "duty", "findings": "document", "release": "release",
     "alternatives": "document package", "cheapest": "document form package", "releases": "", "documents": "", "open": "",
-    "wanting": "release", "ready": "release",
+    "wanting": "release", "ready": "release", "gaps": "release",
 }
 MAY_BE_LEFT_OUT = {"import": "profile", "waive": "until", "ready": "day"}
 NUMBERS = {"document", "duty", "profile"}

@@ -69,9 +69,11 @@ def unlike(done, statuses=STATUSES, beside=b""):
         return f"nothing within {done.seconds:.0f} seconds"
     if done.status not in statuses:
         return repr(done)
-    is_fault = done.status == 3 and re.fullmatch(rb"(error: [^\n]+\n)+", done.err)
-    is_usage = done.status == 2 and done.err
-    if done.err != beside and not is_fault and not is_usage:
+    # (a log that a killed run left may be that of another file)
+    said = re.sub(rb'\A"[^\n]*": a run that was killed left a log beside it[^\n]+\n', b"", done.err)
+    is_fault = done.status == 3 and re.fullmatch(rb"(error: [^\n]+\n)+", said)
+    is_usage = done.status == 2 and said
+    if done.err != beside and said != beside and not is_fault and not is_usage:
         return repr(done)
     return None
 

@@ -20,6 +20,8 @@ NAMES = {
     30: "BadEnd",
 }
 MOST, ATTACHED, ADOPTIONS, CHANGES = 4_096, 64, 10_000, 999
+# What a copyright or a text says if it says nothing.
+NOTHING = (None, b"NONE", b"NOASSERTION")
 MOVES = {"meet": ("open", "met", "met"), "waive": ("open", "waived", "waived"), "reopen": ("met waived", "open", "reopened")}
 
 
@@ -368,3 +370,36 @@ class SecondDesk:
         release = self.release(request)
         refuse_if(release.state != "frozen", 13, release.state)
         return {"rows": [duty.told() for duty in release.duties if duty.state == "open" or "day" in request and duty.is_over(request["day"])]}
+
+    def needed(self, release):
+        """The texts that terms chosen or possible name, in the order of first use: of an id, or of a reference in a document."""
+        for number, name in self.shipped(release):
+            document = self.documents[number - 1]
+            tree = document.concluded(name)[1]
+            possible = [] if tree is None else second_lists.terms_of(tree)
+            for term in release.choices.get((number, name)) or sorted(possible):
+                licence, _, exception = term.decode().partition(" WITH ")
+                is_reference = term.startswith(second_judge.RESERVED)
+                yield (number, licence) if is_reference else (0, licence.removesuffix("+"))
+                if exception:
+                    yield 0, exception
+
+    def lacks(self, catalogue, number, name):
+        """Whether nobody has the text of an id, or of a reference in a document."""
+        if number:
+            return dict(self.documents[number - 1].read.references).get(name.encode()) in NOTHING
+        return name not in {second_judge.folded(text["licence"].encode()).decode() for text in catalogue.get("text", [])}
+
+    def ask_gaps(self, request):
+        release = self.release(request)
+        refuse_if(release.state == "withdrawn", 13, release.state)
+        number = release.revision or len(self.catalogues)
+        catalogue = catalogue_faults.toml_of(self.catalogues[number - 1].decode()) if number else {}
+        rows = [["text", *text] for text in dict.fromkeys(self.needed(release)) if self.lacks(catalogue, *text)]
+        packages, first = self.shipped(release), {}
+        of = {(number, name): self.documents[number - 1].packages[name] for number, name in packages}
+        rows += [["copyright", number, name] for number, name in packages if of[number, name][4] in NOTHING]
+        rows += [["shipment", number, ""] for number in sorted(release.documents) if not any(number == ships for ships, _ in packages)]
+        for number, name in packages:
+            first.setdefault(of[number, name][1:3], number)
+        return {"rows": rows + [["twice", number, name] for number, name in packages if first[of[number, name][1:3]] != number]}
