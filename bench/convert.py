@@ -1,6 +1,6 @@
 """Times documents in JSON: python3 bench/convert.py PROGRAM FOLDER
 
-Three documents: 9,900 packages; 10,000 files with 40,000 relationships; and one that is left out almost entirely. For each, the whole process
+Four documents: 9,900 packages; 10,000 files with 40,000 relationships; one that is left out almost entirely; and 9,900 components of CycloneDX. For each, the whole process
 of `desk convert`, with its peak as a multiple of the document's bytes, compared with Python's json on the same text; and `desk import` into a
 new file in shared memory, compared with an import of the tag-value document that it converts to. Each time is the least of several runs, which
 alternate.
@@ -20,6 +20,8 @@ NEEDED = {
     "creationInfo": {"created": "2025-01-01T00:00:00Z", "creators": ["Tool: bench"]},
 }
 
+BOM = {"bomFormat": "CycloneDX", "specVersion": "1.6", "serialNumber": "urn:uuid:3e671687-395b-41f5-a30f-a58921a69b79", "version": 1}
+
 
 def packages():
     return {"packages": [
@@ -35,6 +37,20 @@ def relationships():
     pairs = [(f"SPDXRef-F{k % 10_000}", "DEPENDS_ON", f"SPDXRef-F{k * 7 % 10_000}") for k in range(40_000)]
     files = [{"fileName": f"./f{k}", "SPDXID": f"SPDXRef-F{k}", "checksums": [{"algorithm": "SHA1", "checksumValue": f"{k:040x}"}]} for k in range(10_000)]
     return {"files": files, "relationships": [dict(zip(ends, pair)) for pair in pairs]}
+
+
+def components():
+    """A CycloneDX document of some 10 MB: each component depends on two others."""
+    listed = [
+        {"type": "library", "bom-ref": f"pkg:npm/package-number-{k}@1.{k}", "name": f"package-number-{k}", "version": f"1.{k}", "scope": "required",
+         "purl": f"pkg:npm/package-number-{k}@1.{k}", "licenses": [{"license": {"id": "MIT"}}, {"license": {"id": "Apache-2.0"}}],
+         "copyright": f"Copyright 2020\nThe authors of {k}\n", "properties": [{"name": "path", "value": "node_modules/" * 20}],
+         "externalReferences": [{"type": "vcs", "url": f"https://example.org/{k}"}, {"type": "website", "url": f"https://example.org/{k}"}]}
+        for k in range(9_900)
+    ]
+    refs = [one["bom-ref"] for one in listed]
+    ties = [{"ref": ref, "dependsOn": [refs[k * 7 % len(refs)], refs[k * 11 % len(refs)]]} for k, ref in enumerate(refs)]
+    return {"components": listed, "dependencies": ties}
 
 
 def left_out():
@@ -66,9 +82,9 @@ def parsed(text):
     return time.perf_counter() - begun
 
 
-def row(program, folder, name, members):
+def row(program, folder, name, members, needed=NEEDED):
     path, plain = (os.path.join(folder, name + end) for end in (".json", ".from-json.spdx"))
-    text = json.dumps({**NEEDED, **members}, indent=1)
+    text = json.dumps({**needed, **members}, indent=1)
     with open(path, "w", encoding="utf-8") as file:
         file.write(text)
     with open(plain, "wb") as file:
@@ -86,6 +102,7 @@ def main():
     os.makedirs(folder, exist_ok=True)
     for name, members in (("packages", packages()), ("relationships", relationships()), ("left-out", left_out())):
         row(program, folder, name, members)
+    row(program, folder, "components", components(), BOM)
 
 
 if __name__ == "__main__":

@@ -25,6 +25,8 @@ import store
 
 MEMORY = "/dev/shm"
 RUNS = 7
+# So many credits a file has.
+FILLS = (1_000, 10_000)
 DOCUMENTS = 64
 REFERENCES = 4
 PACKAGES = 10_000
@@ -122,10 +124,10 @@ def filled(program, path, steps):
     desk.end()
 
 
-def ran(program, word, path, of):
+def ran(program, word, path, of, *more):
     """The seconds of a whole process, and what it wrote into a file."""
     with open(path + ".txt", "w+b") as out:
-        process = subprocess.Popen([program, word, "--db", path, of], stdout=out)
+        process = subprocess.Popen([program, word, "--db", path, of, *more], stdout=out)
         _, process.returncode, used = os.wait4(process.pid, 0)
         if process.returncode != 0:
             sys.exit(f"{word}: status {process.returncode}")
@@ -191,6 +193,24 @@ def copied(path):
         other.write(kept.read())
 
 
+def fill_of(count):
+    """A file of credits, none of which fits."""
+    return "".join(f'[[credit]]\npackage = "other-{n}"\nversion = "1.{n}"\ntext = "Copyright 2025 The authors of {n}"\n' for n in range(count)).encode()
+
+
+def fills(program, room, path, text):
+    """Prints what files of credits add to the notices, which they leave as they are."""
+    spent = []
+    for count in FILLS:
+        extra = os.path.join(room, f"fill-{count}.toml")
+        with open(extra, "wb") as out:
+            out.write(fill_of(count))
+        plain, filled = least(text, (lambda: ran(program, "notices", path, "r"), True), (lambda: ran(program, "notices", path, "r", "--fill", extra), True))
+        print(f"  {f'with a file of {count:,} credits':44} {1000 * filled:9.1f} ms, {1000 * (filled - plain):.1f} ms of it for the file")
+        spent.append(max(filled - plain, 1e-6))
+    print(f"  {FILLS[-1] / FILLS[0]:.1f} times the credits take {spent[-1] / spent[0]:.1f} times the time")
+
+
 def notices(program, room):
     spent = []
     for parts in (10, 1):
@@ -201,6 +221,8 @@ def notices(program, room):
         text = release.notices()
         print(f"notices of {release.packages:,} packages in {len(release.within)} documents: {len(text):,} bytes")
         seconds, _ = measured(program, path, "notices", text, b"/releases/r/notices")
+        if parts == 10:
+            fills(program, room, path, text)
         spent.append((len(text), seconds))
     (few, short), (many, long) = spent
     print(f"  {many / few:.1f} times the bytes take {long / short:.1f} times the time")

@@ -106,7 +106,7 @@ class Words:
 
     def add_file(self, name, text):
         if kind_of(name, text) in ("file", "folder"):
-            self.files[name.strip("[]<>.")] = text
+            self.files.setdefault(name.strip("[]<>."), set()).add(text)
 
     def add_option(self, command, form, text, kind):
         self.options[command, form], self.kinds[command, form] = text, kind
@@ -161,13 +161,14 @@ def sections_of(page):
             entry = entry if macro == ".br" else ""
         elif is_name:
             entry, is_name = plain(line), False
-            found[name][0][entry] = ""
+            # (a name may stand for several files: each text begins a line)
+            found[name][0][entry] = f"{found[name][0][entry]}\n" if entry in found[name][0] else ""
             found[name][1].append(entry)
         else:
             text = plain(line)
             found[name][1].append(text)
             if entry:
-                found[name][0][entry] = f"{found[name][0][entry]} {text}".strip()
+                found[name][0][entry] = f"{found[name][0][entry]} {text}".strip(" ").replace("\n ", "\n")
     return {name: (told, " ".join(" ".join(lines).split())) for name, (told, lines) in found.items()}
 
 
@@ -191,9 +192,9 @@ def check_page(page, helps, words):
         if command:
             compare_words(f"{PAGE}, {command}", everything, re.sub(r"^Usage: ", "", text, flags=re.M))
     compare(f"{PAGE}, options", found, words.options)
-    files = dict(sections["FILES"][0])
+    files = {name: set(texts.split("\n")) for name, texts in sections["FILES"][0].items()}
     everything = " ".join(" ".join(helps.values()).split())
-    beside = files.pop("FILE-wal", "")
+    beside = " ".join(files.pop("FILE-wal", [""]))
     if beside not in everything or bool(beside) != ("FILE-wal" in everything):
         failures.append(f"{PAGE}, FILES: FILE-wal is {beside!r}, which no help has")
     compare(f"{PAGE}, FILES", files, words.files)

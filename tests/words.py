@@ -42,7 +42,7 @@ SLIPS = [
     (["do", "met", "duty=1"], 'the command "met" is not known; the commands are catalogue, import, open, attach, choose, freeze, unchoose, conclude, '
      "adopt, meet, waive, reopen, withdraw, close"),
     (["ask", "close"], 'the question "close" is not known; the questions are duties, totals, changes, findings, release, alternatives, cheapest, '
-     "releases, documents, open, wanting, ready"),
+     "releases, documents, open, wanting, ready, gaps"),
     (["do", "meet", "duty=1", "day=2025-03-04"], "the key text is missing; meet has the keys duty, day, text"),
     (["do", "meet", "duty=1", "day=2025-03-04", "text=x", "until=2025-03-05"], 'the key "until" is not known here; meet has the keys duty, day, text'),
     (["do", "waive", "duty=1", "day=2025-03-04", "text=x", "untill=2025-03-05"],
@@ -96,6 +96,8 @@ class Words:
     def told(self, name, requests, replies):
         """Gives the requests of a dialogue, and compares each reply."""
         self.clear()
+        # (a question makes no file)
+        self.run(["script"])
         of_page = dict(words_of_page()) if name == os.path.basename(PAGE) else {}
         for request, reply in zip(requests, replies):
             words = words_of(request)
