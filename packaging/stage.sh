@@ -15,7 +15,7 @@ python3 packaging/licences.py >"$doc/THIRD-PARTY"
 cp build/desk "$folder/bin/desk"
 sh manual/manual.sh build/desk "$folder/share"
 cp README.md CHANGELOG.md SECURITY.md "$doc"
-for page in AUDIT CATALOGUE COUNSEL DATABASE DECISIONS FILLS HOSTILE HTTP LINT REFUSALS RELEASE REPORTS REQUESTS TABLES TRUST; do
+for page in AUDIT CATALOGUE COUNSEL DATABASE DECISIONS DOCUMENTS FILLS CREDITS HOSTILE HTTP LINT REFUSALS RELEASE REPORTS REQUESTS TABLES TRUST; do
     cp "docs/$page.md" "$doc/docs"
 done
 cp docs/page.png "$doc/docs"
