@@ -3,9 +3,10 @@
 ghost use Rattle.std.specs.Prelude.{◌≡◌, ◌++◌, IfOk, OnOk};
 ghost use Rattle.std.specs.List.{flat_map};
 ghost use Rattle.std.specs.String.{string_bytes};
-ghost use Rattle.desk_report.specs.Lines.{spaced, until, behind, front, change_text};
+ghost use Rattle.desk_base.specs.Terminal.{shown};
+ghost use Rattle.desk_report.specs.Lines.{spaced, until, behind, front, line_with, change_text, change_shown, changes_on};
 
-use desk_base::{Day, Text};
+use desk_base::{Day, add_shown};
 use desk_model::ChangeRow;
 use std::alloc::{AllocError, Global};
 
@@ -31,10 +32,10 @@ fn add_until(text: &mut Vec<u8>, last_day: &Option<Day>) -> Result<(), AllocErro
 }
 
 // Adds the text of a change after a blank, if it isn't empty.
-fn add_body(text: &mut Vec<u8>, body: &Text) -> Result<(), AllocError>
+fn add_body(text: &mut Vec<u8>, body: &[u8]) -> Result<(), AllocError>
     ensures { OnOk result (text.new.items ≡ text.old.items ++ behind body.now) }
 {
-    match body.as_str().as_bytes() {
+    match body {
         [] => Ok(()),
         bytes => add_word(text, bytes),
     }
@@ -51,15 +52,36 @@ fn add_front(alloc: Global, text: &mut Vec<u8>, change: &ChangeRow) -> Result<()
     add_word(text, change.word.name().as_bytes())
 }
 
+// Adds the line of a change, with a text.
+fn add_line(
+    alloc: Global,
+    text: &mut Vec<u8>,
+    change: &ChangeRow,
+    body: &[u8],
+) -> Result<(), AllocError>
+    ensures { OnOk result (text.new.items ≡ text.old.items ++ line_with body.now change.now) }
+{
+    add_front(alloc, text, change)?;
+    add_until(text, &change.last_day)?;
+    add_body(text, body)?;
+    text.push(b'\n')?;
+    Ok(())
+}
+
 // Adds the line of a change.
 fn add_change(alloc: Global, text: &mut Vec<u8>, change: &ChangeRow) -> Result<(), AllocError>
     ensures { OnOk result (text.new.items ≡ text.old.items ++ change_text change.now) }
 {
-    add_front(alloc, text, change)?;
-    add_until(text, &change.last_day)?;
-    add_body(text, &change.body)?;
-    text.push(b'\n')?;
-    Ok(())
+    add_line(alloc, text, change, change.body.as_str().as_bytes())
+}
+
+// Adds the line of a change as a terminal shows it.
+fn add_change_shown(alloc: Global, text: &mut Vec<u8>, change: &ChangeRow) -> Result<(), AllocError>
+    ensures { OnOk result (text.new.items ≡ text.old.items ++ change_shown change.now) }
+{
+    let mut body = Vec::new(alloc);
+    add_shown(&mut body, change.body.as_str())?;
+    add_line(alloc, text, change, body.as_slice())
 }
 
 /// A line for each change, ended by LF: its step, its day and its word, `until` and the last day of
@@ -72,4 +94,31 @@ pub fn changes_text(alloc: Global, changes: &[ChangeRow]) -> Result<Vec<u8>, All
         add_change(alloc, &mut text, change)?;
     }
     Ok(text)
+}
+
+// The same as a terminal shows them.
+fn changes_shown(alloc: Global, changes: &[ChangeRow]) -> Result<Vec<u8>, AllocError>
+    ensures { IfOk result (λ text. text.items ≡ flat_map change_shown changes.now) }
+{
+    let mut text = Vec::new(alloc);
+    for change in changes {
+        add_change_shown(alloc, &mut text, change)?;
+    }
+    Ok(text)
+}
+
+/// The lines of changes; on a terminal, each text has a question mark for each control character and
+/// each that sets a direction.
+pub fn changes_on(
+    alloc: Global,
+    changes: &[ChangeRow],
+    is_terminal: bool,
+) -> Result<Vec<u8>, AllocError>
+    ensures { IfOk result (λ text. text.items ≡ changes_on is_terminal changes.now) }
+{
+    if is_terminal {
+        changes_shown(alloc, changes)
+    } else {
+        changes_text(alloc, changes)
+    }
 }

@@ -9,7 +9,8 @@
 //! - `totals_text` counts the duties in each state, in one line, and `changes_text` has a line for
 //!   each change of a duty (`specs/Lines.antt`).
 //! - `lines_shown` is a text of several lines as a terminal shows it, and `notices_shown` the
-//!   notices in this form (`specs/Terminal.antt`).
+//!   notices in this form (`specs/Terminal.antt`). `changes_on` is `changes_text`, in a form that is
+//!   safe on a terminal.
 //!
 //! The only error is that no memory is left.
 #![tactic(auto)]
@@ -21,7 +22,7 @@ mod table;
 mod terminal;
 mod totals;
 
-pub use changes::changes_text;
+pub use changes::{changes_on, changes_text};
 pub use columns::{add_filled, duties_columns, width};
 pub use notice::{notices, notices_shown};
 pub use table::{add_record, duties_csv};

@@ -1,6 +1,5 @@
 -- How an answer of a desk is shown: as its text, or as the line of its reply.
 use Rattle.std.specs.Prelude.{◌≡◌, ℕ, Bool, List, Option, Some, None, unwrap_or, if◌then◌else◌}
-use Rattle.std.specs.List.{flat_map}
 use Rattle.std.specs.Io.KnownBytes.{Appends}
 use Rattle.desk_model.specs.Readings.{Readings}
 use Rattle.desk_model.specs.Tables.{Tables}
@@ -16,21 +15,21 @@ use Rattle.desk_answers.specs.Gaps.{gaps_text}
 use Rattle.desk_json.specs.declared.request.Request.TheVariants.{Ask}
 use Rattle.desk_report.specs.Columns.{columns_text}
 use Rattle.desk_report.specs.CsvTable.{table_text}
-use Rattle.desk_report.specs.Lines.{change_text, totals_line}
+use Rattle.desk_report.specs.Lines.{changes_on, totals_line}
 use Rattle.desk_report.specs.Notices.{notices_text}
 use Rattle.desk_report.specs.Terminal.{text_on}
 use Rattle.desk_script.specs.Replies.{Replies}
 use Rattle.desk_script.specs.declared.answer.Reply.TheVariants.{Became}
 use Rattle.desk_subcommands.specs.Filing.{answer_status, outcome_line}
 
--- the text of an answer, if it has one; on a terminal notices are as it shows them, and duties and
--- gaps, else comma-separated values, are in columns
+-- the text of an answer, if it has one; on a terminal notices and changes are as it shows them, and
+-- duties and gaps, else comma-separated values, are in columns
 abbrev pub answer_text : Bool → Answer → Option (List ℕ)
 answer_text is_terminal (Bill bill) = Some (text_on is_terminal (notices_text bill))
 answer_text is_terminal (Duties lines) = Some (if is_terminal then columns_text lines
     else table_text lines)
 answer_text is_terminal (Totals totals) = Some (totals_line totals)
-answer_text is_terminal (Changes rows) = Some (flat_map change_text rows)
+answer_text is_terminal (Changes rows) = Some (changes_on is_terminal rows)
 answer_text is_terminal (Gaps gaps) = Some (gaps_text is_terminal gaps)
 answer_text is_terminal _ = None
 

@@ -17,7 +17,7 @@ ghost use Rattle.desk_views.specs.Showing.{answer_text, Asks, HasFailed, IsShown
 use desk_answers::gaps_text;
 use desk_core::desk::Desk;
 use desk_model::{Answer, Bill, DutyLine, Outcome, Query, Totals};
-use desk_report::{changes_text, duties_columns, duties_csv, notices, notices_shown, totals_text};
+use desk_report::{changes_on, duties_columns, duties_csv, notices, notices_shown, totals_text};
 use desk_subcommands::{Failure, Teller, tell, write_text};
 use std::alloc::{AllocError, Global};
 use std::io::Write;
@@ -64,7 +64,7 @@ fn answer_text(
         Answer::Bill(bill) => Ok(Some(notices_bytes(alloc, bill, is_terminal)?)),
         Answer::Duties(lines) => Ok(Some(duties_table(alloc, lines.as_slice(), is_terminal)?)),
         Answer::Totals(totals) => Ok(Some(totals_bytes(alloc, totals)?)),
-        Answer::Changes(rows) => Ok(Some(changes_text(alloc, rows.as_slice())?)),
+        Answer::Changes(rows) => Ok(Some(changes_on(alloc, rows.as_slice(), is_terminal)?)),
         Answer::Gaps(gaps) => Ok(Some(gaps_text(alloc, gaps.as_slice(), is_terminal)?)),
         _ => Ok(None),
     }
@@ -120,9 +120,9 @@ pub(crate) fn ask_desk<D: Desk>(desk: &mut D, query: &Query) -> Outcome
 
 /// Asks a desk a question and writes the text of its answer: the notices of a bill, the table of
 /// duties, the line of totals, the lines of changes, or the list of gaps. A terminal gets the
-/// notices as it shows them, and tables in columns. Any other answer, such as a refusal, is written as the line of
-/// its reply. Returns the program's status. If the desk fails, both the reply and the failure say
-/// so. The desk is as it was.
+/// notices and the changes as it shows them, and tables in columns. Any other answer, such as a
+/// refusal, is written as the line of its reply. Returns the program's status. If the desk fails,
+/// both the reply and the failure say so. The desk is as it was.
 pub fn show<D: Desk, W: Write, E: Write>(
     alloc: Global,
     desk: &mut D,
