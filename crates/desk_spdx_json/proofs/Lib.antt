@@ -1,2 +1,4 @@
 pub mod Added
+pub mod FileLaws
+pub mod Kept
 pub mod Repeated

@@ -1,5 +1,5 @@
 -- Elements that are written once.
-use Rattle.std.proofs.Common.{◌≡◌, ◌∙◌, ℕ, List, [], ◌∷◌, ◌++◌, Bool, true, false, cond, filter, map}
+use Rattle.std.proofs.Common.{◌≡◌, ◌∙◌, ℕ, List, [], ◌∷◌, ◌++◌, Bool, true, false, cond, map}
 use Rattle.std.proofs.Common.{Option, Some, None, refl, sym, subst, ap, append_assoc}
 use Rattle.std.specs.Option.{option_or}
 use Rattle.std.specs.BTreeMap.{BTreeMap, get_by_text}
@@ -15,16 +15,6 @@ use Rattle.desk_spdx_json.specs.declared.elements.Element.{Element}
 use Rattle.desk_spdx_json.specs.declared.elements.Seen.{Seen}
 use Rattle.desk_spdx_json.specs.Steps.{StepText, lines_in, lines_of}
 use Rattle.desk_spdx_json.specs.Elements.{ElementText, Keeps, Sees, element_text, first_with, kept_if, kept_of, merged_after, read_of, seen_in, seen_text, steps_beside}
-
--- filtered before or after a map
-pub filter_mapped : {A B : Type 0} (f : A → B) (p : B → Bool) (xs : List A)
-    → map f (filter (λ x. p (f x)) xs) ≡ filter p (map f xs)
-filter_mapped f p [] = refl
-filter_mapped f p (x ∷ xs) = step (filter_mapped f p xs) (p (f x)) refl where
-  step : map f (filter (λ y. p (f y)) xs) ≡ filter p (map f xs) → (b : Bool) → p (f x) ≡ b
-      → map f (filter (λ y. p (f y)) (x ∷ xs)) ≡ filter p (map f (x ∷ xs))
-  step more true is = rw is (ap (λ l. f x ∷ l) more)
-  step more false is = rw is more
 
 -- the text of one more step
 pub read_more : (s : StepText) (steps : List StepText)

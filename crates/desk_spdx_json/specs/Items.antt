@@ -5,11 +5,9 @@ use Rattle.desk_spdx_json.specs.declared.items.Item.{Item}
 use Rattle.desk_spdx_json.specs.declared.items.Item.TheVariants as items
 use Rattle.desk_spdx_json.specs.Steps.{StepText}
 use Rattle.desk_spdx_json.specs.Values.{checksum_steps, name_fault, text_steps}
-use Rattle.desk_spdx_json.specs.Parts.{contained_steps}
 
--- a text, a checksum, the name of an excluded file, or the file of a package
+-- a text, a checksum, or the name of an excluded file
 abbrev pub item_steps : Item → List ℕ → Data → List StepText
 item_steps (items.Text tag) = text_steps tag
 item_steps (items.Checksum tag) = checksum_steps tag
 item_steps items.Name = name_fault
-item_steps (items.File id) = contained_steps id.now

@@ -4,5 +4,8 @@ pub mod Elements
 pub mod Members
 pub mod Values
 pub mod Parts
-pub mod Items
 pub mod Documents
+pub mod Kept
+pub mod Files
+pub mod Losses
+pub mod Items

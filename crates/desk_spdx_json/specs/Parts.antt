@@ -88,13 +88,17 @@ contained_steps owner at d = tie_step at owner (codes "CONTAINS") (as_str d) ∷
 
 -- ---- parts
 
--- all but relationships come after a blank line
-abbrev pub package_steps : List ℕ → Data → List StepText
-package_steps at d =
+-- all but relationships come after a blank line; a package by the steps of each file that it lists
+abbrev pub package_by : (List ℕ → List ℕ → Data → List StepText) → List ℕ → Data → List StepText
+package_by contained at d =
     step [] (put blank)
     ∷ (object_steps at package_members d
-    ++ if_array (contained_steps (word_in (codes "SPDXID") d)) (member_at at (codes "hasFiles"))
+    ++ if_array (contained (word_in (codes "SPDXID") d)) (member_at at (codes "hasFiles"))
     (get (codes "hasFiles") d))
+
+-- a blank line, a package and its files
+abbrev pub package_steps : List ℕ → Data → List StepText
+package_steps at d = package_by contained_steps at d
 
 -- a blank line and a file
 abbrev pub file_steps : List ℕ → Data → List StepText
@@ -120,24 +124,37 @@ abbrev pub id_key : Part → List ℕ
 id_key parts.Extracted = codes "licenseId"
 id_key _ = codes "SPDXID"
 
--- a part as an element
-abbrev pub part_element : Part → List ℕ → Data → ElementText
-part_element part at d = record {
+-- the member of the document that lists such parts
+abbrev pub list_key : Part → List ℕ
+list_key parts.File = codes "files"
+list_key parts.Snippet = codes "snippets"
+list_key parts.Package = codes "packages"
+list_key parts.Extracted = codes "hasExtractedLicensingInfos"
+
+-- a part as an element, by the steps of parts
+abbrev pub element_by : (Part → List ℕ → Data → List StepText) → Part → List ℕ → Data → ElementText
+element_by steps part at d = record {
   at = at;
   id = word_in (id_key part) d;
-  steps = part_steps part at d;
+  steps = steps part at d;
 }
+
+-- a part as an element
+abbrev pub part_element : Part → List ℕ → Data → ElementText
+part_element part at d = element_by part_steps part at d
 
 -- a list that is none, as an element without an identifier
 abbrev pub no_list : List ℕ → ElementText
 no_list at = record { at = at; id = []; steps = step at bad_type ∷ [] }
 
--- the elements of a list
-abbrev pub list_elements : Part → List ℕ → Option Items → List ElementText
-list_elements part at None = no_list at ∷ []
-list_elements part at (Some ds) = items_steps (λ place d. part_element part place d ∷ []) at 0 ds
+-- the elements of a list, by what an item is as an element
+abbrev pub list_elements : (List ℕ → Data → ElementText) → List ℕ → Option Items
+    → List ElementText
+list_elements element at None = no_list at ∷ []
+list_elements element at (Some ds) = items_steps (λ place d. element place d ∷ []) at 0 ds
 
 -- the same, if there is such a list
-abbrev pub found_elements : Part → List ℕ → Option Data → List ElementText
-found_elements part at None = []
-found_elements part at (Some d) = list_elements part at (as_array d)
+abbrev pub found_elements : (List ℕ → Data → ElementText) → List ℕ → Option Data
+    → List ElementText
+found_elements element at None = []
+found_elements element at (Some d) = list_elements element at (as_array d)

@@ -1,6 +1,6 @@
 -- The steps of a member's value.
 use Rattle.std.specs.Prelude.{ℕ, ◌+◌, Bool, true, false, List, [], ◌∷◌, ◌++◌, Option, Some, None}
-use Rattle.std.specs.Prelude.{unwrap_or, option_and_then, option_map, codes, if◌then◌else◌}
+use Rattle.std.specs.Prelude.{option_and_then, option_map, codes, if◌then◌else◌}
 use Rattle.desk_fields.specs.declared.tag.Tag.{Tag}
 use Rattle.desk_tagvalue.specs.Drafts.{LineText, one_line, in_text}
 use Rattle.serde_json.specs.Data.{Data, Items, no_items, item}
@@ -11,6 +11,7 @@ use Rattle.desk_spdx_json.specs.declared.members.Form.TheVariants as forms
 use Rattle.desk_spdx_json.specs.Words.{is_word, is_name, is_keyword}
 use Rattle.desk_spdx_json.specs.Steps.{StepText, WhatText, step, put, left_out, missing, bad_type}
 use Rattle.desk_spdx_json.specs.Steps.{bad_value, member_at, item_at}
+pub use Rattle.desk_spdx_files.specs.Texts.{text_or_empty, word_in}
 
 -- ---- texts and flags
 
@@ -68,14 +69,6 @@ found_fault at (Some d) = text_fault at is_word (as_str d)
 -- the same for the member with a key
 abbrev pub word_fault : List ℕ → List ℕ → Data → List StepText
 word_fault at key d = found_fault (member_at at key) (get key d)
-
--- a text, or an empty one if there is none
-abbrev pub text_or_empty : Option (List ℕ) → List ℕ
-text_or_empty text = unwrap_or text []
-
--- the text of a member; empty if it has none, which another step reports
-abbrev pub word_in : List ℕ → Data → List ℕ
-word_in key d = text_or_empty (option_and_then as_str (get key d))
 
 -- a checksum (clause 8.4)
 abbrev pub checksum_line : Tag → Data → LineText

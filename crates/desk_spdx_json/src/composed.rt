@@ -11,20 +11,11 @@ use crate::items::{Item, add_array_in};
 use crate::steps::{Steps, What, member_at};
 use crate::words::{is_name, is_word};
 use desk_fields::Tag;
+use desk_spdx_files::{text_or_empty, word_in};
 use serde_json::Value;
 use std::alloc::{AllocError, Global};
 
 const EXCLUDED_FILES: &str = "packageVerificationCodeExcludedFiles";
-
-/// The text of a member, or an empty one.
-pub fn word_in<'a>(value: &'a Value, key: &str) -> &'a str
-    ensures { result.now ≡ word_in key.now (view value.now) }
-{
-    match value.get(key) {
-        Some(member) => member.as_str().unwrap_or(""),
-        None => "",
-    }
-}
 
 /// Adds what is wrong with a member that must be a word.
 pub(crate) fn add_word_fault(
@@ -95,13 +86,6 @@ fn names_in(value: &Value) -> Option<&Value>
     ensures { option_map (λ v. view v.now) result ≡ names_in (view value.now) }
 {
     value.get(EXCLUDED_FILES)
-}
-
-// The text of a value, or an empty one.
-fn text_or_empty(value: &Value) -> &str
-    ensures { result.now ≡ text_or_empty (as_str (view value.now)) }
-{
-    value.as_str().unwrap_or("")
 }
 
 // The names after the first.

@@ -6,23 +6,22 @@ ghost use Rattle.serde_json.specs.View.{view, items_view};
 ghost use Rattle.desk_base.specs.Borrowed.{texts, texts_in};
 ghost use Rattle.desk_spdx_json.specs.Steps.{member_at};
 ghost use Rattle.desk_spdx_json.specs.Elements.{element_text, merged};
-ghost use Rattle.desk_spdx_json.specs.Parts.{relationship_steps};
 ghost use Rattle.desk_spdx_json.specs.Values.{if_array, items_steps};
-ghost use Rattle.desk_spdx_json.specs.Documents.{creation_steps, all_parts, elements_at, is_describing, target_of, targets_in, targets, described_steps, steps_at, document_steps};
-ghost use Rattle.desk_base.specs.TextSets.{IsSetOf};
+ghost use Rattle.desk_spdx_json.specs.Documents.{creation_steps, all_parts, elements_by, is_describing, target_of, targets_in, targets, described_steps, in_document};
+ghost use Rattle.desk_spdx_json.specs.Files.{steps_in, steps_with};
+ghost use Rattle.desk_spdx_json.specs.Kept.{kept_at, kept_relationship, kept_steps};
+ghost use Rattle.desk_base.specs.TextSets.{IsSetOf, has_text};
 
-use crate::composed::word_in;
 use crate::elements::{Element, merged};
 use crate::members::{CREATION_MEMBERS, DOCUMENT_MEMBERS};
-use crate::parts::{Part, add_no_list, add_object, add_parts, add_relationships};
+use crate::parts::{Part, add_no_list, add_object, add_parts, add_relationships, list_key};
 use crate::steps::{Steps, What, item_at, member_at};
 use crate::ties::add_tie;
 use desk_base::text_set;
+use desk_spdx_files::{DOCUMENT_ID, Files, idle_by, word_in};
 use serde_json::Value;
 use std::alloc::{AllocError, Global};
 use std::collections::BTreeSet;
-
-const DOCUMENT_ID: &str = "SPDXRef-DOCUMENT";
 
 // Adds how the document was created.
 fn add_creation<'a>(
@@ -41,42 +40,44 @@ fn add_creation<'a>(
     }
 }
 
-// Adds the parts in a member of the document.
+// Adds the parts of one kind in the document.
 fn add_list<'a>(
     alloc: Global,
     elements: &mut Vec<Element<'a>>,
     part: Part,
     at: &str,
-    key: &str,
+    idle: &BTreeSet<&str>,
     value: &'a Value,
 ) -> Result<(), AllocError>
-    ensures { OnOk result (map element_text elements.new.items
-        ≡ map element_text elements.old.items ++ all_parts part at.now key.now (view value.now)) }
+    ensures { OnOk result (map element_text elements.new.items ≡ map element_text elements.old.items
+        ++ all_parts (kept_steps (has_text idle.now)) part at.now (view value.now)) }
 {
+    let key = list_key(part);
     let place = member_at(alloc, at, key)?;
     let Some(parts) = value.get(key) else {
         return Ok(());
     };
     match parts.as_array() {
-        Some(list) => add_parts(alloc, elements, part, &place, list.as_slice()),
+        Some(list) => add_parts(alloc, elements, part, &place, idle, list.as_slice()),
         None => add_no_list(alloc, elements, &place),
     }
 }
 
 // The elements of the document.
-fn elements_at<'a>(
+fn elements_by<'a>(
     alloc: Global,
     at: &str,
+    idle: &BTreeSet<&str>,
     value: &'a Value,
 ) -> Result<Vec<Element<'a>>, AllocError>
-    ensures { IfOk result (λ es. map element_text es.items ≡ elements_at at.now (view value.now)) }
+    ensures { IfOk result (λ es. map element_text es.items
+        ≡ elements_by (kept_steps (has_text idle.now)) at.now (view value.now)) }
 {
     let mut found = Vec::new(alloc);
-    add_list(alloc, &mut found, Part::File, at, "files", value)?;
-    add_list(alloc, &mut found, Part::Snippet, at, "snippets", value)?;
-    add_list(alloc, &mut found, Part::Package, at, "packages", value)?;
-    let licences = "hasExtractedLicensingInfos";
-    add_list(alloc, &mut found, Part::Extracted, at, licences, value)?;
+    add_list(alloc, &mut found, Part::File, at, idle, value)?;
+    add_list(alloc, &mut found, Part::Snippet, at, idle, value)?;
+    add_list(alloc, &mut found, Part::Package, at, idle, value)?;
+    add_list(alloc, &mut found, Part::Extracted, at, idle, value)?;
     Ok(found)
 }
 
@@ -85,12 +86,13 @@ fn add_elements<'a>(
     alloc: Global,
     steps: &mut Steps<'a>,
     at: &str,
+    idle: &BTreeSet<&str>,
     value: &'a Value,
 ) -> Result<(), AllocError>
-    ensures { OnOk result (steps.new
-        ≡ steps.old ++ merged (elements_at at.now (view value.now))) }
+    ensures { OnOk result (steps.new ≡ steps.old
+        ++ merged (elements_by (kept_steps (has_text idle.now)) at.now (view value.now))) }
 {
-    let elements = elements_at(alloc, at, value)?;
+    let elements = elements_by(alloc, at, idle, value)?;
     steps.append(merged(alloc, elements)?)
 }
 
@@ -99,18 +101,18 @@ fn add_all_relationships<'a>(
     alloc: Global,
     steps: &mut Steps<'a>,
     at: &str,
+    idle: &BTreeSet<&str>,
     value: &'a Value,
 ) -> Result<(), AllocError>
-    ensures { OnOk result (steps.new ≡ steps.old
-        ++ if_array relationship_steps (member_at at.now (codes "relationships"))
-        (get (codes "relationships") (view value.now))) }
+    ensures { OnOk result (steps.new ≡ steps.old ++ if_array (kept_relationship (has_text idle.now))
+        (member_at at.now (codes "relationships")) (get (codes "relationships") (view value.now))) }
 {
     let place = member_at(alloc, at, "relationships")?;
     let Some(relationships) = value.get("relationships") else {
         return Ok(());
     };
     match relationships.as_array() {
-        Some(list) => add_relationships(alloc, steps, &place, list.as_slice()),
+        Some(list) => add_relationships(alloc, steps, &place, idle, list.as_slice()),
         None => steps.add(alloc, &place, What::BadType),
     }
 }
@@ -217,40 +219,67 @@ fn add_all_described(
     add_described_items(alloc, steps, &place, &listed, list.as_slice())
 }
 
+// Adds the steps of a document at a place, without its idle files.
+fn add_kept<'a>(
+    alloc: Global,
+    steps: &mut Steps<'a>,
+    at: &str,
+    idle: &BTreeSet<&str>,
+    value: &'a Value,
+) -> Result<(), AllocError>
+    ensures { OnOk result (steps.new
+        ≡ steps.old ++ kept_at (has_text idle.now) at.now (view value.now)) }
+{
+    add_object(alloc, steps, at, value, &DOCUMENT_MEMBERS)?;
+    add_creation(alloc, steps, at, value)?;
+    add_elements(alloc, steps, at, idle, value)?;
+    add_all_described(alloc, steps, at, value)?;
+    add_all_relationships(alloc, steps, at, idle, value)
+}
+
 // Adds the steps of a document at a place.
 fn add_document<'a>(
     alloc: Global,
     steps: &mut Steps<'a>,
     at: &str,
+    files: Files,
     value: &'a Value,
 ) -> Result<(), AllocError>
-    ensures { OnOk result (steps.new ≡ steps.old ++ steps_at at.now (view value.now)) }
+    ensures { OnOk result (steps.new ≡ steps.old ++ steps_in files at.now (view value.now)) }
 {
-    add_object(alloc, steps, at, value, &DOCUMENT_MEMBERS)?;
-    add_creation(alloc, steps, at, value)?;
-    add_elements(alloc, steps, at, value)?;
-    add_all_described(alloc, steps, at, value)?;
-    add_all_relationships(alloc, steps, at, value)
+    let idle = idle_by(alloc, files, value)?;
+    add_kept(alloc, steps, at, &idle, value)
 }
 
 // Adds the steps of a document, or of the one in its member `sbom`.
-fn add_steps<'a>(alloc: Global, steps: &mut Steps<'a>, value: &'a Value) -> Result<(), AllocError>
-    ensures { OnOk result (steps.new ≡ steps.old ++ document_steps (view value.now)) }
+fn add_steps<'a>(
+    alloc: Global,
+    steps: &mut Steps<'a>,
+    files: Files,
+    value: &'a Value,
+) -> Result<(), AllocError>
+    ensures { OnOk result (steps.new
+        ≡ steps.old ++ in_document (steps_in files) (view value.now)) }
 {
     if value.get("spdxVersion").is_some() {
-        return add_document(alloc, steps, "", value);
+        return add_document(alloc, steps, "", files, value);
     }
     match value.get("sbom") {
-        Some(inner) => add_document(alloc, steps, "/sbom", inner),
-        None => add_document(alloc, steps, "", value),
+        Some(inner) => add_document(alloc, steps, "/sbom", files, inner),
+        None => add_document(alloc, steps, "", files, value),
     }
 }
 
-/// The steps of a document, in the order of the lines, or `AllocError` if no memory is left.
-pub fn document_steps<'a>(alloc: Global, value: &'a Value) -> Result<Steps<'a>, AllocError>
-    ensures { IfOk result (λ steps. steps ≡ document_steps (view value.now)) }
+/// The steps of a document with these files, in the order of the lines, or `AllocError` if no memory
+/// is left.
+pub fn document_steps<'a>(
+    alloc: Global,
+    value: &'a Value,
+    files: Files,
+) -> Result<Steps<'a>, AllocError>
+    ensures { IfOk result (λ steps. steps ≡ steps_with files (view value.now)) }
 {
     let mut steps = Steps::new(alloc);
-    add_steps(alloc, &mut steps, value)?;
+    add_steps(alloc, &mut steps, files, value)?;
     Ok(steps)
 }

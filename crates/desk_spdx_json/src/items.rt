@@ -9,7 +9,6 @@ ghost use Rattle.desk_spdx_json.specs.Items.{item_steps};
 
 use crate::composed::{add_checksum, add_name_fault};
 use crate::steps::{Steps, What, item_at, member_at};
-use crate::ties::add_tie;
 use crate::values::one_line;
 use desk_fields::Tag;
 use serde_json::Value;
@@ -17,14 +16,12 @@ use std::alloc::{AllocError, Global};
 
 /// What an item of an array is.
 #[derive(Clone, Copy)]
-pub(crate) enum Item<'a> {
+pub(crate) enum Item {
     /// A text, which is written on a line.
     Text(Tag),
     Checksum(Tag),
     /// The name of a file that a verification code excludes; it is only checked.
     Name,
-    /// A file that a package has, by the id of the package.
-    File(&'a str),
 }
 
 // Adds the steps of an item.
@@ -32,17 +29,16 @@ fn add_item<'a>(
     alloc: Global,
     steps: &mut Steps<'a>,
     at: &str,
-    item: Item<'_>,
+    item: Item,
     value: &'a Value,
 ) -> Result<(), AllocError>
     ensures { OnOk result (steps.new
-        ≡ steps.old ++ item_steps item.entry at.now (view value.now)) }
+        ≡ steps.old ++ item_steps item at.now (view value.now)) }
 {
     match item {
         Item::Text(tag) => steps.add(alloc, at, one_line(tag, value)),
         Item::Checksum(tag) => add_checksum(alloc, steps, at, tag, value),
         Item::Name => add_name_fault(alloc, steps, at, value),
-        Item::File(package) => add_tie(alloc, steps, at, package, "CONTAINS", value),
     }
 }
 
@@ -51,11 +47,11 @@ fn add_items<'a>(
     alloc: Global,
     steps: &mut Steps<'a>,
     at: &str,
-    item: Item<'_>,
+    item: Item,
     list: &'a [Value],
 ) -> Result<(), AllocError>
     ensures { OnOk result (steps.new
-        ≡ steps.old ++ items_steps (item_steps item.entry) at.now 0 (items_view list.now)) }
+        ≡ steps.old ++ items_steps (item_steps item) at.now 0 (items_view list.now)) }
 {
     for (i, value) in list.iter().enumerate() {
         let place = item_at(alloc, at, i)?;
@@ -69,11 +65,11 @@ pub(crate) fn add_array<'a>(
     alloc: Global,
     steps: &mut Steps<'a>,
     at: &str,
-    item: Item<'_>,
+    item: Item,
     value: &'a Value,
 ) -> Result<(), AllocError>
     ensures { OnOk result (steps.new
-        ≡ steps.old ++ in_array (item_steps item.entry) at.now (as_array (view value.now))) }
+        ≡ steps.old ++ in_array (item_steps item) at.now (as_array (view value.now))) }
 {
     match value.as_array() {
         Some(list) => add_items(alloc, steps, at, item, list.as_slice()),
@@ -87,11 +83,11 @@ pub(crate) fn add_array_in<'a>(
     steps: &mut Steps<'a>,
     at: &str,
     key: &str,
-    item: Item<'_>,
+    item: Item,
     value: &'a Value,
 ) -> Result<(), AllocError>
     ensures { OnOk result (steps.new ≡ steps.old
-        ++ if_array (item_steps item.entry) (member_at at.now key.now)
+        ++ if_array (item_steps item) (member_at at.now key.now)
         (get key.now (view value.now))) }
 {
     let Some(array) = value.get(key) else {

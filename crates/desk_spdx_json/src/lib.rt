@@ -9,14 +9,19 @@
 //! - `specs/Members.antt` lists the members of each object and the field of each (clauses 6 to 11).
 //! - `specs/Values.antt`, `specs/Parts.antt` and `specs/Documents.antt` give the steps of a
 //!   member's value, of a part and of a document.
+//! - `specs/Kept.antt` and `specs/Files.antt` say what stays without idle files, which
+//!   `desk_spdx_files` finds: they are left out with the relationships that name them. `laws` says
+//!   that nothing else is.
 //!
-//! The time is linear in the value.
+//! The time is linear in the value, but for the order of identifiers.
 #![tactic(auto)]
 
 mod composed;
+mod contained;
 mod documents;
 mod elements;
 mod items;
+pub mod laws;
 mod members;
 mod parts;
 mod steps;
@@ -24,7 +29,7 @@ mod ties;
 mod values;
 mod words;
 
-pub use composed::word_in;
+pub use desk_spdx_files::{Files, word_in};
 pub use documents::document_steps;
 pub use elements::{Element, merged};
 pub use members::{Form, Member};

@@ -1,6 +1,6 @@
 //! The steps of a document's parts.
 
-ghost use Rattle.std.specs.Prelude.{◌≡◌, ◌++◌, ◌∷◌, [], IfOk, OnOk, map};
+ghost use Rattle.std.specs.Prelude.{◌≡◌, ◌++◌, ◌∷◌, [], IfOk, OnOk, Some, map};
 ghost use Rattle.std.specs.List.{flat_map};
 ghost use Rattle.std.specs.String.{string_bytes};
 ghost use Rattle.serde_json.specs.View.{view, items_view, members_view};
@@ -10,11 +10,13 @@ ghost use Rattle.desk_spdx_json.specs.Steps.{step, put};
 ghost use Rattle.desk_spdx_json.specs.Elements.{element_text};
 ghost use Rattle.desk_spdx_json.specs.Members.{member_text};
 ghost use Rattle.desk_spdx_json.specs.Values.{items_steps};
-ghost use Rattle.desk_spdx_json.specs.Parts.{member_steps, is_known, unknown_step, unknown_steps, object_steps, words_of, relationship_steps, part_steps, part_element, id_key, no_list};
+ghost use Rattle.desk_spdx_json.specs.Parts.{member_steps, is_known, unknown_step, unknown_steps, object_steps, words_of, relationship_steps, element_by, list_elements, id_key, list_key, no_list};
+ghost use Rattle.desk_base.specs.TextSets.{has_text};
+ghost use Rattle.desk_spdx_json.specs.Kept.{kept_relationship, kept_steps};
 
-use crate::composed::{add_word_fault, word_in};
+use crate::composed::add_word_fault;
+use crate::contained::add_contents;
 use crate::elements::Element;
-use crate::items::{Item, add_array_in};
 use crate::members::{
     EXTRACTED_MEMBERS, FILE_MEMBERS, Member, PACKAGE_MEMBERS, RELATIONSHIP_MEMBERS, SNIPPET_MEMBERS,
 };
@@ -22,8 +24,10 @@ use crate::steps::{Kind, Steps, What, item_at, member_at};
 use crate::ties::relationship_text;
 use crate::values::add_value;
 use desk_fields::Tag;
+use desk_spdx_files::word_in;
 use serde_json::{Map, Value};
 use std::alloc::{AllocError, Global};
+use std::collections::BTreeSet;
 
 /// A kind of part.
 #[derive(Clone, Copy)]
@@ -188,14 +192,31 @@ fn add_package<'a>(
     alloc: Global,
     steps: &mut Steps<'a>,
     at: &str,
+    idle: &BTreeSet<&str>,
     value: &'a Value,
 ) -> Result<(), AllocError>
-    ensures { OnOk result (steps.new
-        ≡ steps.old ++ part_steps parts.Package at.now (view value.now)) }
+    ensures { OnOk result (steps.new ≡ steps.old
+        ++ kept_steps (has_text idle.now) parts.Package at.now (view value.now)) }
 {
     add_element(alloc, steps, at, value, &PACKAGE_MEMBERS)?;
-    let files = Item::File(word_in(value, "SPDXID"));
-    add_array_in(alloc, steps, at, "hasFiles", files, value)
+    add_contents(alloc, steps, at, idle, value)
+}
+
+// Adds a file, or that it is left out.
+fn add_file<'a>(
+    alloc: Global,
+    steps: &mut Steps<'a>,
+    at: &str,
+    idle: &BTreeSet<&str>,
+    value: &'a Value,
+) -> Result<(), AllocError>
+    ensures { OnOk result (steps.new ≡ steps.old
+        ++ kept_steps (has_text idle.now) parts.File at.now (view value.now)) }
+{
+    if idle.contains(word_in(value, "SPDXID")) {
+        return steps.add(alloc, at, What::LeftOut(Kind::File));
+    }
+    add_element(alloc, steps, at, value, &FILE_MEMBERS)
 }
 
 // Adds a part.
@@ -204,14 +225,16 @@ fn add_part<'a>(
     steps: &mut Steps<'a>,
     part: Part,
     at: &str,
+    idle: &BTreeSet<&str>,
     value: &'a Value,
 ) -> Result<(), AllocError>
-    ensures { OnOk result (steps.new ≡ steps.old ++ part_steps part at.now (view value.now)) }
+    ensures { OnOk result (steps.new
+        ≡ steps.old ++ kept_steps (has_text idle.now) part at.now (view value.now)) }
 {
     match part {
-        Part::File => add_element(alloc, steps, at, value, &FILE_MEMBERS),
+        Part::File => add_file(alloc, steps, at, idle, value),
         Part::Snippet => add_element(alloc, steps, at, value, &SNIPPET_MEMBERS),
-        Part::Package => add_package(alloc, steps, at, value),
+        Part::Package => add_package(alloc, steps, at, idle, value),
         Part::Extracted => add_element(alloc, steps, at, value, &EXTRACTED_MEMBERS),
     }
 }
@@ -226,19 +249,32 @@ fn id_key(part: Part) -> &'static str
     }
 }
 
+/// The member of a document that lists such parts.
+pub(crate) fn list_key(part: Part) -> &'static str
+    ensures { result.now ≡ list_key part }
+{
+    match part {
+        Part::File => "files",
+        Part::Snippet => "snippets",
+        Part::Package => "packages",
+        Part::Extracted => "hasExtractedLicensingInfos",
+    }
+}
+
 // A part as an element.
 fn element_of<'a>(
     alloc: Global,
     part: Part,
     at: String,
+    idle: &BTreeSet<&str>,
     value: &'a Value,
 ) -> Result<Element<'a>, AllocError>
     ensures { IfOk result (λ e. element_text e
-        ≡ part_element part (string_bytes at) (view value.now)) }
+        ≡ element_by (kept_steps (has_text idle.now)) part (string_bytes at) (view value.now)) }
 {
     let id = String::from_str(alloc, word_in(value, id_key(part)))?;
     let mut steps = Steps::new(alloc);
-    add_part(alloc, &mut steps, part, at.as_str(), value)?;
+    add_part(alloc, &mut steps, part, at.as_str(), idle, value)?;
     Ok(Element { at, id, steps })
 }
 
@@ -265,32 +301,53 @@ pub(crate) fn add_parts<'a>(
     elements: &mut Vec<Element<'a>>,
     part: Part,
     at: &str,
+    idle: &BTreeSet<&str>,
     list: &'a [Value],
 ) -> Result<(), AllocError>
-    ensures { OnOk result (map element_text elements.new.items
-        ≡ map element_text elements.old.items
-        ++ items_steps (λ place d. part_element part place d ∷ []) at.now 0 (items_view list.now)) }
+    ensures { OnOk result (map element_text elements.new.items ≡ map element_text elements.old.items
+        ++ list_elements (element_by (kept_steps (has_text idle.now)) part) at.now
+        (Some (items_view list.now))) }
 {
     for (i, value) in list.iter().enumerate() {
         let place = item_at(alloc, at, i)?;
-        elements.push(element_of(alloc, part, place, value)?)?;
+        elements.push(element_of(alloc, part, place, idle, value)?)?;
     }
     Ok(())
 }
 
-/// Adds each relationship of a list.
+// Adds a relationship, unless an idle file is at one of its ends.
+fn add_kept_relationship<'a>(
+    alloc: Global,
+    steps: &mut Steps<'a>,
+    at: &str,
+    idle: &BTreeSet<&str>,
+    value: &'a Value,
+) -> Result<(), AllocError>
+    ensures { OnOk result (steps.new
+        ≡ steps.old ++ kept_relationship (has_text idle.now) at.now (view value.now)) }
+{
+    let left = word_in(value, "spdxElementId");
+    let right = word_in(value, "relatedSpdxElement");
+    if idle.contains(left) || idle.contains(right) {
+        return Ok(());
+    }
+    add_relationship(alloc, steps, at, value)
+}
+
+/// Adds each relationship of a list that has no idle file.
 pub(crate) fn add_relationships<'a>(
     alloc: Global,
     steps: &mut Steps<'a>,
     at: &str,
+    idle: &BTreeSet<&str>,
     list: &'a [Value],
 ) -> Result<(), AllocError>
-    ensures { OnOk result (steps.new
-        ≡ steps.old ++ items_steps relationship_steps at.now 0 (items_view list.now)) }
+    ensures { OnOk result (steps.new ≡ steps.old
+        ++ items_steps (kept_relationship (has_text idle.now)) at.now 0 (items_view list.now)) }
 {
     for (i, value) in list.iter().enumerate() {
         let place = item_at(alloc, at, i)?;
-        add_relationship(alloc, steps, &place, value)?;
+        add_kept_relationship(alloc, steps, &place, idle, value)?;
     }
     Ok(())
 }

@@ -19,6 +19,8 @@ pub enum Kind {
     ExternalReference,
     /// Any other member of an object.
     Field,
+    /// A file without which nothing that ships changes.
+    File,
 }
 
 /// What is done.

@@ -3,7 +3,7 @@ use Rattle.std.specs.Prelude.{not}
 use Rattle.std.proofs.lemmas.Fn.{filter_same}
 use Rattle.desk_spdx_json.specs.declared.steps.Step.{Step}
 use Rattle.desk_spdx_json.specs.Steps.{is_line, step_text}
-use Rattle.desk_spdx_json.proofs.Repeated.{filter_mapped}
+use Rattle.desk_spdx_files.proofs.Added.{filter_mapped}
 use Rattle.desk_spdx_json.proofs.steps.drop_lines.Goals as goal
 
 pub returns : goal.returns
