@@ -1,6 +1,10 @@
 pub mod StepLemmas
 pub mod ResultLemmas
 mod Standings
+mod WalkLemmas
+mod WrittenFields
+mod DistinctLemmas
+mod IntakeLemmas
 mod Lines
 mod WordLemmas
 mod Plain

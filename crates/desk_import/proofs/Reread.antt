@@ -15,6 +15,8 @@ use Rattle.desk_tagvalue.specs.Written.{Stands, fields_of_lines}
 use Rattle.desk_tagvalue.proofs.LinesReread.{lines_again}
 use Rattle.desk_tagvalue.proofs.ReadLemmas.{spells_once}
 use Rattle.desk_fields.specs.Cutting.{Reads}
+use Rattle.desk_spdx_files.specs.declared.idle.Files.{Files}
+use Rattle.desk_spdx_files.specs.declared.idle.Files.TheVariants as files
 use Rattle.desk_spdx_json.specs.Documents.{document_steps}
 use Rattle.desk_import.specs.Results.{IsConverted, json_of, steps_of}
 use Rattle.desk_spdx_json.specs.Steps.{lines_of}
@@ -25,11 +27,12 @@ use Rattle.desk_import.proofs.ResultLemmas.{all_stand, fields_again, unmarked}
 use Rattle.desk_import.proofs.SaidLines.{lines_said}
 use Rattle.desk_import.proofs.SaidSteps.{document_lined}
 
-pub conversion_read : (bytes : List ℕ) (c : Converted) → IsConverted bytes c
+pub conversion_read : (wanted : Files) (bytes : List ℕ) (c : Converted)
+    → IsConverted wanted bytes c
     → length (string_bytes c.text) ≤ document_bytes → (d : Data) × (json_of bytes ≡ Some d)
-    × Spells (string_bytes c.text) (judged (entries_of (steps_of d)))
-conversion_read bytes c is small =
-    let steps = steps_of is.1 in (
+    × Spells (string_bytes c.text) (judged (entries_of (steps_of wanted d)))
+conversion_read wanted bytes c is small =
+    let steps = steps_of wanted is.1 in (
       is.1,
       is.2,
       fields (string_bytes c.text) (fields_of_lines 1 (lines_of steps)) small
@@ -78,15 +81,16 @@ value_in : (o : Option Data) (a b : Data) → o ≡ Some a → o ≡ Some b → 
 value_in o a b is also = let both : Some a ≡ Some b = sym is ∙ also in cc
 
 pub conversion_said : (bytes : List ℕ) (c : Converted) (d : DocumentSaid) (x : DocumentText)
-    → IsNormal d → AreDistinct (element_ids d) → json_of bytes ≡ Some (document_object d) → IsConverted bytes c
+    → IsNormal d → AreDistinct (element_ids d) → json_of bytes ≡ Some (document_object d)
+    → IsConverted files.All bytes c
     → Spells (string_bytes c.text) (Ok x) → IsSaid d x
 conversion_said bytes c d x n distinct is converted spells =
     let made = converted.3 in
-    let lines : lines_of (steps_of converted.1) ≡ document_lines d =
-    ap (λ v. lines_of (steps_of v))
+    let lines : lines_of (steps_of files.All converted.1) ≡ document_lines d =
+    ap (λ v. lines_of (steps_of files.All v))
     (value_in (json_of bytes) converted.1 (document_object d) converted.2 is)
     ∙ document_lined d n distinct in
     let text : string_bytes c.text ≡ text_of_lines (document_lines d) =
     made.text ∙ ap text_of_lines lines in
-    read_back d x n (subst (All Stands) lines (all_stand (steps_of converted.1) made.pass))
+    read_back d x n (subst (All Stands) lines (all_stand (steps_of files.All converted.1) made.pass))
     (subst (λ t. Spells t (Ok x)) text spells)

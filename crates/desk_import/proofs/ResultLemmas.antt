@@ -16,9 +16,10 @@ use Rattle.desk_tagvalue.proofs.LinesReread.{lines_again}
 use Rattle.desk_tagvalue.proofs.WriteLemmas.{mark_behind}
 use Rattle.desk_import.specs.declared.faults.ConvertFault.{ConvertFault}
 use Rattle.desk_import.specs.declared.faults.ConvertFault.TheVariants as faults
+use Rattle.desk_spdx_files.specs.declared.idle.Files.{Files}
 use Rattle.desk_spdx_json.specs.Steps.{StepText, WhatText, put, left_out, missing, bad_type, bad_value}
 use Rattle.desk_spdx_json.specs.Steps.{differs}
-use Rattle.desk_import.specs.Results.{Goes, Passes, FailsAt, FailsFirst, IsRefused, json_bytes, json_in, json_of, steps_of}
+use Rattle.desk_import.specs.Results.{Goes, Passes, FailsAt, FailsFirst, IsRefused, IsUnread, json_bytes, json_in, json_of, steps_of}
 use Rattle.desk_spdx_json.specs.Steps.{line_in, lines_of}
 
 -- ---- the value of a text
@@ -53,27 +54,40 @@ not_json at bad_type h = cc
 not_json at bad_value h = cc
 not_json at (differs first) h = cc
 
-pub refused : (bytes : List ℕ) (d : Data) (fault : ConvertFault) → length bytes ≤ json_bytes
-    → json_of bytes ≡ Some d → (fault ≡ faults.Memory) ⊎ FailsFirst (steps_of d) fault
-    → (fault ≡ faults.Memory) ⊎ IsRefused bytes fault
-refused bytes d fault few is (inl m) = inl m
-refused bytes d faults.Memory few is (inr f) = inl refl
-refused bytes d faults.TooLarge few is (inr f) =
+pub refused : (wanted : Files) (bytes : List ℕ) (d : Data) (fault : ConvertFault) → length bytes ≤ json_bytes
+    → json_of bytes ≡ Some d → (fault ≡ faults.Memory) ⊎ FailsFirst (steps_of wanted d) fault
+    → (fault ≡ faults.Memory) ⊎ IsRefused wanted bytes fault
+refused wanted bytes d fault few is (inl m) = inl m
+refused wanted bytes d faults.Memory few is (inr f) = inl refl
+refused wanted bytes d faults.TooLarge few is (inr f) =
     absurd (too_large f.failing.at f.failing.what f.fails)
-refused bytes d faults.NotJson few is (inr f) =
+refused wanted bytes d faults.NotJson few is (inr f) =
     absurd (not_json f.failing.at f.failing.what f.fails)
-refused bytes d (faults.Missing at) few is (inr f) = inr (few, d, is, f)
-refused bytes d (faults.BadType at) few is (inr f) = inr (few, d, is, f)
-refused bytes d (faults.BadValue at) few is (inr f) = inr (few, d, is, f)
-refused bytes d (faults.Differs at first) few is (inr f) = inr (few, d, is, f)
+refused wanted bytes d (faults.Missing at) few is (inr f) = inr (few, d, is, f)
+refused wanted bytes d (faults.BadType at) few is (inr f) = inr (few, d, is, f)
+refused wanted bytes d (faults.BadValue at) few is (inr f) = inr (few, d, is, f)
+refused wanted bytes d (faults.Differs at first) few is (inr f) = inr (few, d, is, f)
 
 -- bytes that are no JSON
 pub refused_json : (bytes : List ℕ) (fault : ConvertFault) → length bytes ≤ json_bytes
     → (fault ≡ faults.Memory) ⊎ ((fault ≡ faults.NotJson) × (json_of bytes ≡ None))
-    → (fault ≡ faults.Memory) ⊎ IsRefused bytes fault
+    → (fault ≡ faults.Memory) ⊎ IsUnread bytes fault
 refused_json bytes fault few (inl m) = inl m
 refused_json bytes fault few (inr none) =
-    inr (subst (IsRefused bytes) (sym none.0) (few, none.1))
+    inr (subst (IsUnread bytes) (sym none.0) (few, none.1))
+
+-- bytes that aren't read are refused
+pub unread : (wanted : Files) (bytes : List ℕ) (fault : ConvertFault)
+    → (fault ≡ faults.Memory) ⊎ IsUnread bytes fault
+    → (fault ≡ faults.Memory) ⊎ IsRefused wanted bytes fault
+unread wanted bytes fault (inl m) = inl m
+unread wanted bytes faults.Memory (inr h) = absurd h
+unread wanted bytes faults.TooLarge (inr h) = inr h
+unread wanted bytes faults.NotJson (inr h) = inr h
+unread wanted bytes (faults.Missing at) (inr h) = absurd h
+unread wanted bytes (faults.BadType at) (inr h) = absurd h
+unread wanted bytes (faults.BadValue at) (inr h) = absurd h
+unread wanted bytes (faults.Differs at first) (inr h) = absurd h
 
 -- ---- the text is read as the fields of its lines
 

@@ -1,5 +1,8 @@
 pub mod Results
 pub mod Inputs
+pub mod Places
+pub mod Placed
+pub mod Elsewhere
 pub mod Intakes
 pub mod Said
 pub mod Summaries

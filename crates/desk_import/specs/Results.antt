@@ -17,7 +17,9 @@ use Rattle.desk_import.specs.declared.converting.Converted.{Converted}
 use Rattle.desk_spdx_json.specs.Steps.{StepText, WhatText, put, left_out, missing, bad_type, bad_value}
 use Rattle.desk_spdx_json.specs.Steps.{differs, lines_of}
 use Rattle.desk_cyclonedx.specs.Boms.{bom_steps, is_bom}
-use Rattle.desk_spdx_json.specs.Documents.{document_steps}
+use Rattle.desk_spdx_files.specs.declared.idle.Files.{Files}
+use Rattle.desk_spdx_files.specs.declared.idle.Files.TheVariants as files
+use Rattle.desk_spdx_json.specs.Files.{steps_with}
 
 -- a step passes: its line is read back from its text, or something is left out
 abbrev pub Goes : WhatText → Type 0
@@ -68,6 +70,7 @@ kind_number kinds.ExternalDocument = 1
 kind_number kinds.Annotation = 2
 kind_number kinds.ExternalReference = 3
 kind_number kinds.Field = 4
+kind_number kinds.File = 5
 
 -- something of this kind is left out
 abbrev pub is_of_kind : Kind → WhatText → Bool
@@ -82,13 +85,19 @@ is_left kind s = is_of_kind kind s.what
 abbrev pub count_left : Kind → List StepText → ℕ
 count_left kind steps = count_by (is_left kind) steps
 
+-- how many files are left out, if that is asked for
+abbrev pub files_left : Files → List StepText → Option ℕ
+files_left files.All steps = None
+files_left files.Needed steps = Some (count_left kinds.File steps)
+
 -- how much is left out, by kind
-abbrev pub skipped_of : List StepText → Skipped
-skipped_of steps = record {
+abbrev pub skipped_of : Files → List StepText → Skipped
+skipped_of wanted steps = record {
   external_documents = count_left kinds.ExternalDocument steps;
   annotations = count_left kinds.Annotation steps;
   external_references = count_left kinds.ExternalReference steps;
   fields = count_left kinds.Field steps;
+  files = files_left wanted steps;
 }
 
 -- ---- the whole
@@ -105,30 +114,41 @@ json_in bytes = if is_utf8 bytes then read bytes else None
 abbrev pub json_of : List ℕ → Option Data
 json_of bytes = json_in (behind_mark bytes)
 
--- the steps of a document, by its form: CycloneDX, or else SPDX
-abbrev pub steps_of : Data → List StepText
-steps_of d = if is_bom d then bom_steps d else document_steps d
+-- the bytes are the JSON text of a value, within the limit
+abbrev pub IsJson : List ℕ → Data → Type 0
+IsJson bytes d = (length bytes ≤ json_bytes) × (json_of bytes ≡ Some d)
+
+-- the steps of a document with these files, by its form: CycloneDX, which lists no files, or else
+-- SPDX
+abbrev pub steps_of : Files → Data → List StepText
+steps_of wanted d = if is_bom d then bom_steps d else steps_with wanted d
 
 -- the text of all lines, and how much is left out; no step fails
-pub record IsOf (steps : List StepText) (c : Converted) : Type 0 where
+pub record IsOf (wanted : Files) (steps : List StepText) (c : Converted) : Type 0 where
   pub text : string_bytes c.text ≡ text_of_lines (lines_of steps)
   pub pass : All Passes steps
-  pub skipped : c.skipped ≡ skipped_of steps
+  pub skipped : c.skipped ≡ skipped_of wanted steps
 
 -- the bytes are JSON within the limit, and its steps give the text
-abbrev pub IsConverted : List ℕ → Converted → Type 0
-IsConverted bytes c = (length bytes ≤ json_bytes) × (d : Data) × (json_of bytes ≡ Some d)
-    × IsOf (steps_of d) c
+abbrev pub IsConverted : Files → List ℕ → Converted → Type 0
+IsConverted wanted bytes c = (length bytes ≤ json_bytes) × (d : Data) × (json_of bytes ≡ Some d)
+    × IsOf wanted (steps_of wanted d) c
 
 -- the text is read as the fields of the lines, in order, and as no others
-abbrev pub AreFields : List ℕ → List ℕ → Type 0
-AreFields bytes text = (d : Data) × (json_of bytes ≡ Some d)
-    × Reads 1 (behind_mark text) (Ok (fields_of_lines 1 (lines_of (steps_of d))))
+abbrev pub AreFields : Files → List ℕ → List ℕ → Type 0
+AreFields wanted bytes text = (d : Data) × (json_of bytes ≡ Some d)
+    × Reads 1 (behind_mark text) (Ok (fields_of_lines 1 (lines_of (steps_of wanted d))))
+
+-- the bytes are too many, or no JSON
+abbrev pub IsUnread : List ℕ → ConvertFault → Type 0
+IsUnread bytes faults.TooLarge = json_bytes < length bytes
+IsUnread bytes faults.NotJson = (length bytes ≤ json_bytes) × (json_of bytes ≡ None)
+IsUnread bytes fault = ⊥
 
 -- the bytes are too many, or no JSON, or some step of the document fails
-abbrev pub IsRefused : List ℕ → ConvertFault → Type 0
-IsRefused bytes faults.Memory = ⊥
-IsRefused bytes faults.TooLarge = json_bytes < length bytes
-IsRefused bytes faults.NotJson = (length bytes ≤ json_bytes) × (json_of bytes ≡ None)
-IsRefused bytes fault = (length bytes ≤ json_bytes) × (d : Data) × (json_of bytes ≡ Some d)
-    × FailsFirst (steps_of d) fault
+abbrev pub IsRefused : Files → List ℕ → ConvertFault → Type 0
+IsRefused wanted bytes faults.Memory = ⊥
+IsRefused wanted bytes faults.TooLarge = json_bytes < length bytes
+IsRefused wanted bytes faults.NotJson = (length bytes ≤ json_bytes) × (json_of bytes ≡ None)
+IsRefused wanted bytes fault = (length bytes ≤ json_bytes) × (d : Data)
+    × (json_of bytes ≡ Some d) × FailsFirst (steps_of wanted d) fault

@@ -9,6 +9,7 @@ use Rattle.desk_bom.specs.Shipping.{AreShippingMarks}
 use Rattle.desk_findings.specs.Fields.{is_no_licence}
 use Rattle.desk_findings.specs.Findings.{AreFindings}
 use Rattle.desk_model.specs.FindingKinds.{kind_number}
+use Rattle.desk_import.specs.Elsewhere.{elsewhere_count}
 use Rattle.desk_import.specs.declared.summary.Standing.{Standing}
 use Rattle.desk_import.specs.declared.summary.Standing.TheVariants.{Aside, Concluded, Declared, Neither}
 use Rattle.desk_import.specs.declared.summary.Summary.{Summary}
@@ -40,11 +41,13 @@ standings_of reads [] marks = []
 standings_of reads (p ∷ ps) marks = standing_of reads p (slice_index_or marks 0 false)
     ∷ standings_of reads ps (drop 1 marks)
 
--- a summary has the standing of each package of a document, and all findings
+-- a summary has the standing of each package of a document, how many elements of other documents
+-- ship with it, and all findings
 abbrev pub IsSummary : (List ℕ → Option Tree) → DocumentText → Summary → Type 0
 IsSummary reads d s =
     ((marks : List Bool) × AreShippingMarks d marks
-    × (s.standings.items ≡ standings_of reads d.packages marks))
+    × (s.standings.items ≡ standings_of reads d.packages marks)
+    × (s.elsewhere ≡ elsewhere_count d marks))
     × AreFindings reads d s.findings.items
 
 -- two standings are the same

@@ -1,6 +1,7 @@
 //! Why a document isn't converted.
 
 use desk_base::Text;
+use std::alloc::AllocError;
 
 /// Why a document isn't converted. A place is a JSON pointer (RFC 6901), which is empty for the
 /// whole value.
@@ -20,4 +21,15 @@ pub enum ConvertFault {
     BadValue(Text),
     /// An element has the identifier of another one, at the second place, and doesn't say the same.
     Differs(Text, Text),
+}
+
+impl From<AllocError> for ConvertFault {
+    ghost use Rattle.std.specs.Prelude.{◌≡◌};
+    ghost use Rattle.desk_import.specs.declared.faults.ConvertFault.TheVariants.{Memory};
+
+    ghost from_gives = { λ error fault. fault ≡ Memory };
+
+    fn from(_error: AllocError) -> ConvertFault {
+        ConvertFault::Memory
+    }
 }

@@ -16,25 +16,33 @@
 //! much as shows that it is too large (`specs/Inputs.antt`).
 //!
 //! `intake_of` decides what is imported of the bytes of a file (`specs/Intakes.antt`): what `read`
-//! takes as it is, and anything else as what it converts to, if it is a document in JSON.
+//! takes as it is, and anything else as what it converts to, if it is a document in JSON. What in
+//! such a document isn't as the standard has it is reported with its place there: that of the step
+//! that wrote the line (`specs/Places.antt`, `specs/Placed.antt`).
 //!
 //! `summary_of` says how many packages a document has and ships, which of these have a conclusion
-//! of their own, and what in the document isn't as the standard has it (`specs/Summaries.antt`). A
-//! `Summary` prints as two lines. `proposals_of` proposes the declared licence of each package that
-//! has no conclusion of its own (`specs/Proposals.antt`).
+//! of their own, how many elements of other documents ship with them (`specs/Elsewhere.antt`), and
+//! what in the document isn't as the standard has it (`specs/Summaries.antt`). A `Summary` prints as
+//! two lines, one more if elements of other documents ship, and those that list findings.
+//! `proposals_of` proposes the declared licence of each package that has no conclusion of its own
+//! (`specs/Proposals.antt`).
 #![tactic(auto)]
 
 mod converting;
+mod elsewhere;
 mod faults;
 mod input;
 mod intake;
 pub mod laws;
 mod licences;
+mod placed;
 mod proposals;
 mod summary;
+mod walk;
 mod writing;
 
 pub use converting::{Converted, Skipped, convert};
+pub use desk_spdx_json::Files;
 pub use faults::ConvertFault;
 pub use input::{read_input, read_text};
 pub use intake::{Intake, Origin, intake_of};

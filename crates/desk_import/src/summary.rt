@@ -1,12 +1,14 @@
 //! The standings of a document's packages, and its findings.
 
-ghost use Rattle.std.specs.Prelude.{◌≡◌, ℕ, List, IfOk, Option, count_by, map};
+ghost use Rattle.std.specs.Prelude.{◌≡◌, ℕ, [], List, IfOk, Option, count_by, map};
+ghost use Rattle.std.specs.String.{string_bytes};
 ghost use Rattle.desk_expr.specs.Tree.{Tree};
 ghost use Rattle.desk_findings.specs.Fields.{IsReading};
 ghost use Rattle.desk_tagvalue.specs.Documents.{document_text};
 ghost use Rattle.desk_tagvalue.specs.Views.{package_text};
 ghost use Rattle.desk_import.specs.Summaries.{IsSummary, kind_count, same_standing, standing_count, standing_of, standings_of};
 
+use crate::elsewhere::elsewhere_count;
 use crate::licences::{is_declared, is_licence};
 use desk_base::Profile;
 use desk_bom::{first_mark, ships};
@@ -28,14 +30,19 @@ pub enum Standing {
     Neither,
 }
 
-/// What a desk finds in a document: the standing of each of its packages, and what in it isn't as
-/// the standard has it.
+/// What a desk finds in a document: the standing of each of its packages, what ships with them from
+/// other documents, and what in it isn't as the standard has it.
 #[derive(Drop)]
 pub struct Summary {
     /// The standing of each package, in the order of the document.
     pub standings: Vec<Standing>,
+    /// How many elements of other documents ship with the packages that ship.
+    pub elsewhere: usize,
     /// What isn't as the standard has it, by line.
     pub findings: Vec<Finding>,
+    /// Lines with the first findings and their places in the document in JSON that this one was
+    /// converted from, each behind a line end; empty if it wasn't converted.
+    pub listed: String,
 }
 
 /// The kinds of findings. All missing fields are of one kind.
@@ -141,8 +148,9 @@ pub fn summary_of(
     document: &Document<'_>,
     profile: Profile,
 ) -> Result<Summary, AllocError>
-    ensures { (reads : List ℕ → Option Tree) → IsReading profile reads
+    ensures found { (reads : List ℕ → Option Tree) → IsReading profile reads
         → IfOk result (IsSummary reads (document_text document.now)) }
+    ensures unlisted { IfOk result (λ s. string_bytes s.listed ≡ []) }
 {
     let marks = ships(alloc, document)?;
     let standings = standings_of(
@@ -151,10 +159,13 @@ pub fn summary_of(
         marks.as_slice(),
         profile,
     )?;
+    let elsewhere = elsewhere_count(alloc, document, marks.as_slice())?;
     let findings = findings_in(alloc, document, profile)?;
     Ok(Summary {
         standings,
+        elsewhere,
         findings,
+        listed: String::new(alloc),
     })
 }
 
@@ -171,6 +182,17 @@ impl Summary {
         write!(f, ", of these with a declared licence: {declared}")
     }
 
+    fn write_elsewhere<W: fmt::Write>(&self, f: &mut fmt::Formatter<W>) -> fmt::Result {
+        let count = self.elsewhere;
+        if count > 0 {
+            write!(
+                f,
+                "\nelements of other documents that ship: {count} (import those documents too)"
+            )?;
+        }
+        Ok(())
+    }
+
     fn write_kinds<W: fmt::Write>(&self, f: &mut fmt::Formatter<W>) -> fmt::Result {
         for kind in KINDS {
             let (count, name) = (self.kind_count(kind.number()), kind.name());
@@ -185,8 +207,10 @@ impl Summary {
 impl fmt::Display for Summary {
     fn fmt<W: fmt::Write>(&self, f: &mut fmt::Formatter<W>) -> fmt::Result {
         self.write_packages(f)?;
+        self.write_elsewhere(f)?;
         let findings = self.findings.len();
         write!(f, "\nfindings: {findings}")?;
-        self.write_kinds(f)
+        self.write_kinds(f)?;
+        f.write_str(self.listed.as_str())
     }
 }
