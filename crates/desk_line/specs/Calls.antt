@@ -61,6 +61,10 @@ is_true (Some value) = bytes_eq value (codes "true")
 abbrev pub is_explained : List Row → Bool
 is_explained rows = is_true (first_of (codes "EXPLAIN") rows)
 
+-- whether `--no-files` is used
+abbrev pub is_without_files : List Row → Bool
+is_without_files rows = is_true (first_of (codes "NOFILES") rows)
+
 -- the call of `script` with these values
 abbrev pub script_in : List Row → Call
 script_in rows = Script (first_of (codes "FILE") rows) (is_explained rows)
@@ -86,7 +90,7 @@ ask_in rows = option_and_then
 abbrev pub import_in : List Row → Option Call
 import_in rows = option_and_then
     (λ database. option_and_then (λ document. option_map
-    (λ profile. File database (Import document profile (is_explained rows)))
+    (λ profile. File database (Import document profile (is_without_files rows) (is_explained rows)))
     (profile_in rows)) (first_of (codes "DOC") rows)) (first_of (codes "FILE") rows)
 
 -- the call of `catalogue` with these values
@@ -273,7 +277,8 @@ page_in rows = option_map (λ found. File found.database (Page found.release)) (
 
 -- the call of `convert` with these values
 abbrev pub convert_in : List Row → Option Call
-convert_in rows = option_map Convert (first_of (codes "JSON") rows)
+convert_in rows = option_map (λ document. Convert document (is_without_files rows))
+    (first_of (codes "JSON") rows)
 
 -- the call of `texts` with these values
 abbrev pub texts_in : List Row → Option Call

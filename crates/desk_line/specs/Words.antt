@@ -79,10 +79,18 @@ abbrev pub request_app : Text → App
 request_app name = with_rule (with_rule (with_rule (new_app name) database_option) json_flag)
     (words (codes "WORD"))
 
--- `import --db FILE [--profile PROFILE] [--explain] DOC`
+-- `--no-files`
+abbrev pub no_files_flag : Rule
+no_files_flag = flag (codes "NOFILES") (codes "no-files")
+
+-- `import --db FILE [--profile PROFILE] [--no-files] [--explain] DOC`
+abbrev pub read_import_app : App
+read_import_app = with_rule (with_rule (with_rule (new_app (codes "import")) database_option)
+    profile_option) no_files_flag
+
+-- with its other values
 abbrev pub import_app : App
-import_app = with_rule (with_rule (with_rule (with_rule (new_app (codes "import")) database_option)
-    profile_option) explain_flag) (word (codes "DOC"))
+import_app = with_rule (with_rule read_import_app explain_flag) (word (codes "DOC"))
 
 -- `catalogue --db FILE TOML`
 abbrev pub catalogue_app : App
@@ -261,9 +269,9 @@ abbrev pub showing_app : App
 showing_app = with_subcommand (with_subcommand readying_app list_app.top)
     (release_app (codes "page")).top
 
--- `convert JSON`
+-- `convert [--no-files] JSON`
 abbrev pub convert_app : App
-convert_app = with_rule (new_app (codes "convert")) (word (codes "JSON"))
+convert_app = with_rule (with_rule (new_app (codes "convert")) no_files_flag) (word (codes "JSON"))
 
 -- and with the one that converts a document
 abbrev pub converting_app : App

@@ -83,6 +83,13 @@ const EXPLAIN: Argument = argument!(
     "Explains refusals on standard error, even if that is no terminal"
 );
 
+// For each subcommand that reads a document in JSON.
+const NO_FILES: Argument = argument!(
+    "NOFILES",
+    Form::Flag("no-files"),
+    "Leaves out files in JSON that change nothing about what ships"
+);
+
 const DOCUMENT: Argument = argument!("DOC", Form::Word, "The file of the document");
 
 const FOLDER: Argument = argument!("DIR", Form::Word, "The folder of the tree");
@@ -124,7 +131,7 @@ pub(crate) const REQUEST: [Argument; 3] = [
     ),
 ];
 
-pub(crate) const IMPORT: [Argument; 4] = [DATABASE, PROFILE, EXPLAIN, DOCUMENT];
+pub(crate) const IMPORT: [Argument; 5] = [DATABASE, PROFILE, NO_FILES, EXPLAIN, DOCUMENT];
 
 pub(crate) const CATALOGUE: [Argument; 2] = [
     DATABASE,
@@ -274,11 +281,10 @@ pub(crate) const LIST: [Argument; 6] = [
     argument!("WHAT", Form::Word, "releases, documents or duties"),
 ];
 
-pub(crate) const CONVERT: [Argument; 1] = [argument!(
-    "JSON",
-    Form::Word,
-    "The file of the document"
-)];
+pub(crate) const CONVERT: [Argument; 2] = [
+    NO_FILES,
+    argument!("JSON", Form::Word, "The file of the document"),
+];
 
 /// A whole number up to this one.
 fn whole<'a>(most: u32) -> ValueParser<'a>

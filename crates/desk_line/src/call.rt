@@ -66,6 +66,8 @@ pub enum Call {
     Convert {
         /// The path of the document.
         document: Text,
+        /// Files that change nothing about what ships are left out.
+        no_files: bool,
     },
     /// The texts of the files in a folder, as entries for `--fill`.
     Texts {
@@ -118,6 +120,8 @@ pub enum FileCall {
         document: Text,
         /// How its operators may be written.
         profile: Profile,
+        /// Files of a document in JSON that change nothing about what ships are left out.
+        no_files: bool,
         /// A refusal is explained off a terminal too.
         explain: bool,
     },
@@ -152,26 +156,14 @@ pub enum FileCall {
         /// A refusal is explained off a terminal too.
         explain: bool,
     },
-    /// The table of the duties of a release.
-    Duties {
-        /// The name of the release.
-        release: Text,
-    },
-    /// How many duties of a release are in each state.
-    Totals {
-        /// The name of the release.
-        release: Text,
-    },
-    /// The changes of a duty.
-    Changes {
-        /// The number of the duty, from 1.
-        duty: u32,
-    },
-    /// A page on a release, its duties and its notices.
-    Page {
-        /// The name of the release.
-        release: Text,
-    },
+    /// The table of the duties of the release with this name.
+    Duties(Text),
+    /// How many duties of the release with this name are in each state.
+    Totals(Text),
+    /// The changes of the duty with this number, from 1.
+    Changes(u32),
+    /// A page on the release with this name, its duties and its notices.
+    Page(Text),
     /// Everything that keeps a release from being frozen.
     Wanting {
         /// The name of the release.
@@ -188,11 +180,8 @@ pub enum FileCall {
     },
     /// What is missing for the notices of the release with this name.
     Gaps(Text),
-    /// The choices of a release for the packages that have only one.
-    Choices {
-        /// The name of the release.
-        release: Text,
-    },
+    /// The choices of the release with this name for the packages that have only one.
+    Choices(Text),
     /// The conclusions and the choices that are proposed for a document.
     Proposals {
         /// The number of the document, from 1.

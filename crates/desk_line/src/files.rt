@@ -42,6 +42,7 @@ pub(crate) fn import_from(alloc: Global, matches: &ArgMatches<'_>) -> Result<Cal
     let call = FileCall::Import {
         document,
         profile,
+        no_files: is_used(matches, "NOFILES"),
         explain: is_used(matches, "EXPLAIN"),
     };
     Ok(Call::File { database, call })

@@ -46,7 +46,7 @@ pub(crate) fn duties_from(alloc: Global, matches: &ArgMatches<'_>) -> Result<Cal
     ensures { IsFound (duties_in (rows_of (found_of matches.now))) result }
 {
     let Release { database, release } = release_in(alloc, matches)?;
-    let call = FileCall::Duties { release };
+    let call = FileCall::Duties(release);
     Ok(Call::File { database, call })
 }
 
@@ -55,7 +55,7 @@ pub(crate) fn totals_from(alloc: Global, matches: &ArgMatches<'_>) -> Result<Cal
     ensures { IsFound (totals_in (rows_of (found_of matches.now))) result }
 {
     let Release { database, release } = release_in(alloc, matches)?;
-    let call = FileCall::Totals { release };
+    let call = FileCall::Totals(release);
     Ok(Call::File { database, call })
 }
 
@@ -64,7 +64,7 @@ pub(crate) fn page_from(alloc: Global, matches: &ArgMatches<'_>) -> Result<Call,
     ensures { IsFound (page_in (rows_of (found_of matches.now))) result }
 {
     let Release { database, release } = release_in(alloc, matches)?;
-    let call = FileCall::Page { release };
+    let call = FileCall::Page(release);
     Ok(Call::File { database, call })
 }
 
@@ -73,7 +73,7 @@ pub(crate) fn choices_from(alloc: Global, matches: &ArgMatches<'_>) -> Result<Ca
     ensures { IsFound (choices_in (rows_of (found_of matches.now))) result }
 {
     let Release { database, release } = release_in(alloc, matches)?;
-    let call = FileCall::Choices { release };
+    let call = FileCall::Choices(release);
     Ok(Call::File { database, call })
 }
 
@@ -112,6 +112,6 @@ pub(crate) fn changes_from(alloc: Global, matches: &ArgMatches<'_>) -> Result<Ca
 {
     let database = wanted_text(alloc, matches, "FILE")?;
     let duty = require(number_in(matches, "DUTY"))?;
-    let call = FileCall::Changes { duty };
+    let call = FileCall::Changes(duty);
     Ok(Call::File { database, call })
 }

@@ -6,7 +6,7 @@ ghost use Rattle.desk_line.specs.Calls.{alternatives_in, check_in, convert_in, e
 ghost use Rattle.desk_line.specs.Unfound.{IsFound};
 
 use crate::call::Call;
-use crate::values::{Unfound, profile_in, require, wanted_text, wanted_texts};
+use crate::values::{Unfound, is_used, profile_in, require, wanted_text, wanted_texts};
 use clap::ArgMatches;
 use std::alloc::Global;
 
@@ -41,7 +41,8 @@ pub(crate) fn convert_from(alloc: Global, matches: &ArgMatches<'_>) -> Result<Ca
     ensures { IsFound (convert_in (rows_of (found_of matches.now))) result }
 {
     let document = wanted_text(alloc, matches, "JSON")?;
-    Ok(Call::Convert { document })
+    let no_files = is_used(matches, "NOFILES");
+    Ok(Call::Convert { document, no_files })
 }
 
 /// The call of `explain`.

@@ -5,17 +5,17 @@ ghost use Rattle.std.specs.Prelude.{◌≡◌, false};
 use crate::scripts::Course;
 use crate::tasks::{
     Answering, Choices, FilledNotices, Imported, List, Page, Proposals, Readying, Scripting,
-    Serving, Showing, Task, Wanting, teller,
+    Serving, Showing, Task, Wanting,
 };
 use crate::{FAILED, REFUSED, USAGE, upkeep};
 use desk_assignments::{Source, Verb, WordsTrouble, read_words, source_of};
 use desk_base::{Items, Profile, Text};
 use desk_files::{
-    Difference, Step, bytes_at, fills_at, first_difference, make_file, require_file, tell_left,
-    text_at, trouble_at, trouble_of,
+    Difference, Step, document_at, fills_at, first_difference, make_file, require_file, tell_left,
+    teller, text_at, trouble_at, trouble_of,
 };
 use desk_fill::{Fill, Style};
-use desk_import::{Intake, intake_of};
+use desk_import::Intake;
 use desk_json::Request;
 use desk_line::FileCall;
 use desk_model::{Command, Query};
@@ -382,12 +382,13 @@ fn reply(
     do_in(rt, path, task)
 }
 
-/// Lets the desk that a file keeps import the document of another file, and write the reply in a
-/// form. If the desk replies, the kind of the document's file is reported, and what it holds now.
+/// Lets the desk that a file keeps import what was taken of the file of a document, and write the
+/// reply in a form. If the desk replies, the kind of that file is reported, and what the desk holds
+/// now.
 fn import(
     rt: &HostRuntime,
     path: &str,
-    document: &str,
+    taken: Intake,
     profile: Profile,
     form: ReplyForm,
     explain: bool,
@@ -396,7 +397,7 @@ fn import(
         bytes,
         origin,
         summary,
-    } = intake_of(rt.alloc(), bytes_at(rt, document)?, profile)?;
+    } = taken;
     let bytes = Items::from_vec(bytes);
     let request = Request::Act(Command::Import { bytes, profile });
     let imported = Imported {
@@ -405,6 +406,18 @@ fn import(
         summary,
     };
     reply(rt, path, request, form, Some(imported), explain)
+}
+
+/// The same of the document of another file.
+fn import_at(
+    rt: &HostRuntime,
+    path: &str,
+    document: &str,
+    profile: Profile,
+    form: ReplyForm,
+) -> Result<u8, Failure> {
+    let taken = document_at(rt, document, profile, false)?;
+    import(rt, path, taken, profile, form, false)
 }
 
 /// Lets the desk that a file keeps load the catalogue of another file, and write the reply in a
@@ -482,9 +495,7 @@ fn request(rt: &HostRuntime, path: &str, request: Request, json: bool) -> Result
     }
     let form = ReplyForm::on(rt.stdout().is_terminal(), json);
     let told = match source_of(&request) {
-        Some(Source::Document(document, profile)) => {
-            import(rt, path, document, profile, form, false)
-        }
+        Some(Source::Document(document, profile)) => import_at(rt, path, document, profile, form),
         Some(Source::Catalogue(catalogue)) => load(rt, path, catalogue, form),
         None => return reply(rt, path, request, form, None, false),
     };
@@ -571,15 +582,12 @@ pub fn answer(rt: &HostRuntime, path: &str, call: &FileCall) -> Result<u8, Failu
         FileCall::Import {
             document,
             profile,
+            no_files,
             explain,
-        } => import(
-            rt,
-            path,
-            document.as_str(),
-            *profile,
-            ReplyForm::Line,
-            *explain,
-        ),
+        } => {
+            let taken = document_at(rt, document.as_str(), *profile, *no_files)?;
+            import(rt, path, taken, *profile, ReplyForm::Line, *explain)
+        }
         FileCall::Catalogue { catalogue } => load(rt, path, catalogue.as_str(), ReplyForm::Line),
         FileCall::Do { words, json } => dated(rt, path, Verb::Do, words.as_slice(), *json),
         FileCall::Ask { words, json } => dated(rt, path, Verb::Ask, words.as_slice(), *json),
@@ -592,12 +600,12 @@ pub fn answer(rt: &HostRuntime, path: &str, call: &FileCall) -> Result<u8, Failu
             is_complete,
             explain,
         } => notices(rt, path, release, fills.as_slice(), *is_complete, *explain),
-        FileCall::Duties { release } => duties(rt, path, release),
-        FileCall::Totals { release } => totals(rt, path, release),
-        FileCall::Changes { duty } => changes(rt, path, *duty),
+        FileCall::Duties(release) => duties(rt, path, release),
+        FileCall::Totals(release) => totals(rt, path, release),
+        FileCall::Changes(duty) => changes(rt, path, *duty),
         FileCall::List { list } => do_in(rt, path, List(list)),
-        FileCall::Page { release } => do_in(rt, path, Page(release)),
-        FileCall::Choices { release } => look_in(rt, path, Choices(release)),
+        FileCall::Page(release) => do_in(rt, path, Page(release)),
+        FileCall::Choices(release) => look_in(rt, path, Choices(release)),
         FileCall::Wanting { release, explain } => do_in(rt, path, Wanting(release, *explain)),
         FileCall::Ready { release, day } => ready(rt, path, release, day),
         FileCall::Gaps(release) => gaps(rt, path, release),

@@ -17,7 +17,8 @@ use crate::scripts::Course;
 use desk_base::{Profile, Text};
 use desk_core::desk::MemDesk;
 use desk_explain::TABLES;
-use desk_files::bytes_at;
+use desk_files::{convert, document_at, teller};
+use desk_import::Intake;
 use desk_line::{Call, LineFault, Package, line};
 use desk_subcommands::{Failure, alternatives, tell_look};
 use desk_texts::Standard;
@@ -122,14 +123,6 @@ fn credits(
     desk_files::credits(rt, folder, package.name.as_str(), version, is_watched)
 }
 
-/// Writes the tag-value document that says the same as an SPDX document in JSON.
-fn convert(rt: &HostRuntime, path: &str) -> Result<u8, Failure> {
-    let bytes = bytes_at(rt, path)?;
-    let writer = &mut io::writer(rt);
-    let teller = &mut rt.stderr();
-    desk_subcommands::convert(rt.alloc(), bytes.as_slice(), writer, teller)
-}
-
 /// Writes what a name means.
 fn explain<R: Print>(rt: &R, alloc: Global, name: &str) -> Result<u8, Failure> {
     desk_subcommands::explain(alloc, &TABLES, name, &mut io::writer(rt))
@@ -144,7 +137,7 @@ fn propose(
     profile: Profile,
     explain: bool,
 ) -> Result<u8, Failure> {
-    let bytes = bytes_at(rt, path)?;
+    let Intake { bytes, .. } = document_at(rt, path, profile, true)?;
     let status = desk_views::propose(
         rt.alloc(),
         &Standard,
@@ -157,7 +150,7 @@ fn propose(
     if status == REFUSED {
         // If that can't be reported, the reply is still written.
         let _told = tell_look(rt.alloc(), bytes.as_slice(), &mut rt.stderr());
-        let teller = &mut tasks::teller(rt, explain);
+        let teller = &mut teller(rt, explain);
         desk_views::explain_document(rt.alloc(), &Standard, bytes.as_slice(), teller);
     }
     Ok(status)
@@ -193,7 +186,7 @@ fn answer(rt: &HostRuntime, alloc: Global, call: &Call, is_watched: bool) -> Res
             created,
         } => desk_files::gather(rt, folder, name, namespace, created, is_watched),
         Call::Lint { folder, json } => desk_files::lint(rt, folder.as_str(), *json, is_watched),
-        Call::Convert { document } => convert(rt, document.as_str()),
+        Call::Convert { document, no_files } => convert(rt, document.as_str(), *no_files),
         Call::Texts { folder } => desk_files::texts(rt, folder.as_str(), is_watched),
         Call::Credits { folder, package } => credits(rt, folder.as_str(), package, is_watched),
         Call::Explain { name } => explain(rt, alloc, name.as_str()),

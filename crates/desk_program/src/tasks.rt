@@ -4,19 +4,19 @@
 use crate::scripts::{self, Course};
 use crate::{looking, serving, summaries};
 use desk_base::Text;
+use desk_files::teller;
 use desk_import::{Origin, Summary};
 use desk_json::Request;
 use desk_line::Listed;
 use desk_model::{Profile, Query};
 use desk_store::SqlDesk;
-use desk_subcommands::{Failure, Teller};
+use desk_subcommands::Failure;
 use desk_views::{
     Filling, ReplyForm, number_held, page, reply_in, reply_to, show, show_filled, show_ready,
 };
 use sqlite::Alter;
 use std::alloc::AllocError;
 use std::io::{IsTerminal, Read, Write};
-use std::rt::Stderr;
 
 /// What a desk in a file is to do.
 pub(crate) trait Task {
@@ -27,13 +27,6 @@ pub(crate) trait Task {
         desk: &mut SqlDesk<S>,
         writer: &mut W,
     ) -> Result<u8, Failure>;
-}
-
-/// Explains on standard error why a request is refused, if that is asked for or is a terminal.
-pub(crate) fn teller(rt: &HostRuntime, explain: bool) -> Teller<Stderr> {
-    let stderr = rt.stderr();
-    let is_told = explain || stderr.is_terminal();
-    Teller::new(rt.alloc(), stderr, is_told)
 }
 
 /// It replies to the requests that a reader gives.

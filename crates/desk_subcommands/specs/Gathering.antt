@@ -1,6 +1,6 @@
 -- What `gather` writes, and the status that it returns.
 use Rattle.std.specs.Prelude.{◌≡◌, ◌++◌, ◌&&◌, ◌==◌, ℕ, Bool, List, [], Option, Some, None, codes, decimal, if◌then◌else◌}
-use Rattle.desk_report.specs.Terminal.{text_on}
+use Rattle.desk_report.specs.Terminal.{lines_shown, text_on}
 use Rattle.desk_tree_gather.specs.declared.files.SourceFile.{SourceFile}
 use Rattle.desk_tree_infos.specs.Readers.{Reader}
 use Rattle.desk_tree_document.specs.Drafts.{Named}
@@ -37,5 +37,5 @@ gaps_line gaps = if gaps.licences == 0 && gaps.notices == 0 then []
 -- what is reported besides the text, which may go into a file: this line of a document, and the
 -- text itself if it is that of a fault
 abbrev pub report : Option Gaps → List ℕ → List ℕ
-report None text = text
+report None text = lines_shown text
 report (Some gaps) text = gaps_line gaps

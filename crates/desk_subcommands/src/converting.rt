@@ -5,13 +5,13 @@ ghost use Rattle.std.specs.String.{string_bytes};
 ghost use Rattle.std.specs.Io.KnownBytes.{Appends, Keeps};
 ghost use Rattle.desk_looks.specs.Looks.{look_of};
 ghost use Rattle.desk_looks.specs.Words.{look_line};
-ghost use Rattle.desk_subcommands.specs.Converting.{convert_fault_line, Converts, fault_words, left_out_line, neither_text, origin_text};
+ghost use Rattle.desk_subcommands.specs.Converting.{convert_fault_line, Converts, fault_words, left_out_files, left_out_line, left_out_rest, neither_text, origin_text};
 ghost use Rattle.desk_subcommands.specs.Failures.{IfMemory, IsOfOutput};
 
 use crate::failure::Failure;
-use crate::filing::{write_line, write_text};
+use crate::filing::{write_line, write_on};
 use desk_base::Text;
-use desk_import::{ConvertFault, Origin, Skipped};
+use desk_import::{ConvertFault, Files, Origin, Skipped};
 use desk_looks::{Look, look_line, look_of};
 use std::alloc::{AllocError, Global};
 use std::io::Write;
@@ -55,19 +55,39 @@ fn fault_text(alloc: Global, fault: &ConvertFault) -> Result<String, AllocError>
     format!(in alloc; "fault: {words}")
 }
 
-// The line of what is left out of a document in JSON.
-fn left_out_line(alloc: Global, skipped: Skipped) -> Result<String, AllocError>
-    ensures { IfOk result (λ line. string_bytes line ≡ left_out_line skipped) }
+// How many files are left out, if that is asked for.
+fn left_out_files(alloc: Global, files: Option<usize>) -> Result<String, AllocError>
+    ensures { IfOk result (λ words. string_bytes words ≡ left_out_files files) }
+{
+    match files {
+        Some(count) => format!(in alloc; ", {count} files"),
+        None => Ok(String::new(alloc)),
+    }
+}
+
+// How much else is left out.
+fn left_out_rest(alloc: Global, skipped: Skipped) -> Result<String, AllocError>
+    ensures { IfOk result (λ words. string_bytes words ≡ left_out_rest skipped) }
 {
     let Skipped {
         external_documents,
         annotations,
         external_references,
         fields,
+        ..
     } = skipped;
     format!(in alloc;
-        "left out: {annotations} annotations, {external_references} external references, {external_documents} references to documents, {fields} other fields\n"
+        "{annotations} annotations, {external_references} external references, {external_documents} references to documents, {fields} other fields"
     )
+}
+
+// The line of what is left out of a document in JSON.
+fn left_out_line(alloc: Global, skipped: Skipped) -> Result<String, AllocError>
+    ensures { IfOk result (λ line. string_bytes line ≡ left_out_line skipped) }
+{
+    let files = left_out_files(alloc, skipped.files)?;
+    let rest = left_out_rest(alloc, skipped)?;
+    format!(in alloc; "left out: {rest}{files}\n")
 }
 
 // The lines that say why bytes that aren't a tag-value document aren't one in JSON either, and what
@@ -144,24 +164,27 @@ fn tell_skipped<T: Write>(alloc: Global, skipped: Skipped, teller: &mut T) -> Re
     Ok(())
 }
 
-/// Writes the tag-value document that says the same as an SPDX document in JSON or, as a line, why
-/// there is none, and returns the program's status. What is left out, or what bytes that are refused
-/// look like, is reported to another writer.
+/// Writes the tag-value document that says the same as a document in JSON, with these files, or, as a
+/// line, why there is none, and returns the program's status. On a terminal, the document is in the form that
+/// is safe to show. What is left out, or what bytes that are refused look like, is reported to
+/// another writer.
 pub fn convert<W: Write, T: Write>(
     alloc: Global,
     bytes: &[u8],
+    files: Files,
+    is_terminal: bool,
     writer: &mut W,
     teller: &mut T,
 ) -> Result<u8, Failure>
-    ensures told { IfOk result (λ status. (text : List ℕ) × Converts bytes.now text status
+    ensures told { IfOk result (λ status. (text : List ℕ) × Converts files bytes.now is_terminal text status
         × Appends (W.contents writer.old) (W.contents writer.new) text) }
     ensures fails { IfErr result IsOfOutput }
     ensures memory { IfErr result
         (IfMemory (Keeps (W.contents writer.old) (W.contents writer.new))) }
 {
-    match desk_import::convert(alloc, bytes) {
+    match desk_import::convert(alloc, bytes, files) {
         Ok(converted) => {
-            write_text(writer, converted.text.as_bytes())?;
+            write_on(alloc, converted.text.as_str(), is_terminal, writer)?;
             // If that can't be reported, the document is still written.
             let _told = tell_skipped(alloc, converted.skipped, teller);
             Ok(0)

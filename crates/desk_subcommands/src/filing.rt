@@ -7,7 +7,8 @@ ghost use Rattle.std.specs.Str.{IsUtf8};
 ghost use Rattle.desk_model.specs.declared.command.Answer.{Answer};
 ghost use Rattle.desk_model.specs.declared.command.Command.TheVariants.{Import, LoadCatalogue};
 ghost use Rattle.desk_model.specs.declared.command.Outcome.TheVariants.{Answered, Failed};
-ghost use Rattle.desk_subcommands.specs.Failures.{IfMemory, IsOfOutput, OfRequest};
+ghost use Rattle.desk_report.specs.Terminal.{text_on};
+ghost use Rattle.desk_subcommands.specs.Failures.{IfMemory, IfUntold, IsOfOutput, OfRequest};
 ghost use Rattle.desk_subcommands.specs.Filing.{answer_status, Comes, HasFailed, IsAnswered, IsUntold, no_desk_line, no_desk_name, no_text, outcome_line};
 
 use crate::failure::Failure;
@@ -17,6 +18,7 @@ use desk_core::desk::Desk;
 use desk_import::Origin;
 use desk_json::{memory_line, reply_line};
 use desk_model::{Answer, CatalogueFault, Command, Fault, Outcome, Profile, Refusal};
+use desk_report::lines_shown;
 use desk_snapshot::AuditFault;
 use std::alloc::{AllocError, Global};
 use std::io::Write;
@@ -74,6 +76,31 @@ pub fn write_text<W: Write>(writer: &mut W, text: &[u8]) -> Result<(), Failure>
         (IfMemory (Keeps (W.contents writer.old) (W.contents writer.new))) }
 {
     writer.write_all(text)?;
+    writer.flush()?;
+    Ok(())
+}
+
+/// Writes a text; on a terminal, in the form that is safe to show.
+pub(crate) fn write_on<W: Write>(
+    alloc: Global,
+    text: &str,
+    is_terminal: bool,
+    writer: &mut W,
+) -> Result<(), Failure>
+    ensures ok { OnOk result (Appends (W.contents writer.old) (W.contents writer.new)
+        (text_on is_terminal text.now)) }
+    ensures err { IfErr result IsOfOutput }
+    ensures memory { IfErr result
+        (IfMemory (Keeps (W.contents writer.old) (W.contents writer.new))) }
+    ensures untold { IfErr result
+        (IfUntold (Keeps (W.contents writer.old) (W.contents writer.new))) }
+{
+    if is_terminal {
+        let shown = lines_shown(alloc, text)?;
+        writer.write_all(shown.as_slice())?;
+    } else {
+        writer.write_all(text.as_bytes())?;
+    }
     writer.flush()?;
     Ok(())
 }

@@ -10,6 +10,7 @@ ghost use Rattle.desk_subcommands.specs.Failures.{IfBadValue, IfUntold, IsOfDocu
 ghost use Rattle.desk_subcommands.specs.Gathering.{gaps_line, gathering_status, Gathers, named, report};
 
 use crate::failure::Failure;
+use crate::filing::write_on;
 use desk_report::lines_shown;
 use desk_tree_document::{Gaps, Gathering, TextFault, document_of};
 use desk_tree_gather::SourceFile;
@@ -76,7 +77,10 @@ fn tell<T: Write>(
         (Appends (T.contents teller.old) (T.contents teller.new) (report gaps text.now)) }
 {
     match gaps {
-        None => teller.write_all(text.as_bytes())?,
+        None => {
+            let shown = lines_shown(alloc, text)?;
+            teller.write_all(shown.as_slice())?;
+        }
         Some(gaps) => {
             let line = gaps_line(alloc, gaps)?;
             teller.write_all(line.as_bytes())?;
@@ -85,33 +89,11 @@ fn tell<T: Write>(
     Ok(())
 }
 
-// Writes a text; on a terminal, in the form that is safe to show.
-fn write_on<W: Write>(
-    alloc: Global,
-    text: &str,
-    is_terminal: bool,
-    writer: &mut W,
-) -> Result<(), Failure>
-    ensures ok { OnOk result (Appends (W.contents writer.old) (W.contents writer.new)
-        (text_on is_terminal text.now)) }
-    ensures fails { IfErr result IsOfOutput }
-    ensures untold { IfErr result
-        (IfUntold (Keeps (W.contents writer.old) (W.contents writer.new))) }
-{
-    if is_terminal {
-        let shown = lines_shown(alloc, text)?;
-        writer.write_all(shown.as_slice())?;
-    } else {
-        writer.write_all(text.as_bytes())?;
-    }
-    Ok(())
-}
-
 /// Writes the document of a tree of files, or one line with the fault because of which there is
 /// none, and returns the program's status. On a terminal, the text is in the form that is safe to
 /// show. If no memory is left, or some value can't be written in its field, nothing is written.
-/// Another writer gets the fault too, or for how many files the document gives no licence or no
-/// notice.
+/// Another writer gets the fault too, in that form, or for how many files the document gives no
+/// licence or no notice.
 pub fn gather<W: Write, T: Write>(
     alloc: Global,
     files: Vec<SourceFile>,
@@ -133,7 +115,6 @@ pub fn gather<W: Write, T: Write>(
     let (status, gaps) = (status_of(&answer), answer.gaps());
     let text = answer.text(alloc)?;
     write_on(alloc, text.as_str(), is_terminal, writer)?;
-    writer.flush()?;
     // If that can't be reported, what is written still says it.
     let _told = tell(alloc, gaps, text.as_str(), teller);
     Ok(status)

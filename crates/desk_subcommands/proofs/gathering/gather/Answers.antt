@@ -3,7 +3,6 @@ use Rattle.std.proofs.lemmas.Result.{IfErr-weaker}
 use Rattle.desk_report.specs.Terminal.{text_on}
 use Rattle.desk_subcommands.specs.Failures.{IsOfOutput}
 use Rattle.desk_subcommands.proofs.OutputLemmas.{no_bad_value, of_document}
-use Rattle.desk_subcommands.proofs.WriterLemmas.{appends_kept}
 use Rattle.desk_subcommands.proofs.gathering.gather.Goals as goal
 
 pub returns-in_err-write_on-clause-bad_value : goal.returns-in_err-write_on-clause-bad_value
@@ -23,5 +22,5 @@ returns-clause-told g c = λ r right. (
     ap (text_on c.args.is_terminal) (c.as_str.ensures.value ∙ c.in_ok-text.ensures),
     c.status_of-status.ensures,
   ),
-  appends_kept _ _ _ _ c.in_ok-write_on.ensures.ok c.in_ok-flush.ensures.bytes,
+  c.in_ok-write_on.ensures.ok,
 )
