@@ -8,13 +8,13 @@ pub(crate) const CONDITIONS: [Entry; 10] = [
         name: "BadMeta",
         kind: Kind::Condition { number: 1 },
         meaning: Some("meta has one row, with version 3"),
-        cause: Some("another version of the desk made the file; use that one"),
+        cause: Some("another version of the desk made the file: use that version"),
     },
     Entry {
         name: "BadRevision",
         kind: Kind::Condition { number: 2 },
         meaning: Some("Revisions run from 1 on, and each body is a catalogue (docs/CATALOGUE.md)"),
-        cause: Some("a catalogue was edited or deleted, where a new one should have been loaded"),
+        cause: Some("a catalogue was edited or deleted: load a new one instead"),
     },
     Entry {
         name: "BadRule",
@@ -36,13 +36,13 @@ pub(crate) const CONDITIONS: [Entry; 10] = [
         meaning: Some(
             "Packages and extracted licences are those of the documents' bytes, and shipped says what ships",
         ),
-        cause: Some("a conclusion was corrected here, and not by conclude"),
+        cause: Some("a conclusion was corrected in the table instead of by conclude"),
     },
     Entry {
         name: "BadChoice",
         kind: Kind::Condition { number: 6 },
         meaning: Some(
-            "Conclusions are expressions; adoptions lead from a reference to a licence id; places of releases run from 1 on. Choices are of releases that aren't withdrawn, for packages that attached documents ship; what is chosen for a package fulfils its conclusion with no term too many; a frozen release's choices are its frozen terms",
+            "Conclusions are expressions; adoptions lead from a reference to a licence id; places of releases run from 1 on. Choices are of releases that aren't withdrawn, for packages that attached documents ship; what is chosen for a package satisfies its conclusion with no term to spare; a frozen release's choices are its frozen terms",
         ),
         cause: Some("a choice or a conclusion was changed after the freeze"),
     },
@@ -64,7 +64,7 @@ pub(crate) const CONDITIONS: [Entry; 10] = [
         name: "BadChange",
         kind: Kind::Condition { number: 9 },
         meaning: Some(
-            "The steps of a duty run from 1 on: its raising, then moves that docs/REQUESTS.md allows, of which the last gives its state. Days exist, and texts are as that page has them. Only waived steps have last days, and a waiver ends after its own",
+            "The steps of a duty run from 1 on: its raising, then moves that docs/REQUESTS.md allows, of which the last gives its state. Days exist, and texts are as that page requires. Only waived steps have last days, and a waiver ends after its last day",
         ),
         cause: Some("a state was set without its change, or a change was rewritten"),
     },

@@ -24,7 +24,7 @@ pub enum Kind {
     Problem,
 }
 
-/// What a page says of a name.
+/// What a page says about a name.
 #[derive(Clone, Copy)]
 pub struct Entry {
     /// The name, as the desk prints it.

@@ -18,7 +18,7 @@ pub(crate) const DOCUMENT_FAULTS: [Entry; 12] = [
         kind: Kind::DocumentFault { number: 2 },
         meaning: Some("a line without a colon, or with no tag before it"),
         cause: Some(
-            "a value over several lines without <text> and </text> round it; JSON, XML or a spreadsheet: convert it",
+            "a value over several lines without <text> and </text> around it; JSON, XML or a spreadsheet: convert it",
         ),
     },
     Entry {
@@ -31,7 +31,7 @@ pub(crate) const DOCUMENT_FAULTS: [Entry; 12] = [
         name: "AfterText",
         kind: Kind::DocumentFault { number: 4 },
         meaning: Some("something follows </text>, at that line"),
-        cause: Some("a notice that holds </text> itself; the next field on the same line"),
+        cause: Some("a notice that contains </text> itself; the next field on the same line"),
     },
     Entry {
         name: "BadVersion",
@@ -52,9 +52,9 @@ pub(crate) const DOCUMENT_FAULTS: [Entry; 12] = [
     Entry {
         name: "BadId",
         kind: Kind::DocumentFault { number: 7 },
-        meaning: Some("an SPDXID, SnippetSPDXID or LicenseID of another form"),
+        meaning: Some("an SPDXID, SnippetSPDXID or LicenseID of the wrong form"),
         cause: Some(
-            "_, +, / or @ from a package's name or version: wanted is SPDXRef- or LicenseRef-, then letters, digits, . and -; for the document itself SPDXRef-DOCUMENT",
+            "_, +, / or @ from a package's name or version: it must be SPDXRef- or LicenseRef-, then letters, digits, . and -; for the document itself SPDXRef-DOCUMENT",
         ),
     },
     Entry {
@@ -67,14 +67,14 @@ pub(crate) const DOCUMENT_FAULTS: [Entry; 12] = [
         name: "Repeated",
         kind: Kind::DocumentFault { number: 9 },
         meaning: Some("a field that is allowed once appears again"),
-        cause: Some("two PackageVersion lines; a PackageName that is missing between two packages"),
+        cause: Some("two PackageVersion lines; a missing PackageName between two packages"),
     },
     Entry {
         name: "BadRelationship",
         kind: Kind::DocumentFault { number: 10 },
         meaning: Some("not three words A TYPE B of the right form"),
         cause: Some(
-            "wanted: an id as in 7, perhaps behind DocumentRef-NAME:; a type in capitals and _; such an id, NONE or NOASSERTION. Not: describes in small letters, as reuse writes it, dependsOn, a package's name for its id, a comment behind",
+            "wanted: an id as in 7, perhaps after DocumentRef-NAME:; a type in capitals and _; such an id, NONE or NOASSERTION. Not: describes, as reuse writes it, dependsOn, a package's name for its id, a comment after it",
         ),
     },
     Entry {
@@ -87,7 +87,7 @@ pub(crate) const DOCUMENT_FAULTS: [Entry; 12] = [
         name: "TooManyElements",
         kind: Kind::DocumentFault { number: 12 },
         meaning: Some("the 10,001st package, file, snippet or extracted licence"),
-        cause: Some("the same"),
+        cause: Some("a list of files; for JSON, --no-files"),
     },
 ];
 
@@ -102,7 +102,7 @@ pub(crate) const EXPRESSION_FAULTS: [Entry; 7] = [
     Entry {
         name: "BadToken",
         kind: Kind::ExpressionFault { number: 2 },
-        meaning: Some("a run of characters that is no word of an expression"),
+        meaning: Some("a run of characters that isn't a word of an expression"),
         cause: None,
     },
     Entry {
@@ -142,14 +142,14 @@ pub(crate) const OTHER_FAULTS: [Entry; 10] = [
     Entry {
         name: "BadVersion",
         kind: Kind::OtherFault { place: "--db FILE" },
-        meaning: Some("its tables are of another version than 3"),
+        meaning: Some("its tables have a version other than 3"),
         cause: Some("an older desk: desk migrate; or a newer one"),
     },
     Entry {
         name: "NotADesk",
         kind: Kind::OtherFault { place: "--db FILE" },
         meaning: Some(
-            "a desk's table that is missing, made otherwise, or with a trigger or an index that could refuse a row; a foreign key",
+            "a desk's table that is missing, made differently, or with a trigger or an index that could refuse a row; a foreign key",
         ),
         cause: Some(
             "a database of something else; or a desk's rows in tables of another form: examples/restore",
@@ -172,7 +172,7 @@ pub(crate) const OTHER_FAULTS: [Entry; 10] = [
     Entry {
         name: "NotJson",
         kind: Kind::OtherFault { place: "JSON" },
-        meaning: Some("the bytes aren't JSON in UTF-8, or nest more than 127 deep"),
+        meaning: Some("the bytes aren't JSON in UTF-8, or are nested more than 127 deep"),
         cause: Some("a file cut short; another form of SPDX"),
     },
     Entry {
@@ -208,8 +208,8 @@ pub(crate) const OTHER_FAULTS: [Entry; 10] = [
         kind: Kind::OtherFault {
             place: "desk serve",
         },
-        meaning: Some("a browser sent the request for a page of elsewhere; nothing was done"),
-        cause: Some("a page of another address, or a name that was bound to the desk's"),
+        meaning: Some("a browser sent the request for a page from elsewhere; nothing was done"),
+        cause: Some("a page from another address, or a name that was bound to the desk's"),
     },
 ];
 
@@ -218,7 +218,7 @@ pub(crate) const CATALOGUE_FAULTS: [Entry; 8] = [
     Entry {
         name: "NotToml",
         kind: Kind::CatalogueFault { number: 1 },
-        meaning: Some("the text is no TOML document; neither part nor index"),
+        meaning: Some("the text isn't a TOML document; no part and no index"),
         cause: Some("a quote or bracket that isn't closed, a key that appears twice"),
     },
     Entry {
@@ -234,14 +234,14 @@ pub(crate) const CATALOGUE_FAULTS: [Entry; 8] = [
         kind: Kind::CatalogueFault { number: 3 },
         meaning: Some("a value of another kind, or outside its limits"),
         cause: Some(
-            "one form that is no list, a blank or underscore in a code, an empty title, [duty] for [[duty]], [text] for [[text]]",
+            "a single form instead of a list, a blank or underscore in a code, an empty title, [duty] for [[duty]], [text] for [[text]]",
         ),
     },
     Entry {
         name: "BadTerm",
         kind: Kind::CatalogueFault { number: 4 },
         meaning: Some(
-            "the term of a rule can't be read, or is a reference; the licence of a text is no such id",
+            "the term of a rule can't be read, or is a reference; the licence of a text isn't an id of a licence or an exception",
         ),
         cause: Some(
             "an expression with AND or OR: a rule is for one term; a text for GPL-2.0+, which is that of GPL-2.0",
@@ -251,7 +251,7 @@ pub(crate) const CATALOGUE_FAULTS: [Entry; 8] = [
         name: "UnknownForm",
         kind: Kind::CatalogueFault { number: 5 },
         meaning: Some("the form of a rule isn't in forms"),
-        cause: Some("another spelling; forms compare byte for byte"),
+        cause: Some("another spelling; forms are compared byte for byte"),
     },
     Entry {
         name: "UnknownDuty",
@@ -270,7 +270,7 @@ pub(crate) const CATALOGUE_FAULTS: [Entry; 8] = [
     Entry {
         name: "TooLarge",
         kind: Kind::CatalogueFault { number: 8 },
-        meaning: Some("more than 4 MiB; neither part nor index"),
+        meaning: Some("more than 4 MiB; no part and no index"),
         cause: None,
     },
 ];

@@ -21,7 +21,7 @@ pub(crate) const FINDINGS: [Entry; 11] = [
             number: 2,
             clauses: "6 to 10",
         },
-        meaning: Some("a field outside the sections that have it, which is ignored"),
+        meaning: Some("a field outside the sections that allow it; it is ignored"),
         cause: Some("fields in another order"),
     },
     Entry {
@@ -30,7 +30,7 @@ pub(crate) const FINDINGS: [Entry; 11] = [
             number: 3,
             clauses: "7.13, 7.15, 8.5, 8.6, Annex D",
         },
-        meaning: Some("a licence field that holds no expression, NONE or NOASSERTION"),
+        meaning: Some("a licence field that is neither an expression nor NONE nor NOASSERTION"),
         cause: Some("a licence's full name, or operators in small letters"),
     },
     Entry {
@@ -40,7 +40,7 @@ pub(crate) const FINDINGS: [Entry; 11] = [
             clauses: "8.4",
         },
         meaning: Some(
-            "a FileChecksum that begins with SHA1: and hasn't one blank and 40 hexadecimal digits behind it",
+            "a FileChecksum that begins with SHA1: and isn't followed by one blank and 40 hexadecimal digits",
         ),
         cause: Some("a digest cut short"),
     },
@@ -50,7 +50,7 @@ pub(crate) const FINDINGS: [Entry; 11] = [
             number: 5,
             clauses: "7.9",
         },
-        meaning: Some("a PackageVerificationCode of another form"),
+        meaning: Some("a PackageVerificationCode of the wrong form"),
         cause: Some("another digest in its place"),
     },
     Entry {
@@ -98,7 +98,7 @@ pub(crate) const FINDINGS: [Entry; 11] = [
             clauses: "7.8",
         },
         meaning: Some(
-            "a FilesAnalyzed that is neither true nor false, in any case, which counts as true",
+            "a FilesAnalyzed that is neither true nor false (ignoring case); it counts as true",
         ),
         cause: Some("yes or no"),
     },

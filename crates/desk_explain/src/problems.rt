@@ -27,34 +27,36 @@ pub(crate) const PROBLEMS: [Entry; 11] = [
     Entry {
         name: "TwicePath",
         kind: Kind::Problem,
-        meaning: Some("a path that appears twice, which no folder can show"),
+        meaning: Some("a path that appears twice (impossible in a folder)"),
         cause: None,
     },
     Entry {
         name: "BadToml",
         kind: Kind::Problem,
-        meaning: Some("a REUSE.toml that is no TOML document of version 1"),
+        meaning: Some("a REUSE.toml that isn't a TOML document of version 1"),
         cause: None,
     },
     Entry {
         name: "BadAnnotation",
         kind: Kind::Problem,
         meaning: Some(
-            "an annotation without a path, with a value of another kind, with an unknown precedence, or with a licence that is no expression",
+            "an annotation without a path, with a value of another kind, with an unknown precedence, or with a licence that isn't an expression",
         ),
         cause: None,
     },
     Entry {
         name: "BadExpression",
         kind: Kind::Problem,
-        meaning: Some("a licence that a file states and that is no expression (SPDX 2.3, Annex D)"),
+        meaning: Some(
+            "a licence that a file states and that isn't an expression (SPDX 2.3, Annex D)",
+        ),
         cause: None,
     },
     Entry {
         name: "BlankAtEnd",
         kind: Kind::Problem,
         meaning: Some(
-            "an annotation with a licence that begins or ends with a blank (\" MIT\"), which gather can't write, and names",
+            "an annotation with a licence that begins or ends with a blank (\" MIT\"); gather can't write it, and names it",
         ),
         cause: None,
     },

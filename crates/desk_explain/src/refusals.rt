@@ -32,7 +32,7 @@ pub(crate) const REFUSALS: [Entry; 30] = [
         },
         meaning: None,
         cause: Some(
-            "the document was changed under the same DocumentNamespace; each version needs one of its own",
+            "the document was changed under the same DocumentNamespace; each version needs its own",
         ),
     },
     Entry {
@@ -72,7 +72,7 @@ pub(crate) const REFUSALS: [Entry; 30] = [
         },
         meaning: None,
         cause: Some(
-            "terms were chosen by the older conclusion: drop the choice (unchoose), or withdraw the release",
+            "terms were chosen under the older conclusion: drop the choice (unchoose), or withdraw the release",
         ),
     },
     Entry {
@@ -102,7 +102,7 @@ pub(crate) const REFUSALS: [Entry; 30] = [
             requests: "open",
         },
         meaning: None,
-        cause: Some("the release was opened before; a name is never free again"),
+        cause: Some("the release was opened before; a name can't be used again"),
     },
     Entry {
         name: "UnknownForm",
@@ -112,7 +112,7 @@ pub(crate) const REFUSALS: [Entry; 30] = [
         },
         meaning: None,
         cause: Some(
-            "no catalogue was loaded, or the form isn't in the one in force; forms compare byte for byte",
+            "no catalogue was loaded, or the form isn't in the one in force; forms are compared byte for byte",
         ),
     },
     Entry {
@@ -161,7 +161,7 @@ pub(crate) const REFUSALS: [Entry; 30] = [
         },
         meaning: None,
         cause: Some(
-            "PackageLicenseConcluded is absent, NONE, NOASSERTION or no expression: the office concludes one (conclude). Operators in small letters need profile 2 at the import",
+            "PackageLicenseConcluded is absent, NONE, NOASSERTION or not an expression: the office concludes one (conclude). Operators in small letters need profile 2 at the import",
         ),
     },
     Entry {
@@ -258,7 +258,7 @@ pub(crate) const REFUSALS: [Entry; 30] = [
             requests: "freeze, meet, waive, reopen, withdraw, close, ready",
         },
         meaning: None,
-        cause: Some("not YYYY-MM-DD, or no day of the calendar"),
+        cause: Some("not YYYY-MM-DD, or not a day of the calendar"),
     },
     Entry {
         name: "Full",

@@ -9,7 +9,7 @@ pub const ALTERNATIVES: Help = Help {
 Lists the minimal sets of licences that satisfy an expression
 
 Reads a licence expression (SPDX 2.3, Annex D) and prints each minimal set of terms that satisfies
-it, a line each, its terms joined by a comma and a blank. A set is minimal if none of its terms can
+it, one per line, its terms joined by a comma and a blank. A set is minimal if none of its terms can
 be left out. Small sets come first, and sets of the same size in the order of their terms. Or it
 prints one line:
 

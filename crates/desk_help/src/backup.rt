@@ -11,10 +11,10 @@ Copies the file that keeps a desk
 Moves what is in FILE-wal into FILE, copies FILE to the new file TO, which only its owner may read, and
 audits the copy. Prints sound; TO needs no file beside it. FILE is locked while it is copied.
 
-While another program has FILE open, there is no copy, and the status is 3: end that program first, such as
-desk serve, and start it again afterwards.",
+While another program, such as desk serve, has FILE open, no copy is made and the status is 3: stop that
+program first, and start it again afterwards.",
     after_help: "\
-To put a copy back, end every program that has FILE open, and delete FILE-wal before you copy TO over FILE:
+To put a copy back, stop every program that has FILE open, and delete FILE-wal before you copy TO over FILE:
 what is in FILE-wal doesn't belong to the copy.
 
 Example:
@@ -22,7 +22,7 @@ Example:
 
 Statuses:
   0  the copy is sound
-  1  FILE keeps no desk of this version, and there is no copy
+  1  FILE keeps no desk of this version, and no copy was made
   2  the command line is wrong
   3  no memory, or a file or stream failed: TO exists, or FILE doesn't or is in use",
 };

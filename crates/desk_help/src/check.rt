@@ -13,15 +13,14 @@ prints one line:
 
   minimal            the terms satisfy the expression, and none can be left out
   not enough         the terms do not satisfy the expression
-  superfluous: TERM  they do, also without this term, the first that can be left out
+  superfluous: TERM  they do, even without this term, the first that can be left out
   fault: NAME at N   the expression cannot be read: what is wrong, and at which byte, from 0
   bad term: TERM     the first word that is not a term",
     after_help: "\
 A term is a licence id, or one followed directly by +, or a reference (LicenseRef-x or
 DocumentRef-y:LicenseRef-x), and perhaps WITH and an exception. One term is one word of the
-command line, so quote a term with an exception. Ids are compared without regard to case,
-references are not. AND binds tighter than OR. The profile is only for EXPR: the WITH of a term is
-always in capitals.
+command line, so quote a term with an exception. Case is ignored in ids, but not in references.
+AND binds tighter than OR. The profile is only for EXPR: the WITH of a term is always in capitals.
 
 Examples:
   desk check MIT mit

@@ -4,13 +4,14 @@ use crate::Help;
 
 /// The help of `convert`.
 pub const CONVERT: Help = Help {
-    about: "Writes an SPDX document in JSON as a tag-value document",
+    about: "Writes a document in JSON as a tag-value document",
     long_about: "\
-Writes an SPDX document in JSON as a tag-value document
+Writes a document in JSON as a tag-value document
 
-JSON is a document of SPDX 2.2 or 2.3 in JSON, as many tools write it. What is written says the same
-about the document, its packages, files, extracted licences and relationships, and names its snippets.
-Standard error counts what is left out because the desk doesn't read it, such as annotations.
+JSON is a document of SPDX 2.2 or 2.3, or of CycloneDX 1.4 to 1.6, in JSON, as many tools write it. What is
+written says the same about the document, its packages, files, extracted licences and relationships, and
+names its snippets. Standard error counts what is left out because the desk doesn't read it, such as
+annotations.
 
 A document that can't be converted is refused with the place, a JSON pointer (RFC 6901), unless it is not
 JSON or has more than 64 MiB:
@@ -18,6 +19,8 @@ JSON or has more than 64 MiB:
   fault: Missing at /packages/0/SPDXID    a required member is missing
   fault: BadType at /packages             the value is of another type
   fault: BadValue at /packages/0/name     the value can't be in a tag-value document
+  fault: Differs at /packages/1 from /packages/0
+                                          it has the identifier of another element, and differs
   fault: NotJson
   fault: TooLarge",
     after_help: "\

@@ -12,13 +12,13 @@ If nothing is missing, nothing is printed and the status is 0. Otherwise the sta
 printed in columns on a terminal and as comma-separated values elsewhere: what is missing, the number of the
 document (0 for a licence, which is the same in all), and what lacks it:
 
-  text       the text of a licence or an exception that the catalogue lacks, or of a reference of which its
-             document gives none: of the terms chosen for a package or, if none are, of all those of its licence
+  text       a licence or an exception without a text in the catalogue, or a reference without one in its
+             document: of the terms chosen for a package or, if none are, of all terms of its licence
   copyright  a package whose copyright is absent, NONE or NOASSERTION
   shipment   an attached document that ships nothing, so that it raises no duty
-  twice      a package that an earlier document of the release has too, by name and version
+  twice      a package whose name and version an earlier document of the release has too
 
-Before a freeze the catalogue in force counts, afterwards the one of the freeze. A text can be loaded with
+Before a freeze the catalogue in force counts, afterwards that of the freeze. A text can be loaded with
 the next catalogue before the freeze; what is still missing then can be filled in when the notices are
 written (desk notices --fill).
 

@@ -11,8 +11,8 @@ Writes the SPDX document of a source tree, from what its files say about their l
 Reads the files of a folder (REUSE Specification 3.3): the tags SPDX-License-Identifier: and
 SPDX-FileCopyrightText: in each file, or in FILE.license next to it, and the REUSE.toml files from the
 folder to the file's own. It prints a tag-value document (SPDX 2.3) of one package and its files, with
-their SHA1 digests, licences and notices. The desk imports it up to 9,999 files and 4 MiB. Or gather
-prints one line:
+their SHA1 digests, licences and notices. The desk can import it up to 9,999 files and 4 MiB. If
+something is wrong, gather prints one line instead:
 
   fault: BadToml FILE             a REUSE.toml that is not a TOML document of version 1
   fault: BadAnnotation FILE N K   its annotation N, from 0: K is 1 for no path, 2 for a value of another

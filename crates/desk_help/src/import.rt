@@ -8,9 +8,9 @@ pub const IMPORT: Help = Help {
     long_about: "\
 Imports an SPDX document into the desk that a file keeps
 
-Reads a tag-value document (SPDX 2.1, 2.2 or 2.3) from DOC, or one in JSON (2.2 or 2.3), which it converts
-as desk convert does. Imports it as the request import of script does, and prints the reply, one line of
-JSON:
+Reads a tag-value document (SPDX 2.1, 2.2 or 2.3) from DOC, or one in JSON (SPDX 2.2 or 2.3, CycloneDX 1.4
+to 1.6), which it converts as desk convert does. Imports it as the request import of script does, and
+prints the reply, one line of JSON:
 
   {\"document\":N,\"new\":true}              it was imported as document N
   {\"document\":N,\"new\":false}             the same text was imported before, as document N

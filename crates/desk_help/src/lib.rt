@@ -1,5 +1,5 @@
 //! The words of `desk --help`: what each subcommand is for, as the command line, the manual page and
-//! the completions show it. No contract speaks of them; `tests/acceptance` has them byte for byte.
+//! the completions show it. No contract covers them; `tests/acceptance` has them byte for byte.
 #![tactic(auto)]
 
 mod alternatives;

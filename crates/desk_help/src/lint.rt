@@ -8,27 +8,27 @@ pub const LINT: Help = Help {
     long_about: "\
 Lists what is wrong in a source tree, by the desk's rules
 
-Reads the files of a folder as gather does (REUSE Specification 3.3), continues after what is wrong, and
-prints a line for each problem:
+Reads the files of a folder as gather does (REUSE Specification 3.3), but does not stop at the first
+problem, and prints a line for each:
 
   PATH:LINE: what is wrong and what to do
-  PATH: the same, if it is on no line
+  PATH: the same, for a problem without a line
 
 First comes what is wrong: .reuse/dep5, names of files, each REUSE.toml and each of its annotations, and
 each licence in a file that is not an expression. Then comes what the rest lacks: texts of licences in
 LICENSES/ that are missing or, if nothing of the first part is wrong, that no file uses, and files without
 a copyright notice or without a licence. The last line counts the problems, the files that were examined,
-and the problems of each kind. ? replaces a character that is not shown.
+and the problems of each kind. A question mark replaces a character that is not shown.
 
-DIR is the root of the tree, where LICENSES/ is. To have lines ignored, write REUSE-IgnoreStart before
+DIR is the root of the tree, where LICENSES/ is. To ignore lines, write REUSE-IgnoreStart before
 them and REUSE-IgnoreEnd after them.",
     after_help: "\
 With --json the same is one object: \"covered\" is the number of files, and \"problems\" a list of
 objects, each with \"kind\", \"line\" (or null), \"message\" and \"path\". The kinds are Dep5, TooManyFiles,
 BadPath, TwicePath, BadToml, BadAnnotation, BadExpression, BlankAtEnd, Missing, Unused and Bare.
 
-A tree that is clean here may still lack what `reuse lint` asks for, such as ids that the SPDX licence list
-has; docs/LINT.md has the differences. Links are not followed, and the folder .git at the root is not
+A tree that is clean here may still lack what `reuse lint` asks for, such as ids from the SPDX licence
+list; docs/LINT.md has the differences. Links are not followed, and the folder .git at the root is not
 entered. First remove anything else that version control ignores.
 
 Examples:

@@ -10,7 +10,7 @@ Lists the releases, documents or duties of a desk
 
 WHAT is one of:
 
-  releases   in the order of their opening, with how many duties each has in each state:
+  releases   in the order in which they were opened, with how many duties each has in each state:
              name,form,state,revision,raised,open,met,waived,withdrawn
   documents  by number, with how many packages and findings each has and how many packages ship:
              number,name,namespace,packages,shipped,findings,profile
@@ -21,7 +21,7 @@ Comma-separated values (RFC 4180), with a line of the columns' names. On a termi
 columns. title is the code's in the catalogue in force, since is the day of the last change, and until is
 the last day of a waiver that ends.
 
---release, --code, --open and --past go with duties: those of a release, with a code, in the state open, or
+--release, --code, --open and --past select duties: those of a release, with a code, in the state open, or
 waived up to a day before DAY, so that close would open them on that day. If the desk has no such release, or
 neither its catalogue nor a duty has the code, standard error says so, and the status is 1.",
     after_help: "\

@@ -10,8 +10,8 @@ Converts a file of an older version to the tables of this one
 
 Prints migrated 1 to 3, or migrated 2 to 3: the version that the tables had, and the one that they have now.
 From version 1 each document gets profile 1, the operators in capitals; no waiver of an older version ends.
-All is done in one transaction, and only if the resulting tables are sound. Otherwise FILE is unchanged, and
-this prints why:
+Everything is done in one transaction, and only if the resulting tables are sound. Otherwise FILE is unchanged,
+and this prints why:
 
   fault: BadVersion   its tables aren't of an older version, or are of an unknown one
   fault: NotADesk     it has no table with a version, or not all tables of that version as a desk makes

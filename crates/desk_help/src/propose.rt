@@ -19,14 +19,14 @@ N is the number that import gave the document. Operators are in capitals and lic
 letters, however the document writes them. Standard error says how many lines there are, and how many
 packages were left out because no declared licence is an expression.
 
-With --db DOC is the number of a document that the desk in FILE holds, which is read by its own profile.
-Packages that the office concluded are left out. Then follow, for each open release to which the document
-is attached, the only possible choices for its packages, as choices prints them.
+With --db, DOC is the number of a document in the desk, which is read by its own profile. Packages that the
+office concluded are left out. For each open release to which the document is attached, the only possible
+choices for its packages follow, as choices prints them.
 
 Nothing is concluded or chosen until the lines are passed to script. Read them first, and change or delete
 those that are wrong. If the document can't be read, the reply of import is printed.",
     after_help: "\
-Without --db give --document, and the same --profile as to import. DOC may be /dev/stdin.
+Without --db give --document, and the same --profile as to import. DOC may be in JSON, or /dev/stdin.
 
 Examples:
   desk propose --db desk.db 1 >proposed.jsonl
@@ -35,7 +35,7 @@ Examples:
 
 Statuses:
   0  the lines were written, if there are any
-  1  it was refused: DOC is no such document; or FILE keeps no desk of this version
+  1  it was refused: DOC is not such a document; or FILE keeps no desk of this version
   2  the command line is wrong
   3  no memory, or a file or stream failed",
 };

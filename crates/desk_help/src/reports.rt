@@ -32,12 +32,12 @@ Writes the notices that ship with a frozen release
 
 For each package that RELEASE ships: its name and version, the licences that it was frozen with and its
 copyright. Then each text of these licences once, as the catalogue of the freeze or the document has it.
-The same is written whatever is recorded later, until the release is withdrawn.
+Whatever is recorded later, this stays the same until the release is withdrawn.
 
 Each EXTRA is a TOML file. Its [[text]] tables, with licence and body, give texts if none is recorded, and
 its [[credit]] tables, with package, text and perhaps version, give copyrights if none, NONE or NOASSERTION
-is given. The first that fits counts, and what is given stays. Standard error says how much is missing
-after that; with --complete nothing is then written, and the status is 1.",
+is given. The first that fits counts, and what is given stays. Standard error says how much is still
+missing; if anything is, --complete writes nothing and gives status 1.",
     after_help: AFTER_HELP,
 };
 
@@ -84,7 +84,7 @@ pub const PAGE: Help = Help {
     long_about: "\
 Writes a page about a release, to read and print
 
-One file of HTML with no script and nothing from elsewhere: what RELEASE ships and under which licences,
-its duties by licence and by state, waivers that end, the changes of each duty, and the notices.",
+One HTML file that has no script and loads nothing from elsewhere: what RELEASE ships and under which
+licences, its duties by licence and by state, waivers that end, the changes of each duty, and the notices.",
     after_help: AFTER_HELP,
 };

@@ -4,9 +4,9 @@ use crate::Help;
 
 /// The help of `script`.
 pub const SCRIPT: Help = Help {
-    about: "Replies to requests, a line each, over a desk in memory or in a file",
+    about: "Replies to requests, one per line, over a desk in memory or in a file",
     long_about: "\
-Replies to requests, a line each, over a desk in memory or in a file
+Replies to requests, one per line, over a desk in memory or in a file
 
 Reads requests from standard input, one JSON object on each line, and writes one line of JSON for
 each line that is not blank, before it reads the next. It continues after refused requests. A line
@@ -24,7 +24,7 @@ with its number and the reason, and at the end how many lines were carried out a
   done: 5, refused: 1, no request: 1, failed: 0
 
 With --stop the script ends at the first line that is not carried out. Use it if a freeze follows: a
-refused attach is missing in the release, and a freeze is final.
+refused attach is missing from the release, and a freeze is final.
 
 Requests, with an example of each and its reply:
 
@@ -67,7 +67,7 @@ Requests, with an example of each and its reply:
   reopen a duty that is met or waived
     > {\"do\":\"reopen\",\"day\":\"2025-03-06\",\"duty\":1,\"text\":\"not so\"}
     < {\"done\":true}
-  end the waivers whose last day is before this one
+  end the waivers whose last day is before this day
     > {\"do\":\"close\",\"day\":\"2025-04-01\"}
     < {\"closed\":1}
   withdraw a release, with its duties that are not met
@@ -106,7 +106,7 @@ Requests, with an example of each and its reply:
   list everything that prevents a freeze, as the refusals that a freeze would meet
     > {\"ask\":\"wanting\",\"release\":\"r3\"}
     < {\"rows\":[{\"at\":[1,\"SPDXRef-p\"],\"name\":\"NoChoice\",\"refused\":19}]}
-  list the duties that keep a frozen release from being ready, or, with a day, from being so on it
+  list the duties that keep a frozen release from being ready, or, with a day, from being ready on that day
     > {\"ask\":\"ready\",\"release\":\"r1\"}
     < {\"rows\":[]}
   list what is missing for the notices of a release: what, the document, and what lacks it
@@ -133,7 +133,7 @@ Examples:
 
 Statuses:
   0  every request was answered
-  1  a line was refused, or was no request; or the file keeps no such desk
+  1  a line was refused, or wasn't a request; or the file keeps no such desk
   2  the command line is wrong
   3  no memory, or a file or stream failed",
 };

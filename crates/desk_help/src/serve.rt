@@ -8,7 +8,7 @@ pub const SERVE: Help = Help {
     long_about: "\
 Serves the desk in a file over HTTP, to this machine only
 
-Listens at PORT of 127.0.0.1, which no other machine reaches, and prints one line:
+Listens on port PORT of 127.0.0.1, which no other machine can reach, and prints one line:
 
   listening on 127.0.0.1:PORT
 

@@ -9,9 +9,9 @@ pub const TEXTS: Help = Help {
 Writes the texts of a folder for notices --fill, from files named after licences
 
 Prints a [[text]] for each file in the folder that is named after a licence, an exception or a reference,
-as MIT.txt or LicenseRef-own.txt, as the SPDX project's list of texts and a folder LICENSES have them. The
-part of the name from its last full stop on does not count. The text is all that the file has. A catalogue
-takes the same tables.
+such as MIT.txt or LicenseRef-own.txt. The SPDX project's list of texts and a folder LICENSES have such files.
+The part of the name from its last full stop on does not count. The text is the whole file. A catalogue takes
+the same tables.
 
 Standard error has a line for each file that is left out:
 
@@ -20,8 +20,8 @@ Standard error has a line for each file that is left out:
   FILE: it is empty, or says NONE or NOASSERTION
   FILE: a file before it is named after the same id or reference",
     after_help: "\
-Links and folders in the folder are passed over. What --fill does not take, more than 10,000 texts or
-4 MiB, is not written: put the files into several folders.
+Links and folders in the folder are skipped. More than 10,000 texts or 4 MiB, which --fill does not take, are
+not written: put the files into several folders.
 
 Examples:
   desk texts LICENSES >texts.toml

@@ -27,7 +27,7 @@ columns and words; a file, a pipe and --json get the line that script writes.
   waive      duty day text [until]         waive a duty, for good or up to a last day
   reopen     duty day text                 reopen a duty that is met or waived
   withdraw   release day text              withdraw a release
-  close      day                           end the waivers whose last day is before this one
+  close      day                           end the waivers whose last day is before this day
 
 An unknown word, or a key that is unknown, missing or given twice, or whose value is of the wrong
 kind, is an error of the command line, and no file is opened.",
@@ -64,7 +64,7 @@ columns and words; a file, a pipe and --json get the line that script writes.
   findings      document               where a document departs from the standard
   release       release                a release with its packages
   alternatives  document package       the sets of terms that satisfy a package's licence
-  cheapest      document package form  the set of them that owes the fewest duties
+  cheapest      document package form  the set that owes the fewest duties
   releases, documents, open            all releases, documents and open duties
   wanting       release                everything that prevents a freeze
   ready         release [day]          the duties that keep a frozen release from being ready
