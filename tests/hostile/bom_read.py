@@ -162,7 +162,7 @@ class Reader:
         for key in ("group", "bom-ref", "scope"):
             if has(value, key):
                 self.text(f"{at}/{key}", value[key])
-        self.out.parts.append("\n")
+        self.out.blank()
         self.out.put(f"{at}/name", "PackageName", full_name(value))
         self.out.put(at, "SPDXID", identifier(at, value))
         self.out.put(at, "PackageDownloadLocation", "NOASSERTION")
@@ -184,7 +184,7 @@ class Reader:
         return [full_name(value), joined(items, True), joined(items, False), *texts, has(value, "version"), owner if word(value, "scope") != "excluded" else None]
 
     def extracted(self, at, licence):
-        self.out.parts.append("\n")
+        self.out.blank()
         self.out.put(at, "LicenseID", reference(licence))
         self.out.put(f"{at}/text", "ExtractedText", content(licence), is_text=True)
 

@@ -1,4 +1,4 @@
-"""Source trees with notices behind comments, tags and REUSE.toml files: `desk credits` writes what a second reader of docs/CREDITS.md, over
+"""Source trees with notices in comments, in tags and in REUSE.toml files: `desk credits` writes what a second reader of docs/CREDITS.md, over
 Python's tomllib, finds in them, once as a table and once in its comments."""
 
 import os

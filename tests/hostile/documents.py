@@ -20,6 +20,8 @@ NAME, SIZE = "documents", 200
 MEETS, MET = set(second_lists.NAMES.values()), collections.Counter()
 # After this many inputs `desk import` gets the file too, including bytes that aren't text.
 ASKED = 50
+# So many findings are listed with their places.
+LISTED = 20
 HERE = os.path.join(running.TESTS, "documents")
 CONCLUSIONS = ["MIT", "MIT OR Zlib", "mit or Zlib", "LicenseRef-1", "LicenseRef-2 AND MIT", "NONE", "NOASSERTION", "MIT AND", "(MIT)", "DocumentRef-d:LicenseRef-1", " ", "a WITH b"]
 TYPES = ["DESCRIBES", "CONTAINS", "DEPENDS_ON", "STATIC_LINK", "DYNAMIC_LINK", "DESCRIBED_BY", "CONTAINED_BY", "DEPENDENCY_OF",
@@ -158,7 +160,23 @@ def is_licence(text, profile):
     return text.strip(" \t") not in ("", "NONE", "NOASSERTION") and second_judge.tree_of(text.encode(), profile) is not None
 
 
-def told_beside(document, profile):
+def elsewhere(document):
+    """The elements of other documents that a relationship ships with the document or with a package that ships."""
+    shipped, found = {second_judge.DOCUMENT, *document.shipped()}, set()
+    for left, kind, right in second_judge.sections_of(oracle.fields(document.data.decode()))[1]:
+        near, far = (left, right) if kind in second_judge.FORWARD else (right, left)
+        if kind in second_judge.FORWARD | second_judge.BACKWARD and near in shipped and far.startswith("DocumentRef-"):
+            found.add(far)
+    return found
+
+
+def told_places(rows, places):
+    """Where the findings of a document in JSON are in its file."""
+    lines = [f"{name} at {places[line - 1]}\n" for line, _, name in rows[:LISTED]]
+    return "".join(lines) + (f"and {len(rows) - LISTED} more\n" if len(rows) > LISTED else "")
+
+
+def told_beside(document, profile, places):
     """What `desk import` writes to standard error about a document that it imported."""
     packages = [fields for kind, _, fields in second_lists.Sections(document.data, profile).parts if kind == "package"]
     count, without, declared = 0, 0, 0
@@ -173,15 +191,19 @@ def told_beside(document, profile):
     kinds = collections.Counter((row[1], row[2]) for row in rows)
     found = "".join(f", {name}: {kinds[number, name]}" for number, name in sorted(kinds))
     told = f"packages: {len(packages)}, shipped: {count}, without a conclusion: {without}, of these with a declared licence: {declared}"
-    return f"read by profile {profile}: {told}\nfindings: {len(rows)}{found}\n".encode()
+    others = len(elsewhere(document))
+    if others:
+        told += f"\nelements of other documents that ship: {others} (import those documents too)"
+    listed = told_places(rows, places) if places else ""
+    return f"read by profile {profile}: {told}\nfindings: {len(rows)}{found}\n{listed}".encode()
 
 
 def from_a_file(program, data, profile):
     """What `desk import` says about a file, and that its desk is sound afterwards."""
     desk = second_desk.SecondDesk()
-    text, beside = json_read.taken(data)
+    text, beside, places = json_read.taken(data)
     wanted = desk.answer({"do": "import", "text": text, "profile": profile}) + b"\n"
-    beside += told_beside(desk.documents[0], profile) if desk.documents else b""
+    beside += told_beside(desk.documents[0], profile, places) if desk.documents else b""
     with tempfile.TemporaryDirectory(dir=running.ROOM) as room:
         file, path = os.path.join(room, "document"), os.path.join(room, "desk.db")
         with open(file, "wb") as out:

@@ -18,6 +18,8 @@ NAME, SIZE = "conversions", 100
 MEETS, MET = {"converted", "NotJson", "Missing", "BadType", "BadValue", "Differs"}, collections.Counter()
 # After this many inputs `desk import` gets the file too.
 ASKED = 10
+# The options with which each document is converted, and whether idle files are then left out.
+WAYS = [((), False), (("--no-files",), True)]
 TOOLS = sorted(glob.glob(os.path.join(running.TESTS, "convert/*.json")))
 # Those in CycloneDX form, of which there are more changed ones.
 BOMS = sorted(glob.glob(os.path.join(running.TESTS, "convert/pairs/*.cdx.json"))) + [os.path.join(running.TESTS, "convert/cyclonedx.json")] * 4
@@ -272,11 +274,12 @@ def inputs(seed, start):
 
 def differences(program, batch):
     for place, (data, profile) in enumerate(batch):
-        wanted = json_read.converted(data)
-        done = program.run("convert", "/dev/stdin", text=data)
-        MET[done.out.split()[1].decode() if done.out.startswith(b"fault: ") else "converted"] += 1
-        if (done.out, done.status, done.err) != wanted:
-            yield place, f"{data!r:.3000}: {done!r}, and not {wanted!r:.600}"
+        for options, brief in WAYS:
+            wanted = json_read.converted(data, brief)
+            done = program.run("convert", *options, "/dev/stdin", text=data)
+            MET[done.out.split()[1].decode() if done.out.startswith(b"fault: ") else "converted"] += 1
+            if (done.out, done.status, done.err) != wanted:
+                yield place, f"{data!r:.3000} {options}: {done!r}, and not {wanted!r:.600}"
         if place % ASKED == 0:
             words = documents.from_a_file(program, data, profile)
             if words:

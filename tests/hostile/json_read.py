@@ -14,7 +14,7 @@ JSON_BYTES = 64 << 20
 DEEPEST = 127
 MARK = b"\xef\xbb\xbf"
 DOCUMENT = "SPDXRef-DOCUMENT"
-ANNOTATIONS, EXTERNAL, DOCUMENTS, FIELDS = range(4)
+ANNOTATIONS, EXTERNAL, DOCUMENTS, FIELDS, FILES = range(5)
 # The members of an object in the order of their fields: how the value is written, and the tag, or what of it is counted. A member with an
 # exclamation mark is required; what is written in another place, or left out beside it, is in no row here.
 MEMBERS = {
@@ -46,6 +46,9 @@ ELSEWHERE = {
     "package": {"hasFiles"},
     "relationship": set(ENDS),
 }
+# The end of a relationship from which what ships leads on, and the one that is contained.
+LEADING = {"CONTAINS": 0, "DEPENDS_ON": 0, "STATIC_LINK": 0, "DYNAMIC_LINK": 0, "CONTAINED_BY": 2, "DEPENDENCY_OF": 2, "RUNTIME_DEPENDENCY_OF": 2}
+CONTAINED = {"CONTAINS": 2, "CONTAINED_BY": 0}
 NO_CODE = "packageVerificationCodeValue"
 EXCLUDED = "packageVerificationCodeExcludedFiles"
 
@@ -149,8 +152,8 @@ def is_in(value, key):
     return isinstance(value, dict) and key in value
 
 
-def lines_of(kind, value):
-    """What is read of an element, whether it has faults or not."""
+def lines_of(kind, value, idle=frozenset()):
+    """What is read of an element without idle files, whether it has faults or not."""
     lines = []
     for name, way, tag in MEMBERS[kind]:
         found = member(value, name.rstrip("!"))
@@ -167,7 +170,7 @@ def lines_of(kind, value):
             names = [name if isinstance(name, str) else "" for name in listed(member(found, EXCLUDED))]
             lines.append((tag, text_in(found, NO_CODE) + (f" (excludes: {', '.join(names)})" if names else "")))
     if kind == "package":
-        lines += [("CONTAINS", item) for item in listed(member(value, "hasFiles")) if isinstance(item, str) and is_word(item)]
+        lines += [("CONTAINS", item) for item in texts_in(value, "hasFiles") if is_word(item) and item not in idle]
     return lines
 
 
@@ -175,11 +178,41 @@ def listed(value):
     return value if isinstance(value, list) else []
 
 
-class Conversion:
-    """The text that a document in JSON is converted to, as far as it was read, and how much was left out."""
+def texts_in(value, key):
+    return [item for item in listed(member(value, key)) if isinstance(item, str)]
 
-    def __init__(self, data):
-        self.parts, self.left, self.seen = [], [0, 0, 0, 0], {}
+
+def ids_in(value, key, name="SPDXID"):
+    return {text_in(item, name) for item in listed(member(value, key))}
+
+
+def ends_of(value):
+    """The words of each relationship."""
+    return [[text_in(item, key) for key in ENDS] for item in listed(member(value, "relationships"))]
+
+
+def contained_in(value):
+    """What packages, or other elements, contain."""
+    named = {item for package in listed(member(value, "packages")) for item in texts_in(package, "hasFiles")}
+    return named | {ends[CONTAINED[ends[1]]] for ends in ends_of(value) if ends[1] in CONTAINED}
+
+
+def idle_in(value):
+    """The identifiers of the files without which nothing that ships changes (docs/DOCUMENTS.md, Files)."""
+    others = {"", DOCUMENT} | ids_in(value, "packages") | ids_in(value, "snippets") | ids_in(value, "hasExtractedLicensingInfos", "licenseId")
+    described = {end for left, kind, right in ends_of(value) if kind in ("DESCRIBES", "DESCRIBED_BY") for end in (left, right)}
+    leading = {ends[LEADING[ends[1]]] for ends in ends_of(value) if ends[1] in LEADING}
+    coded = any(is_in(package, "packageVerificationCode") for package in listed(member(value, "packages")))
+    needed = others | described | leading | set(texts_in(value, "documentDescribes")) | (contained_in(value) if coded else set())
+    return ids_in(value, "files") - needed
+
+
+class Conversion:
+    """The lines that a document in JSON is converted to, each with its place, as far as it was read, and how much was left out. Without idle
+    files if it is `brief`."""
+
+    def __init__(self, data, brief=False):
+        self.parts, self.left, self.seen, self.brief, self.idle = [], [0, 0, 0, 0, 0], {}, brief, frozenset()
         value, at = json_of(data), ""
         if text_in(value, "bomFormat") == "CycloneDX":
             # That reader takes its words from this one.
@@ -193,11 +226,15 @@ class Conversion:
 
     @property
     def text(self):
-        return "".join(self.parts).encode()
+        return "".join(text for _, text in self.parts).encode()
+
+    def places(self):
+        """The place of each line of the text."""
+        return [at for at, text in self.parts for _ in range(text.count("\n"))]
 
     def left_out(self):
         """What standard error says about what was left out."""
-        names = ("annotations", "external references", "references to documents", "other fields")
+        names = ("annotations", "external references", "references to documents", "other fields", *(["files"] if self.brief else []))
         return "left out: {}\n".format(", ".join(f"{count} {name}" for count, name in zip(self.left, names))).encode()
 
     # ---- values
@@ -206,7 +243,10 @@ class Conversion:
         line = field(tag, value, is_text)
         if not is_read(line, tag, value):
             raise Fault(f"BadValue at {at}")
-        self.parts.append(line)
+        self.parts.append((at, line))
+
+    def blank(self):
+        self.parts.append(("", "\n"))
 
     def text_at(self, at, value):
         if not isinstance(value, str):
@@ -283,7 +323,10 @@ class Conversion:
     def section(self, kind):
         """Adds an element, unless an earlier one has its identifier: that one must have the same lines."""
         def part(at, value):
-            identifier, lines = text_in(value, "licenseId" if kind == "extracted" else "SPDXID"), lines_of(kind, value)
+            identifier, lines = text_in(value, "licenseId" if kind == "extracted" else "SPDXID"), lines_of(kind, value, self.idle)
+            if identifier in self.idle:
+                self.left[FILES] += 1
+                return
             self.once(at, identifier, lines, lambda: self.element(at, value, kind))
 
         return part
@@ -298,10 +341,14 @@ class Conversion:
             self.parts = written
 
     def element(self, at, value, kind):
-        self.parts.append("\n")
+        self.blank()
         self.object(at, value, kind)
         if kind == "package":
-            self.parts_of(at, value, "hasFiles", lambda place, item: self.tie(place, text_in(value, "SPDXID"), "CONTAINS", item))
+            self.parts_of(at, value, "hasFiles", lambda place, item: self.contained(place, text_in(value, "SPDXID"), item))
+
+    def contained(self, at, package, item):
+        if not isinstance(item, str) or item not in self.idle:
+            self.tie(at, package, "CONTAINS", item)
 
     def tie(self, at, left, kind, right):
         """A relationship that isn't an item of `relationships`."""
@@ -310,16 +357,18 @@ class Conversion:
         self.put(at, "Relationship", f"{left} {kind} {right}")
 
     def relationship(self, at, value):
+        if {text_in(value, ENDS[0]), text_in(value, ENDS[2])} & self.idle:
+            return
         self.object(at, value, "relationship")
         self.put(at, "Relationship", " ".join([self.word_at(at, value, key) for key in ENDS]))
 
     def described(self, value):
         """What the relationships say that the document describes."""
-        listed = member(value, "relationships")
-        ends = [[text_in(item, key) for key in ENDS] for item in (listed if isinstance(listed, list) else [])]
-        return {right for left, kind, right in ends if (left, kind) == (DOCUMENT, "DESCRIBES")}
+        return {right for left, kind, right in ends_of(value) if (left, kind) == (DOCUMENT, "DESCRIBES")}
 
     def document(self, at, value):
+        if self.brief:
+            self.idle = frozenset(idle_in(value))
         self.object(at, value, "document")
         if is_in(value, "creationInfo"):
             self.object(f"{at}/creationInfo", value["creationInfo"], "creation")
@@ -334,21 +383,22 @@ class Conversion:
         self.parts_of(at, value, "relationships", self.relationship)
 
 
-def converted(data):
-    """What `desk convert` writes, its status, and its standard error."""
+def converted(data, brief=False):
+    """What `desk convert` writes, its status, and its standard error: without idle files if it is to be `brief`."""
     try:
-        conversion = Conversion(data)
+        conversion = Conversion(data, brief)
     except Fault as fault:
         return f"fault: {fault}\n".encode(), 1, looks_read.line(data)
     return conversion.text, 0, conversion.left_out()
 
 
-def taken(data):
-    """The bytes that `desk import` imports of a file, and what it first writes about them to standard error."""
+def taken(data, brief=False):
+    """The bytes that `desk import` imports of a file, what it first writes about them to standard error, and the place of each line of a document
+    in JSON."""
     if oracle.answer(data) == "document":
-        return data, b""
+        return data, b"", []
     try:
-        conversion = Conversion(data)
+        conversion = Conversion(data, brief)
     except Fault as fault:
-        return data, f"nor is it a document in JSON: {fault}\n".encode() + looks_read.line(data)
-    return conversion.text, conversion.left_out()
+        return data, f"nor is it a document in JSON: {fault}\n".encode() + looks_read.line(data), []
+    return conversion.text, conversion.left_out(), conversion.places()

@@ -1,4 +1,4 @@
-"""A second reader of what files look like: the line on standard error for one that is no document, from the table in docs/DOCUMENTS.md."""
+"""A second reader of what files look like: the line on standard error for one that isn't a document, from the table in docs/DOCUMENTS.md."""
 
 SEEN = 4_096
 JAVA = "Convert of SPDX's tools-java"

@@ -1,5 +1,5 @@
 """Notices, pages, tables and lists of files that generated sessions made, each compared with what the second desk writes (`second_views.py`):
-comma-separated values, and columns on a terminal. Names, titles and texts contain markup, formulas, and letters that a terminal obeys."""
+comma-separated values, and columns on a terminal. Names, titles and texts contain markup, formulas, and characters that a terminal obeys."""
 
 import json
 import os

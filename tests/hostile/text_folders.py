@@ -1,5 +1,5 @@
-"""Folders with the texts of licences, some of them no texts: `desk texts` writes what a second reader of docs/FILLS.md, over Python's tomllib,
-finds in them, and says which files it leaves out."""
+"""Folders with the texts of licences, and with files that aren't such texts: `desk texts` writes what a second reader of docs/FILLS.md,
+over Python's tomllib, finds in them, and says which files it leaves out."""
 
 import os
 import random
