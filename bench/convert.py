@@ -1,9 +1,9 @@
 """Times documents in JSON: python3 bench/convert.py PROGRAM FOLDER
 
-Four documents: 9,900 packages; 10,000 files with 40,000 relationships; one that is left out almost entirely; and 9,900 components of CycloneDX. For each, the whole process
-of `desk convert`, with its peak as a multiple of the document's bytes, compared with Python's json on the same text; and `desk import` into a
-new file in shared memory, compared with an import of the tag-value document that it converts to. Each time is the least of several runs, which
-alternate.
+Four documents: 9,900 packages; 10,000 files with 40,000 relationships; one that is left out almost entirely; and 9,900 components of
+CycloneDX. For each, the whole process of `desk convert`, with its peak as a multiple of the document's bytes, compared with Python's json on
+the same text; and `desk import` into a new file in shared memory, compared with an import of the tag-value document that it converts to.
+Each time is the least of several runs, which alternate.
 """
 
 import json

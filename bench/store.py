@@ -1,9 +1,10 @@
 """Times a desk in a file, compared with SQLite's own library: python3 bench/store.py PROGRAM ALONE
 
 The library writes and reads the same rows (bench/beside.c), by the same tables, with a log as the journal and each commit flushed; so does
-ALONE (bench/programs/sqlite), by the toolchain's sqlite with no desk, which is the least that a desk can take. Each time is the least of three runs, on a file in shared memory and on a file on the disk. Commands on the disk are timed in pairs too, a desk's
-and then the library's, and the middle and the quartiles of both are printed, with those of a flush alone. It needs a C compiler and
-SQLite's library with its header.
+ALONE (bench/programs/sqlite), by the toolchain's sqlite with no desk, which is the least that a desk can take. Each time is the least of three
+runs, on a file in shared memory and on a file on the disk. Commands on the disk are also timed in pairs, a desk's and then the library's,
+and the median and the quartiles of both are printed, with those of a flush alone. It needs a C compiler and SQLite's library with its
+header.
 """
 
 import os

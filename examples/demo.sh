@@ -149,7 +149,7 @@ fi
 if [ -n "$desk" ]; then
     echo
     echo "This repository itself, in a copy of what git tracks: what is wrong in it by the desk's rules, and the SPDX document that is"
-    echo 'gathered of it, imported and asked for findings.'
+    echo 'gathered from it, imported and asked for findings.'
     echo
     echo '$ tests/lint.sh desk    # desk lint, desk gather, desk import and desk script'
     sh "$here/../tests/lint.sh" "$desk"

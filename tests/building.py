@@ -1,9 +1,9 @@
 """Runs the licence step of a build on releases: python3 tests/building.py PROGRAM
 
-examples/build/licences.sh freezes a release and fails while a duty is open or a waiver is over; once it is met, it ends well, and has
-written what the desk writes. It fails before a freeze while a conclusion is missing, and goes on once the proposed one is recorded, also if
-it stopped behind the opening. It fails with another document than the release has, and for one that was withdrawn. A tree without a
-document is gathered. The workflows run the script on names that it knows. Ends with the line 'N passed, M failed'.
+examples/build/licences.sh freezes a release, and fails as long as a duty is open or a waiver has ended. Once the duty is met, it succeeds,
+and has written what the desk writes. It fails before a freeze if a conclusion is missing, and continues once the proposed one is recorded,
+also if it stopped after it had opened the release. It fails with a document other than the release's, and for a release that was withdrawn.
+If a tree has no document, it is gathered. The workflows run the script on names that it knows. Ends with the line 'N passed, M failed'.
 """
 
 import os

@@ -18,8 +18,8 @@ current files, and one on it must not.
 An edit counts as tried only if the prover refused a goal. One that was stopped by the types, the borrow checker or a limit of the prover,
 or that only removed a name that a proof cites, says nothing about a contract, and is reported as such.
 
-Edits that each change the body of one function are first tried many in one check (`together.py` says why the result is the same). What such
-a check doesn't settle is tried separately, by `rt must-fail`."""
+Edits that each change the body of one function are first tried together, many in one check (`together.py` says why the result is the
+same). What such a check doesn't settle is tried separately, by `rt must-fail`."""
 import hashlib
 import os
 import re

@@ -3,8 +3,8 @@
 manual/manual.sh makes them from the program, and again from a small program whose help has each character that a file must quote. Here the
 help is read by a second reader. The page and each completion must have each subcommand and each option with its words, and no others; what the
 page says about a subcommand must be its help, word for word. If a shell is installed, it reads its file; bash and fish also print the
-completions that they offer. After do and ask bash offers each request, the keys that it still lacks, and the
-releases of an existing desk.
+completions that they offer. After `do` and `ask`, bash offers each request, the keys that it still lacks, and the releases of an existing
+desk.
 """
 
 import os

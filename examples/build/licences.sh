@@ -1,7 +1,7 @@
 #!/bin/sh
 # The licence step of a release's build: what ships is recorded in a desk, the release is frozen, and its notices are written. It fails
-# while something is missing, and after a freeze while a duty is open or a waiver is over. Run it again once that is done: it continues where
-# it stopped, with the same document.
+# if something is missing, and after a freeze if a duty is open or a waiver has ended. Run it again once that is done: it continues where it
+# stopped, with the same document.
 #
 #   RELEASE=kettle-1.0 sh licences.sh
 #
@@ -10,8 +10,8 @@
 #   DATABASE   the file of the desk, which outlives the build (../desk.db)
 #   CATALOGUE  the catalogue of duties, for a new desk (catalogue.toml)
 #   DOCUMENT   the SPDX document that a tool made; without it the folder where this runs is gathered
-#   NAMESPACE  the namespace of a gathered document, which no other has
-#   CREATED    when that is made; the same each time this runs for the release
+#   NAMESPACE  the namespace of a gathered document, which no other document has
+#   CREATED    the time of that document; the same each time this runs for the release
 #   OUTPUT     the folder for what is written: NOTICES, duties.csv, proposed.jsonl, wanting.jsonl (../licences)
 #   DESK       the program (desk)
 #

@@ -5,7 +5,7 @@
 --   sqlite3 -bail -cmd "ATTACH 'old.db' AS old" new.db <restore.sql
 --   desk audit --db new.db
 --
--- Of a file of version 2 there is no `waiver`: leave that statement out. Of version 1 there is no `reading` either: take
+-- A file of version 2 has no `waiver`: leave that statement out. One of version 1 has no `reading` either: use
 -- `SELECT number, 1 FROM old.document` in its place.
 --
 -- If a row can't be in a desk's table, or new.db isn't empty, it ends with an error and copies nothing.

@@ -5,10 +5,10 @@ JSON those of tests/convert. Each allocation of a run is refused once: the progr
 without that memory. A run over a file isn't forked; it is repeated for each N with its Nth allocation refused, until it makes fewer. Then
 
 - a check or a listing prints its answer with its status, or nothing with status 3 and its message;
-- a text from a desk in a file (notices, the table of duties, totals, changes, a page, a list, what is wanting, what keeps a release from
-  being ready, what notices lack, choices, proposals) is written fully, or not at all with status 3 and its message; or the reply is {"fault":"memory"};
-- an import of a document in JSON replies that the document is new, or in one of those ways; and repeating it replies that the document had
-  been imported if the first reply was so, and otherwise that or new;
+- a text from a desk in a file (notices, the table of duties, totals, changes, a page, a list, what prevents a freeze, what keeps a
+  release from being ready, what notices lack, choices, proposals) is written fully, or not at all with status 3 and its message; or the reply is {"fault":"memory"};
+- an import of a document in JSON replies that the document is new, or in one of those ways; repeated, it replies that the document had been
+  imported if the first reply was so, and otherwise that or new;
 - an audit and a migration of a file, after its opening and once during it, print their answer, or nothing but their message; the file is
   unchanged or, migrated, has all rows of a migration;
 - a script over a file does so too, and may fail to open or to close it, with its message;

@@ -37,5 +37,6 @@ if [ "${1:-try}" = proved ]; then
     mkdir -p "$top/build"
     cp "out/${crate}_tests" "$top/build/unit_tests"
 else
-    rt try --test
+    # Two tests read a million times, which takes more than the usual minute where much else runs.
+    rt try --test --seconds 300
 fi
